@@ -1,14 +1,13 @@
 -- What a unit adds to the exact value: the greater of its exact value and of what it adds where ramps are priced.
-use Rattle.std.proofs.Common.{◌≡◌, ℕ, ◌<◌, ⊎_elim, inl, inr, Bool, true, false, refl, sym, ap, subst, ◌∙◌, arith, ℤ, pos, ◌+ℤ◌, ◌≤ℤ◌, int_lt, if◌then◌else◌}
+use Rattle.std.proofs.Common.{◌≡◌, ℕ, ◌<◌, ⊎_elim, inl, inr, Bool, true, false, refl, sym, ap, subst, ◌∙◌, arith, ℤ, pos, ◌≤ℤ◌, int_lt, if◌then◌else◌}
 use Rattle.std.specs.Int.{int_max}
 use Rattle.std.proofs.lemmas.Int.{ints, clamps}
-use Rattle.std.proofs.lemmas.Bool.{cases_Bool}
 use Rattle.uc_model.specs.Limits.{IsLawfulInstance}
 use Rattle.uc_model.specs.PatternBits.{commitment_of}
-use Rattle.uc_model.specs.Schedule.{thermal_count, thermal_unit}
+use Rattle.uc_model.specs.Schedule.{thermal_count}
 use Rattle.uc_model.specs.declared.pattern.Pattern.{Pattern}
 use Rattle.uc_model.proofs.Ring.{linear, one-mul}
-use Rattle.dual_model.specs.ExactValue.{HasNoUnitSchedule, IsExactUnitValue, exact_part, unit_schedule_value}
+use Rattle.dual_model.specs.ExactValue.{HasNoUnitSchedule, IsExactUnitValue}
 use Rattle.dual_model.specs.Fixings.{IsPatternAt}
 use Rattle.dual_model.specs.NodeValue.{constant_at, unit_part}
 use Rattle.dual_model.specs.UnitValue.{IsBestPattern}

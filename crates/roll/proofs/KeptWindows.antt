@@ -5,8 +5,8 @@ use Rattle.uc_model.specs.Commitment.{stop_reduction}
 use Rattle.uc_model.specs.Schedule.{thermal_unit, thermal_count, renewable_count}
 use Rattle.uc_model.specs.PrintedSchedule.{cell_at, shed_at, short_at}
 use Rattle.schedule_check.specs.SizedNumbers.{output_at}
-use Rattle.schedule_check.specs.WholeWatts.{cell, commitment, row_of}
-use Rattle.roll.specs.Left.{Instance, Thermal, Cell, Printed, CarriedUnit, HasLasted, IsLeft, IsLeftBy, time_on_so_far}
+use Rattle.schedule_check.specs.WholeWatts.{cell, row_of}
+use Rattle.roll.specs.Left.{Instance, Thermal, Cell, Printed, CarriedUnit, IsLeftBy, time_on_so_far}
 use Rattle.roll.specs.NextWindow.{IsNextWindow}
 use Rattle.roll.specs.Kept.{IsKept}
 use Rattle.roll.specs.Stitched.{IsStitched, SameDispatch}

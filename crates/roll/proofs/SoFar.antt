@@ -1,12 +1,12 @@
 -- How a roll goes on: from what is rolled so far, by the place of the next window and what its search finds.
-use Rattle.std.proofs.Common.{◌≡◌, ℕ, suc, ◌+◌, ◌-◌, ◌*◌, ◌<◌, ◌≤◌, ⊎_elim, min, refl, sym, ap, subst, ◌∙◌, arith, ℤ, Some, None}
+use Rattle.std.proofs.Common.{◌≡◌, ℕ, suc, ◌+◌, ◌-◌, ◌<◌, ◌≤◌, ⊎_elim, refl, sym, subst, ◌∙◌, arith, ℤ, Some, None}
 use Rattle.std.proofs.lemmas.Bool.{cases_lt}
 use Rattle.uc_model.specs.Limits.{IsLawfulInstance}
 use Rattle.schedule_check.specs.Accepted.{IsAccepted}
 use Rattle.roll.specs.Kept.{IsKept}
 use Rattle.roll.specs.NextWindow.{IsNextWindow}
 use Rattle.roll.specs.Stitched.{IsContinuation, IsStitched}
-use Rattle.roll.specs.Rolling.{Found, Instance, Place, Printed, AreAllRolled, AreBefore, AreRolled, IsNextPlace, IsRolledSoFar, IsRolledWindow, IsStoppedRoll, IsWholeRoll, HasLeastCategories, pace, periods_before}
+use Rattle.roll.specs.Rolling.{Found, Instance, Place, Printed, AreAllRolled, AreRolled, IsNextPlace, IsRolledSoFar, IsRolledWindow, IsStoppedRoll, IsWholeRoll, HasLeastCategories, pace, periods_before}
 use Rattle.roll.proofs.KeptWindows.{AreSame, next_again, shown_again, stitched_same, stitched_shown}
 
 -- ---- the place

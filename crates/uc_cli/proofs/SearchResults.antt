@@ -1,5 +1,5 @@
 -- What a search answers claims truly, and its certificate has a text.
-use Rattle.std.proofs.Common.{◌≡◌, ◌^◌, ◌+◌, ◌-◌, ◌<◌, ◌≤◌, ℕ, Bool, false, arith, length, subst, Option, Some, None, ℤ, unsigned_abs, IfSome}
+use Rattle.std.proofs.Common.{◌≡◌, ◌^◌, ◌-◌, ◌<◌, ◌≤◌, ℕ, Bool, false, arith, length, subst, Option, Some, None, ℤ, unsigned_abs, IfSome}
 use Rattle.std.proofs.lemmas.List.Elements.{All-weaker}
 use Rattle.uc_model.specs.Limits.{IsLawfulInstance}
 use Rattle.dual_model.specs.declared.table.Table.{Table}

@@ -1,5 +1,5 @@
 -- What no run whose last hour is in a period costs less than.
-use Rattle.std.proofs.Common.{◌≡◌, ℕ, suc, ◌-◌, ◌≤◌, ◌==◌, Bool, true, false, refl, sym, ap, ◌∙◌, arith, ℤ, pos, ◌+ℤ◌, ◌-ℤ◌, ◌*ℤ◌, ◌≤ℤ◌, neg_ℤ, int_le, nat_lt, Option, Some, None, if◌then◌else◌}
+use Rattle.std.proofs.Common.{◌≡◌, ℕ, suc, ◌-◌, ◌≤◌, ◌==◌, Bool, true, false, refl, ap, ◌∙◌, arith, ℤ, pos, ◌+ℤ◌, ◌-ℤ◌, ◌*ℤ◌, ◌≤ℤ◌, neg_ℤ, int_le, nat_lt, Option, Some, if◌then◌else◌}
 use Rattle.std.specs.Int.{int_min}
 use Rattle.std.proofs.lemmas.Bool.{and_parts}
 use Rattle.uc_model.proofs.Ring.{linear, mul-le-mul_left}
@@ -9,7 +9,7 @@ use Rattle.dual_model.specs.ExactValue.{greatest_output}
 use Rattle.dual_model.specs.UnitTerms.{cell_cap}
 use Rattle.dual_model.proofs.Optimum.{total_of-parts}
 use Rattle.step_functions.specs.Functions.{Steps, IsPlace, value_at}
-use Rattle.unit_runs.specs.CostThrough.{cost_through, hour_after, is_output, least_between, output_cost, reserve_cost, reserve_worth, run_cost}
+use Rattle.unit_runs.specs.CostThrough.{cost_through, hour_after, is_output, least_between, output_cost, reserve_cost, run_cost}
 use Rattle.unit_runs.proofs.Costs.{least_between-reached}
 use Rattle.unit_exact.specs.inside.OutputCosts.{Hour, IsCostsOf, IsHourAt, IsHull, IsSizedHour, least_ending}
 use Rattle.unit_exact.specs.inside.Problems.{Table, Thermal}

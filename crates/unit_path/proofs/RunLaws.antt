@@ -1,5 +1,5 @@
 -- A run of on hours on the least way: how it splits, and that until it may end it has to go on.
-use Rattle.std.proofs.Common.{◌≡◌, ℕ, zero, suc, ◌+◌, ◌-◌, ◌*◌, ◌<◌, ◌≤◌, Bool, true, false, ◌&&◌, cond, refl, sym, ap, subst, ◌∙◌, lit<, arith, ℤ, pos, ◌+ℤ◌, to_z, of_z, FitsSigned, Some, None, ◌==◌, nat_lt, unsigned_abs}
+use Rattle.std.proofs.Common.{◌≡◌, ℕ, zero, suc, ◌+◌, ◌-◌, ◌*◌, ◌<◌, ◌≤◌, Bool, true, false, ◌&&◌, cond, sym, ap, subst, ◌∙◌, lit<, arith, ℤ, pos, ◌+ℤ◌, to_z, of_z, FitsSigned, Some, None, ◌==◌, nat_lt, unsigned_abs}
 use mathlib.Core.Bool.{and-true, and-false}
 use Rattle.std.specs.Int.{w128}
 use Rattle.std.proofs.lemmas.Int.{fits_signed_from_abs}

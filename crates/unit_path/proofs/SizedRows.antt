@@ -1,5 +1,5 @@
 -- Terms that are sized for a unit are rows of terms, with one at the full cap.
-use Rattle.std.proofs.Common.{ℕ, ◌≤◌, false, refl, arith, ℤ, pos, ◌-ℤ◌, ◌*ℤ◌, ◌≤ℤ◌, Option, Some, None, IfSome, unsigned_abs}
+use Rattle.std.proofs.Common.{ℕ, ◌≤◌, false, arith, ℤ, pos, ◌-ℤ◌, ◌*ℤ◌, ◌≤ℤ◌, Option, Some, None, IfSome, unsigned_abs}
 use Rattle.uc_model.specs.Commitment.{start_reduction, stop_reduction}
 use Rattle.uc_model.specs.Limits.{IsLawfulThermal}
 use Rattle.uc_model.specs.declared.instance.Thermal.{Thermal}

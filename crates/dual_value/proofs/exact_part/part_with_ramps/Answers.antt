@@ -1,12 +1,12 @@
 -- The greater of both, or what is added where ramps are priced where a schedule shows that the exact value is no greater.
-use Rattle.std.proofs.Common.{◌≡◌, ◌*◌, ◌^◌, ◌<◌, ◌≤◌, lit<, refl, true, sym, ap, subst, ◌∙◌, arith, ℤ, pos, ◌+ℤ◌, ◌≤ℤ◌, int_lt, to_z, of_z, unsigned_abs, if◌then◌else◌}
+use Rattle.std.proofs.Common.{◌≡◌, ◌<◌, ◌≤◌, lit<, refl, true, ap, ◌∙◌, arith, ℤ, pos, ◌+ℤ◌, ◌≤ℤ◌, int_lt, to_z, of_z, unsigned_abs, if◌then◌else◌}
 use Rattle.std.specs.Int.{w128}
 use Rattle.std.specs.Int.Signed.{le_z}
 use Rattle.std.proofs.lemmas.Int.{ints}
 use Rattle.uc_model.proofs.Sizes.{wide}
 use Rattle.ramp_duals.specs.Sizes.{MAX_CONSTANT}
 use Rattle.unit_exact.specs.Sizes.{MAX_EXACT}
-use Rattle.dual_value.specs.NodeAnswer.{IsAttained, IsExactPartOf, MAX_PART}
+use Rattle.dual_value.specs.NodeAnswer.{MAX_PART}
 use Rattle.dual_value.proofs.ExactParts.{part-greater, part-within}
 use Rattle.dual_value.proofs.exact_part.part_with_ramps.Goals as goal
 

@@ -1,5 +1,5 @@
 -- The unit's new part in place of the old one, or that the unit has no pattern.
-use Rattle.std.proofs.Common.{◌≡◌, ◌+◌, false, true≢false, length, sym, ap, subst, ◌∙◌, lit<, arith, ◌+ℤ◌, to_z, of_z, slice_index_or, slice_set}
+use Rattle.std.proofs.Common.{◌+◌, false, true≢false, length, sym, ap, subst, ◌∙◌, lit<, arith, ◌+ℤ◌, to_z, of_z, slice_set}
 use Rattle.std.specs.Int.{w128}
 use Rattle.uc_model.specs.Schedule.{thermal_count}
 use Rattle.uc_model.proofs.Sizes.{sum-size, wide, wide-size}

@@ -1,7 +1,7 @@
 -- The kind of value is that of the room.
-use Rattle.std.proofs.Common.{◌≡◌, true, false, true≢false, IfOk, IfErr, sym, subst, ◌∙◌}
+use Rattle.std.proofs.Common.{true, false, true≢false, IfOk, IfErr, sym, subst, ◌∙◌}
 use Rattle.dual_value.specs.NodeAnswer.{IsFaultOfKind, IsValuedOf}
-use Rattle.dual_value.specs.Rooms.{IsRoomFor, keeps_ramps}
+use Rattle.dual_value.specs.Rooms.{IsRoomFor}
 use Rattle.dual_value.proofs.node_value.value_in.Goals as goal
 
 pub valued-requires-clause-signs : goal.valued-requires-clause-signs

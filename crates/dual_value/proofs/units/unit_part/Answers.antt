@@ -1,6 +1,5 @@
 -- The unit's value with its constant, or the greater of that and its exact value, or that it is blocked.
-use Rattle.std.proofs.Common.{◌≡◌, ℕ, ◌<◌, ◌≤◌, lit<, Bool, true, false, refl, sym, ap, subst, ◌∙◌, arith, ℤ, ◌+ℤ◌, List, [], length, Option, Some, None, IfSome, IfOk, IfErr, Result, slice_index_or, to_z, of_z}
-use Rattle.std.specs.Int.{w128}
+use Rattle.std.proofs.Common.{◌≡◌, ℕ, ◌<◌, lit<, Bool, true, false, refl, sym, ap, subst, ◌∙◌, arith, ℤ, ◌+ℤ◌, List, [], length, Option, IfSome, IfOk, IfErr, slice_index_or}
 use Rattle.std.specs.Option.{is_some}
 use Rattle.std.proofs.lemmas.List.{get_or_read}
 use Rattle.std.proofs.lemmas.List.Elements.{All-weaker}
@@ -9,14 +8,12 @@ use Rattle.uc_model.specs.PatternBits.{commitment_of}
 use Rattle.uc_model.specs.Schedule.{thermal_count, thermal_unit}
 use Rattle.uc_model.specs.declared.instance.Thermal.{Thermal}
 use Rattle.uc_model.specs.declared.pattern.Pattern.{Pattern}
-use Rattle.uc_model.proofs.Sizes.{sum-fits, sum-is, sum-size, wide, wide-size}
+use Rattle.uc_model.proofs.Sizes.{wide, wide-size}
 use Rattle.cost_curves.specs.LowerHull.{IsLowerHull}
 use Rattle.cost_curves.specs.UnitCurves.{curve_in}
 use Rattle.dual_model.specs.CostToGo.{MAX_COST_TO_GO}
-use Rattle.dual_model.specs.Fixings.{HasNoPattern, IsCell, IsFixOf, IsNodeOf}
-use Rattle.dual_model.specs.NodeValue.{constant_at, unit_constant}
-use Rattle.dual_model.specs.Prices.{IsLawfulTable}
-use Rattle.dual_model.specs.TableValue.{AreTermsOf}
+use Rattle.dual_model.specs.Fixings.{HasNoPattern, IsCell, IsNodeOf}
+use Rattle.dual_model.specs.NodeValue.{unit_constant}
 use Rattle.dual_model.specs.UnitValue.{IsBestPattern}
 use Rattle.dual_model.specs.ValueKind.{IsBlocked}
 use Rattle.dual_model.specs.declared.table.Table.{Table}
@@ -24,7 +21,7 @@ use Rattle.ramp_duals.specs.Sizes.{MAX_CONSTANT}
 use Rattle.unit_exact.proofs.Found.{unit-read}
 use Rattle.dual_value.specs.NodeAnswer.{Instance, IsPartFault, IsPartOfKind, MAX_PART}
 use Rattle.dual_value.specs.Rooms.{IsSizeOf, RoomOf, Size, keeps_ramps}
-use Rattle.dual_value.specs.inside.Fixes.{AreBelow, Contradicts, Fix, Fixing, Node}
+use Rattle.dual_value.specs.inside.Fixes.{AreBelow, Fixing, Node}
 use Rattle.dual_value.proofs.Parts.{fix-decided, none-decided, part-of}
 use Rattle.dual_value.proofs.units.unit_part.Goals as goal
 

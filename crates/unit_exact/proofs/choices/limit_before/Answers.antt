@@ -1,6 +1,5 @@
 -- The best known less what follows.
-use Rattle.std.proofs.Common.{◌≡◌, ◌≤◌, ap, subst, ◌∙◌, arith, ℤ, ◌-ℤ◌, unsigned_abs, Option, Some, IfSome, to_z, of_z}
-use Rattle.std.specs.Int.{w128}
+use Rattle.std.proofs.Common.{◌≡◌, ◌≤◌, ap, subst, arith, ℤ, ◌-ℤ◌, unsigned_abs, Option, Some, IfSome}
 use Rattle.std.proofs.lemmas.Int.{ints}
 use Rattle.uc_model.proofs.Ring.{linear}
 use Rattle.dual_model.specs.CostToGo.{total_of}

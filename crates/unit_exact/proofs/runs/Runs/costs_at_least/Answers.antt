@@ -1,5 +1,5 @@
 -- No hours before, or the bound of the run.
-use Rattle.std.proofs.Common.{◌≡◌, ◌-◌, suc, ◌==◌, true, false, refl, sym, subst, ◌∙◌, arith, rules, ℤ, ◌≤ℤ◌, to_z, of_z, FitsSigned}
+use Rattle.std.proofs.Common.{◌≡◌, ◌-◌, suc, ◌==◌, true, refl, sym, subst, ◌∙◌, arith, rules, ℤ, ◌≤ℤ◌, to_z, of_z}
 use mir.Val.{SFits}
 use Rattle.std.specs.Int.{w128}
 use Rattle.std.specs.Int.Signed.{le_z}
