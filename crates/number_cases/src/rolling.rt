@@ -8,7 +8,7 @@ ghost use Rattle.roll.specs.Stitched.{IsContinuation};
 
 use crate::Answer;
 use crate::commitment::patterns;
-use crate::dispatch::{put_schedule, stuck_text};
+use crate::dispatch::{no_commitment, put_schedule, stuck_text};
 use dispatch_repair::{DispatchFault, dispatch};
 use roll::{Carried, begin, carry, stitch, whole_cost, window};
 use std::alloc::{AllocError, Global};
@@ -35,7 +35,7 @@ pub(crate) fn tell_roll(alloc: Global, instance: &Instance, words: &str) -> Answ
     };
     let patterns = patterns(alloc, bits)?;
     if patterns.len() != instance.thermal.as_slice().len() {
-        return Ok(String::from_str(alloc, "a pattern for each unit\n")?);
+        return no_commitment(alloc);
     }
     let mut text = String::new(alloc);
     match rolled(alloc, instance, &patterns, pace, &mut text) {
