@@ -169,7 +169,7 @@ impl<C: Case> Book<C> {
     pub fn fresh(&self, node: u32, table: &Table, exact: bool) -> bool
         ensures { IsTrue result ↔ IsFresh (state_of self.now) (entries_of self.now.log node) table.now exact }
     {
-        self.log.is_above(node, &table.k())
+        self.log.is_above(node, table.k())
             || self
                 .log
                 .is_fresh(self.tables.as_slice(), node, table, exact)
@@ -248,7 +248,7 @@ impl<C: Case> Book<C> {
             exact,
             outcome: *outcome,
         };
-        self.log.push(entry, &scale);
+        self.log.push(entry, scale);
         self.claims
             .end(worker, unit, number, Status::Committed(*action));
     }
@@ -429,10 +429,10 @@ impl<C: Case> Book<C> {
     }
 
     // Whether the bound that the node would store is within the gap of the cost, in micro-dollars.
-    fn may_prune(&self, stored: &Stored, seen: &i64) -> bool
-        ensures { IsTrue result ↔ MayPrune (λ cost. Unit {0}) self.now.gap stored.now seen.now }
+    fn may_prune(&self, stored: &Stored, seen: i64) -> bool
+        ensures { IsTrue result ↔ MayPrune (λ cost. Unit {0}) self.now.gap stored.now seen }
     {
-        is_within_gap(seen, &Some(stored.value), self.gap)
+        is_within_gap(&seen, &Some(stored.value), self.gap)
     }
 
     // Whether the move's condition holds.
@@ -453,7 +453,7 @@ impl<C: Case> Book<C> {
             Move::Split { g, t } => legal::is_value(outcome) && self.tree.is_free(number, *g, *t),
             Move::Prune { seen } => {
                 legal::is_value(outcome)
-                    && self.may_prune(&self.kept(number, table, exact, outcome), seen)
+                    && self.may_prune(&self.kept(number, table, exact, outcome), *seen)
             }
             Move::Ray => legal::is_excluding(table, outcome),
             Move::Empty => legal::is_empty(outcome),

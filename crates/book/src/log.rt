@@ -100,22 +100,22 @@ impl Log {
     }
 
     /// Whether the scale is above those of the tables of the node's entries.
-    pub(crate) fn is_above(&self, node: u32, scale: &i64) -> bool
-        ensures { IsTrue result → slice_index_or self.now.greatest node (pos 0) <ℤ scale.now }
+    pub(crate) fn is_above(&self, node: u32, scale: i64) -> bool
+        ensures { IsTrue result → slice_index_or self.now.greatest node (pos 0) <ℤ scale }
     {
         match self.greatest.get(node as usize) {
-            Some(greatest) => *scale > *greatest,
+            Some(greatest) => scale > *greatest,
             None => false,
         }
     }
 
     /// Puts an entry behind the others, whose table has this scale.
-    pub(crate) fn push(&mut self, entry: Entry, scale: &i64)
+    pub(crate) fn push(&mut self, entry: Entry, scale: i64)
         requires room { length self.old.entries < self.old.room }
         requires node { entry.node < self.old.nodes }
         ensures { self.new ≡ record self.old {
           entries = self.old.entries ++ entry ∷ [];
-          greatest = raised self.old.greatest entry.node scale.now;
+          greatest = raised self.old.greatest entry.node scale;
         } }
     {
         let node = entry.node as usize;
@@ -123,7 +123,7 @@ impl Log {
         self.entries.push_reserved(entry);
         self.newest[node] = self.entries.len() as u32;
         self.counts[node] += 1;
-        self.greatest[node] = self.greatest[node].max(*scale);
+        self.greatest[node] = self.greatest[node].max(scale);
     }
 
     /// The entries by themselves.

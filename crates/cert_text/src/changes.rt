@@ -18,19 +18,19 @@ use table_list::{Change, Prices, pass};
 // ---- prices
 
 // A line of one price, after its first word; its period counts from 1 in the text.
-fn put_price<O: Out>(out: &mut O, first: &[u8], t: usize, price: &i64)
-    ensures { O.emits (line first.now (whole_text (suc t) ∷ signed_text price.now ∷ [])) out.old out.new }
+fn put_price<O: Out>(out: &mut O, first: &[u8], t: usize, price: i64)
+    ensures { O.emits (line first.now (whole_text (suc t) ∷ signed_text price ∷ [])) out.old out.new }
 {
     out.put(first);
     out.put(b" ");
     put_place(out, t);
     out.put(b" ");
-    put_signed(out, price);
+    put_signed(out, &price);
     out.put(b"\n");
 }
 
-fn put_new_price<O: Out>(out: &mut O, prices: Prices, t: usize, price: &i64)
-    ensures { O.emits (change_line (price_change prices t price.now)) out.old out.new }
+fn put_new_price<O: Out>(out: &mut O, prices: Prices, t: usize, price: i64)
+    ensures { O.emits (change_line (price_change prices t price)) out.old out.new }
 {
     match prices {
         Prices::Demand => put_price(out, b"p", t, price),
@@ -39,10 +39,10 @@ fn put_new_price<O: Out>(out: &mut O, prices: Prices, t: usize, price: &i64)
 }
 
 // The price in period t, where it is another than before.
-fn put_price_change<O: Out>(out: &mut O, prices: Prices, t: usize, old: &i64, new: &i64)
-    ensures { O.emits (price_part (price_change prices) t old.now new.now) out.old out.new }
+fn put_price_change<O: Out>(out: &mut O, prices: Prices, t: usize, old: i64, new: i64)
+    ensures { O.emits (price_part (price_change prices) t old new) out.old out.new }
 {
-    if *old != *new {
+    if old != new {
         put_new_price(out, prices, t, new);
     }
 }
@@ -52,16 +52,16 @@ fn put_price_changes<O: Out>(out: &mut O, prices: Prices, olds: &[i64], news: &[
     ensures { O.emits (flat_map change_line (price_changes (price_change prices) 0 olds.now news.now)) out.old out.new }
 {
     for t in 0..olds.len().min(news.len()) {
-        put_price_change(out, prices, t, &olds[t], &news[t]);
+        put_price_change(out, prices, t, olds[t], news[t]);
     }
 }
 
 // How many lines tell a price.
-fn told_count(old: &i64, new: &i64) -> u64
-    ensures count { result ≡ told_count old.now new.now }
+fn told_count(old: i64, new: i64) -> u64
+    ensures count { result ≡ told_count old new }
     ensures few { result ≤ 1 }
 {
-    if *old == *new { 0 } else { 1 }
+    if old == new { 0 } else { 1 }
 }
 
 // How many prices are others than before.
@@ -71,7 +71,7 @@ fn price_change_count(olds: &[i64], news: &[i64]) -> u64
 {
     let mut count = 0;
     for t in 0..olds.len().min(news.len()) {
-        count += told_count(&olds[t], &news[t]);
+        count += told_count(olds[t], news[t]);
     }
     count
 }
@@ -139,11 +139,11 @@ fn change_count(before: &Table, table: &Table) -> u64
 }
 
 // The scale, and how many changes follow.
-fn put_next_line<O: Out>(out: &mut O, k: &i64, changes: u64)
-    ensures { O.emits (next_line k.now changes) out.old out.new }
+fn put_next_line<O: Out>(out: &mut O, k: i64, changes: u64)
+    ensures { O.emits (next_line k changes) out.old out.new }
 {
     out.put(b"next ");
-    put_signed(out, k);
+    put_signed(out, &k);
     put_count(out, b" ", changes);
     out.put(b"\n");
 }
@@ -152,7 +152,7 @@ fn put_next_line<O: Out>(out: &mut O, k: &i64, changes: u64)
 pub(crate) fn put_next<O: Out>(out: &mut O, before: &Table, table: &Table)
     ensures { O.emits (next_part before.now table.now) out.old out.new }
 {
-    put_next_line(out, &table.k(), change_count(before, table));
+    put_next_line(out, table.k(), change_count(before, table));
     put_price_changes(out, Prices::Demand, before.pi(), table.pi());
     put_price_changes(out, Prices::Reserve, before.mu(), table.mu());
     put_row_changes(out, before.ramps(), table.ramps());
@@ -163,8 +163,8 @@ fn put_change<O: Out>(out: &mut O, change: &Change)
     ensures { O.emits (change_line (change_of change.now)) out.old out.new }
 {
     match change {
-        Change::Demand { t, price } => put_price(out, b"p", *t, price),
-        Change::Reserve { t, price } => put_price(out, b"m", *t, price),
+        Change::Demand { t, price } => put_price(out, b"p", *t, *price),
+        Change::Reserve { t, price } => put_price(out, b"m", *t, *price),
         Change::Ramps(row) => put_row(out, b"r", row),
     }
 }
@@ -179,8 +179,8 @@ fn put_changes<O: Out>(out: &mut O, changes: &[Change])
 }
 
 /// A table of this scale behind another one, told by these changes.
-pub(crate) fn put_told_by<O: Out>(out: &mut O, k: &i64, changes: &[Change])
-    ensures { O.emits (changes_part k.now (changes_of changes.now)) out.old out.new }
+pub(crate) fn put_told_by<O: Out>(out: &mut O, k: i64, changes: &[Change])
+    ensures { O.emits (changes_part k (changes_of changes.now)) out.old out.new }
 {
     put_next_line(out, k, changes.len() as u64);
     put_changes(out, changes);

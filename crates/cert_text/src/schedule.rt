@@ -78,11 +78,11 @@ fn put_shortages<O: Out>(out: &mut O, priced: bool, printed: &Printed)
 }
 
 // The line of a schedule's cost, in micro-dollars.
-fn put_cost<O: Out>(out: &mut O, cost: &i128, denominator: u8)
-    ensures { O.emits (cost_line cost.now denominator) out.old out.new }
+fn put_cost<O: Out>(out: &mut O, cost: i128, denominator: u8)
+    ensures { O.emits (cost_line cost denominator) out.old out.new }
 {
     out.put(b"schedule ");
-    put_money(out, cost);
+    put_money(out, &cost);
     if denominator != 1 {
         put_count(out, b" over ", u64::from(denominator));
     }
@@ -110,8 +110,8 @@ pub(crate) fn is_read_divided(schedule: &Option<(Printed, i128)>) -> bool
 }
 
 // A schedule with its cost, in micro-dollars.
-fn put_written<O: Out>(out: &mut O, priced: bool, printed: &Printed, cost: &i128)
-    ensures { O.emits (schedule_part priced (Some (record { printed = printed.now; cost = cost.now }))) out.old out.new }
+fn put_written<O: Out>(out: &mut O, priced: bool, printed: &Printed, cost: i128)
+    ensures { O.emits (schedule_part priced (Some (record { printed = printed.now; cost = cost }))) out.old out.new }
 {
     put_cost(out, cost, printed.denominator);
     put_each(
@@ -138,7 +138,7 @@ pub(crate) fn put_schedule<O: Out>(out: &mut O, priced: bool, schedule: &Option<
     ensures { O.emits (schedule_part priced (written_of schedule.now)) out.old out.new }
 {
     match schedule {
-        Some((printed, cost)) => put_written(out, priced, printed, &i128::from(*cost)),
+        Some((printed, cost)) => put_written(out, priced, printed, i128::from(*cost)),
         None => out.put(b"schedule none\n"),
     }
 }
@@ -152,7 +152,7 @@ pub(crate) fn put_read_schedule<O: Out>(
     ensures { O.emits (schedule_part priced (written_of schedule.now)) out.old out.new }
 {
     match schedule {
-        Some((printed, cost)) => put_written(out, priced, printed, cost),
+        Some((printed, cost)) => put_written(out, priced, printed, *cost),
         None => out.put(b"schedule none\n"),
     }
 }

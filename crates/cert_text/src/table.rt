@@ -36,11 +36,11 @@ impl Form<RampRow> for Ramp {
     }
 }
 
-fn put_scale<O: Out>(out: &mut O, k: &i64)
-    ensures { O.emits (scale_line k.now) out.old out.new }
+fn put_scale<O: Out>(out: &mut O, k: i64)
+    ensures { O.emits (scale_line k) out.old out.new }
 {
     out.put(b"table ");
-    put_signed(out, k);
+    put_signed(out, &k);
     out.put(b"\n");
 }
 
@@ -49,7 +49,7 @@ pub(crate) fn put_table<O: Out>(out: &mut O, table: &Table)
     ensures { O.emits (table_part table.now) out.old out.new }
 {
     let rows = table.ramps();
-    put_scale(out, &table.k());
+    put_scale(out, table.k());
     put_list_line(out, b"pi", &Signed, table.pi());
     put_list_line(out, b"mu", &Signed, table.mu());
     put_whole_line(out, b"ramps", rows.len() as u64);

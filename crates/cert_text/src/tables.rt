@@ -36,7 +36,7 @@ pub(crate) fn put_tables<O: Out>(out: &mut O, tables: &TableList)
 {
     put_first(out, tables.first());
     for number in 1..tables.len() {
-        put_told_by(out, &tables.scale(number), tables.changes(number));
+        put_told_by(out, tables.scale(number), tables.changes(number));
     }
 }
 

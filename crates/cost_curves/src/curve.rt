@@ -68,7 +68,7 @@ impl Curve {
         // It is what a printed schedule pays at this output.
         ensures hull { (points : List Point) → IsLowerHull points self.now → result ≡ hull_cost points (unsigned_abs q) p }
     {
-        places::ceil_at(&self.corners, &p, &q)
+        places::ceil_at(&self.corners, p, q)
     }
 
     /// The points at the ends of a segment of the hull that holds the output `p`, the left one first: of the
@@ -78,7 +78,7 @@ impl Curve {
         requires high { p ≤ℤ width_of self.now }
         ensures { (points : List Point) → IsLowerHull points self.now → IsSegmentAt points p result.0 result.1 }
     {
-        places::segment(&self.corners, &p)
+        places::segment(&self.corners, p)
     }
 
     /// The slope of the hull on the left of the output `p`.
@@ -87,7 +87,7 @@ impl Curve {
         requires high { p ≤ℤ width_of self.now }
         ensures { (points : List Point) → IsLowerHull points self.now → IsLeftSlope points p result }
     {
-        places::slope(&self.corners, &p)
+        places::slope(&self.corners, p)
     }
 
     /// The slope of the hull on the right of the output `p`.
@@ -96,6 +96,6 @@ impl Curve {
         requires high { p <ℤ width_of self.now }
         ensures { (points : List Point) → IsLowerHull points self.now → IsRightSlope points p result }
     {
-        places::slope(&self.corners, &(p + 1))
+        places::slope(&self.corners, p + 1)
     }
 }

@@ -51,6 +51,6 @@ impl InlineCurve {
         // It is what a printed schedule pays at this output.
         ensures hull { (points : List Point) → IsLowerHull points self.now → result ≡ hull_cost points (unsigned_abs q) p }
     {
-        places::ceil_at(&self.corners[..self.count], &p, &q)
+        places::ceil_at(&self.corners[..self.count], p, q)
     }
 }

@@ -1,15 +1,27 @@
 -- A unit's parts, as they are read.
 -- Cite by `use Rattle.decommitment.proofs.Parts.{entered}`.
-use Rattle.std.proofs.Common.{◌≡◌, ℕ, suc, ◌+◌, ◌<◌, arith, sym, ap, subst, ◌∙◌, List, ℤ, pos, ◌-ℤ◌, ◌≤ℤ◌, slice_set, get_or-set_same, get_or-set_other}
+use Rattle.std.proofs.Common.{◌≡◌, ℕ, suc, ◌+◌, ◌*◌, ◌<◌, arith, sym, ap, subst, ◌∙◌, List, ℤ, pos, ◌-ℤ◌, ◌≤ℤ◌, slice_set, get_or-set_same, get_or-set_other, w64, to_z, of_z}
 use Rattle.uc_model.specs.Schedule.{renewable_count, thermal_count, thermal_unit}
-use Rattle.dispatch_repair.specs.Amounts.{amount_at}
-use Rattle.dispatch_repair.specs.Period.{Period, FromThermal, low_of, high_of}
+use Rattle.uc_model.proofs.Sizes.{narrow}
+use Rattle.dispatch_repair.specs.Amounts.{MAX_POWER, amount_at}
+use Rattle.dispatch_repair.specs.Period.{Period, FromThermal, commitment_at, low_of, high_of}
 use Rattle.dispatch_repair.specs.declared.segment.Segment.{Segment}
 use Rattle.dispatch_repair.proofs.Filled.{max_left}
-use Rattle.decommitment.specs.inside.Fills.{AreGiven, Fill, HasSizes, IsEntered, IsSizedAmount, Part, exchanged_totals, part_at}
+use Rattle.decommitment.specs.inside.Fills.{AreGiven, Fill, HasSizes, Hour, IsEntered, IsHourOf, IsSizedAmount, Part, System, exchanged_totals, hour_period, part_at, unit_part}
 use Rattle.decommitment.specs.inside.Levels.{IsLeastAt, IsAtLevel}
 use Rattle.decommitment.proofs.Levels.{higher}
 use Rattle.decommitment.proofs.Steps.{at_most, between}
+
+-- the parts of a unit after what is read of the period before
+pub part_read : (system : System) (hour : Hour) → IsHourOf system hour → (g m : ℕ) (part : Part) → g < thermal_count system.instance.now
+    → m ≡ renewable_count system.instance.now
+    → part ≡ unit_part system.instance.now g (commitment_at hour.patterns.now g) hour.t (to_z w64 (of_z w64 (amount_at hour.before.now (m + g))))
+    → part ≡ part_at (hour_period system hour) g
+part_read system hour of g m part h count is =
+    let instance = system.instance.now in
+    let on = commitment_at hour.patterns.now g in
+    is ∙ (λ i. unit_part instance g on hour.t (to_z w64 (of_z w64 (amount_at hour.before.now (count i + g)))))
+    ∙ ap (unit_part instance g on hour.t) (narrow (amount_at hour.before.now (renewable_count instance + g)) (2 * MAX_POWER) (of.before.sizes g h) (omega arith))
 
 module _ (period : Period) (g : ℕ) (part : Part) (is : part ≡ part_at period g) (sizes : HasSizes part) where
   pub low_is : part.reach.range.low ≡ low_of period (FromThermal g)

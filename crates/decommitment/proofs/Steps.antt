@@ -1,12 +1,13 @@
 -- A step along the order leaves the amounts at a level, with their sums.
 -- Cite by `use Rattle.decommitment.proofs.Steps.{walked_up}`.
-use Rattle.std.proofs.Common.{◌≡◌, ℕ, suc, ◌-◌, ◌*◌, ◌<◌, ◌≤◌, min, ⊎_elim, refl, sym, subst, ◌∙◌, arith, List, length, ℤ, pos, ◌⊎◌, ◌+ℤ◌, ◌-ℤ◌, ◌≤ℤ◌, ◌<ℤ◌, IsTrue, slice_set, if◌then◌else◌}
+use Rattle.std.proofs.Common.{◌≡◌, ℕ, suc, ◌-◌, ◌*◌, ◌<◌, ◌≤◌, min, ⊎_elim, refl, sym, subst, ◌∙◌, arith, List, length, ℤ, pos, ◌⊎◌, ◌+ℤ◌, ◌-ℤ◌, ◌≤ℤ◌, ◌<ℤ◌, IsTrue, slice_set, w64, to_z, of_z, if◌then◌else◌}
 use Rattle.std.specs.Int.{int_min}
 use Rattle.std.proofs.lemmas.Int.{ints}
 use Rattle.uc_model.specs.Limits.{IsLawfulInstance}
 use Rattle.uc_model.specs.Schedule.{thermal_count}
 use Rattle.uc_model.proofs.CostBound.{within_of_abs}
 use Rattle.uc_model.proofs.Ring.{linear, le_trans}
+use Rattle.uc_model.proofs.Sizes.{narrow}
 use Rattle.uc_model.proofs.Tests.{int_min_right}
 use Rattle.dispatch_repair.specs.Amounts.{MAX_POWER, IsRangeOf, IsSizedEnd, amount_at}
 use Rattle.dispatch_repair.specs.Period.{Instance, Period}
@@ -24,6 +25,10 @@ between z low high bottom first last top = record { low = le_trans (pos 0) low z
 
 pub at_most : (z : ℤ) → IsSizedEnd z → z ≤ℤ pos (3 * MAX_POWER)
 at_most z size = (within_of_abs z (3 * MAX_POWER) size).high
+
+-- the bits of an amount are that amount's
+pub amount_kept : (z : ℤ) → IsSizedAmount z → to_z w64 (of_z w64 z) ≡ z
+amount_kept z sized = narrow z (3 * MAX_POWER) sized.size (omega arith)
 
 -- where a segment ends within a range is no more than that
 pub end_size : (end : ℤ) (range : Range) (z : ℤ) → z ≡ int_min end range.high → IsSizedEnd range.high → z ≤ℤ pos (3 * MAX_POWER)
@@ -73,6 +78,13 @@ pub bottom : (period : Period) (n : ℕ) (range : Range) (least : ℤ) → IsLaw
     → HaveRanges period (thermal_count period.instance) → n < source_count period.instance → IsRangeOf period n range → range.low ≤ℤ least → pos 0 ≤ℤ least
 bottom period n range least lawful within ranges inside is low =
     le_trans (pos 0) range.low least (subst (λ z. pos 0 ≤ℤ z) (sym is.low) (good_at period n lawful within ranges inside).low) low
+
+-- an amount within a source's range
+pub sized_in : (period : Period) (n : ℕ) (range : Range) (least : ℤ) → IsLawfulInstance period.instance → period.t < period.instance.periods
+    → HaveRanges period (thermal_count period.instance) → n < source_count period.instance → IsRangeOf period n range → range.low ≤ℤ least
+    → least ≤ℤ range.high → IsSizedAmount least
+sized_in period n range least lawful within ranges inside is low high =
+    between least range.low range.high (bottom period n range range.low lawful within ranges inside is (omega (arith, linear))) low high (at_most range.high is.high_size)
 
 -- the last level before a number of segments
 pub within_last : (level last count : ℕ) → last ≡ min level (count - 1) → 0 < count → last < count

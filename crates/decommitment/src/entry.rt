@@ -49,7 +49,7 @@ pub(crate) fn enter(
         g,
         &hour.patterns[g],
         hour.t,
-        &hour.before[n],
+        hour.before[n],
     );
     let range = &part.reach.range;
     if is_empty(range) {
@@ -61,7 +61,7 @@ pub(crate) fn enter(
     }
     let rest = open_at(system.merit, n, fill.level, range);
     fill.totals = exchanged_totals(&fill.totals, old, &part);
-    set_amount(system.instance, fill, n, &rest.low);
+    set_amount(system.instance, fill, n, rest.low);
     None
 }
 
@@ -124,7 +124,7 @@ fn renew_unit(system: &System, hour: &Hour, base: &Base, fill: &mut Fill, g: usi
         return None;
     }
     let pattern = base_pattern(hour, base, g);
-    let old = unit_part(system.instance, g, &pattern, hour.t, &base.before[n]);
+    let old = unit_part(system.instance, g, &pattern, hour.t, base.before[n]);
     enter(system, hour, fill, g, &old)
 }
 
@@ -151,19 +151,19 @@ fn base_pattern(hour: &Hour, base: &Base, g: usize) -> Pattern
 }
 
 // The parts of thermal unit g, with this pattern, in period t after the output `before`.
-fn unit_part(instance: &Instance, g: usize, pattern: &Pattern, t: usize, before: &i64) -> Part
+fn unit_part(instance: &Instance, g: usize, pattern: &Pattern, t: usize, before: i64) -> Part
     requires lawful { IsLawfulInstance instance.now }
     requires unit { g < thermal_count instance.now }
     requires period { t < instance.now.periods }
-    requires before { IsSizedOutput before.now }
-    ensures is { result ≡ part_of instance.now g (commitment_of pattern.now) t before.now }
+    requires before { IsSizedOutput before }
+    ensures is { result ≡ part_of instance.now g (commitment_of pattern.now) t before }
     ensures sizes { HasSizes result }
 {
     let unit = &instance.thermal.as_slice()[g];
     let on = pattern.is_on(t as u32);
     Part {
         minimum: minimum(unit, on),
-        reach: unit_reach(instance.periods as usize, unit, pattern, t, before),
+        reach: unit_reach(instance.periods as usize, unit, pattern, t, &before),
     }
 }
 
@@ -180,10 +180,10 @@ fn exchanged_totals(totals: &Totals, old: &Part, new: &Part) -> Totals
     let was = &old.reach;
     let is = &new.reach;
     Totals {
-        minimums: exchanged(&totals.minimums, &old.minimum, &new.minimum),
-        thermal_low: exchanged(&totals.thermal_low, &was.range.low, &is.range.low),
-        thermal_high: exchanged(&totals.thermal_high, &was.range.high, &is.range.high),
-        heads: exchanged(&totals.heads, &was.head, &is.head),
+        minimums: exchanged(totals.minimums, old.minimum, new.minimum),
+        thermal_low: exchanged(totals.thermal_low, was.range.low, is.range.low),
+        thermal_high: exchanged(totals.thermal_high, was.range.high, is.range.high),
+        heads: exchanged(totals.heads, was.head, is.head),
         renewable_low: totals.renewable_low,
         renewable_high: totals.renewable_high,
     }

@@ -192,7 +192,7 @@ fn begin_free(system: &System, hour: &Hour, fill: &mut Fill) -> Range
     for w in 0..system.instance.renewable.as_slice().len() {
         let range = renewable_range(system.instance, hour.t, w);
         sums = with_range(&sums, &range);
-        set_amount(system.instance, fill, w, &range.low);
+        set_amount(system.instance, fill, w, range.low);
     }
     sums
 }
@@ -274,7 +274,7 @@ fn meet(system: &System, hour: &Hour, fill: &mut Fill, left: &Left) -> Filling
     ensures filling { ComesTo system.now hour.now fill.new result }
 {
     let target = target_of(left, &fill.totals);
-    walk(system, hour, fill, &target.all);
+    walk(system, hour, fill, target.all);
     if is_met(&target, &fill.given) {
         Filling::Filled
     } else {
@@ -311,5 +311,5 @@ fn is_met(target: &Target, given: &Given) -> bool
     requires renewable { IsSizedSum given.now.renewable }
     ensures { IsTrue result → IsMet target.now given.now }
 {
-    missing(&target.all, given) == 0 && given.thermal <= target.thermal
+    missing(target.all, given) == 0 && given.thermal <= target.thermal
 }

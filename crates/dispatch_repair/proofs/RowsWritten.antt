@@ -9,6 +9,7 @@ use Rattle.uc_model.specs.Sums.{sum_below}
 use Rattle.uc_model.specs.declared.limits.TheConstants.{MAX_POWER, MAX_UNITS}
 use Rattle.uc_model.proofs.Ring.{linear}
 use Rattle.uc_model.proofs.CostBound.{within_of_abs, abs_of_within}
+use Rattle.uc_model.proofs.Sizes.{narrow}
 use Rattle.uc_model.proofs.Sums.{sum_below-same}
 use Rattle.dispatch_repair.specs.Amounts.{IsSizedOutput, IsSizedEnd, amount_at}
 use Rattle.dispatch_repair.specs.inside.Rows.{Cell, AreCellsWritten, HasPower, IsLeft, cell_of, reserve_of, row_at, with_power}
@@ -61,6 +62,16 @@ left_more n left output end before sized_output sized_end =
     let o = within_of_abs output (2 * MAX_POWER) sized_output in
     let e = within_of_abs end (3 * MAX_POWER) sized_end in
     record { low = omega (arith, ints, clamps, before.low); high = omega (arith, ints, clamps, before.high, o.low, o.high, e.low, e.high) }
+
+-- what is left where a reserve is taken of it
+pub left_taken : (left output end : ℤ) → IsLeft MAX_UNITS left → IsSizedOutput output → IsSizedEnd end
+    → to_z w64 (of_z w64 (left -ℤ reserve_of output end left)) ≡ left -ℤ reserve_of output end left
+left_taken left output end is sized_output sized_end =
+    let rest = left -ℤ reserve_of output end left in
+    let most = MAX_POWER + suc MAX_UNITS * (5 * MAX_POWER) in
+    let more = left_more MAX_UNITS left output end is sized_output sized_end in
+    let small = abs_of_within rest most (record { low = omega (arith, linear, more.low); high = more.high }) in
+    narrow rest most small (omega arith)
 
 -- ---- the rows so far
 -- the first n rows are written, and what is left is the need without their reserves

@@ -64,7 +64,7 @@ fn raise(
     let end = end(segment, &ranges[source]);
     let more = rise(&amounts[source], &end, &spare(left, is_free));
     amounts[source] = raised(&amounts[source], &more);
-    *left = rest(left, &more, is_free);
+    *left = rest(left, more, is_free);
 }
 
 /// Where a segment ends within its source's range, in watts.
@@ -115,23 +115,23 @@ pub fn raised(amount: &i64, more: &i64) -> i64
 }
 
 // What is left after a source gave so much.
-fn rest(left: &Left, more: &i64, is_free: bool) -> Left
+fn rest(left: &Left, more: i64, is_free: bool) -> Left
     requires left { IsLeft left.now }
-    requires up { pos 0 ≤ℤ more.now }
-    requires spare { more.now ≤ℤ (if is_free then left.now.need else int_min left.now.need left.now.room) }
-    ensures need { result.need ≡ left.now.need -ℤ more.now }
-    ensures room { result.room ≡ (if is_free then left.now.room else left.now.room -ℤ more.now) }
+    requires up { pos 0 ≤ℤ more }
+    requires spare { more ≤ℤ (if is_free then left.now.need else int_min left.now.need left.now.room) }
+    ensures need { result.need ≡ left.now.need -ℤ more }
+    ensures room { result.room ≡ (if is_free then left.now.room else left.now.room -ℤ more) }
     ensures left { IsLeft result }
 {
     if is_free {
         Left {
-            need: left.need - *more,
+            need: left.need - more,
             room: left.room,
         }
     } else {
         Left {
-            need: left.need - *more,
-            room: left.room - *more,
+            need: left.need - more,
+            room: left.room - more,
         }
     }
 }

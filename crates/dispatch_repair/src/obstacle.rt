@@ -48,42 +48,42 @@ pub(crate) fn most(totals: &Totals) -> i64
 }
 
 /// The room for reserve where demand is this.
-pub(crate) fn reserve_room(totals: &Totals, demand: &i64) -> i64
+pub(crate) fn reserve_room(totals: &Totals, demand: i64) -> i64
     requires sizes { AreSizedTotals totals.now }
-    requires demand { unsigned_abs demand.now ≤ MAX_UNITS * (12 * MAX_POWER) }
+    requires demand { unsigned_abs demand ≤ MAX_UNITS * (12 * MAX_POWER) }
     ensures size { unsigned_abs result ≤ MAX_UNITS * (22 * MAX_POWER) }
-    ensures value { (period : Period) → AreTotalsOf period totals.now → demand.now ≡ demand_of period → result ≡ reserve_room_of period }
+    ensures value { (period : Period) → AreTotalsOf period totals.now → demand ≡ demand_of period → result ≡ reserve_room_of period }
 {
-    let given = greater(&totals.thermal_low, &rest(totals, demand));
+    let given = greater(totals.thermal_low, rest(totals, demand));
     totals.heads - given
 }
 
 // What the thermal units have to give above their minimums where the renewable ones give the most.
-fn rest(totals: &Totals, demand: &i64) -> i64
+fn rest(totals: &Totals, demand: i64) -> i64
     requires sizes { AreSizedTotals totals.now }
-    requires demand { unsigned_abs demand.now ≤ MAX_UNITS * (12 * MAX_POWER) }
-    ensures value { result ≡ demand.now -ℤ totals.now.minimums -ℤ totals.now.renewable_high }
+    requires demand { unsigned_abs demand ≤ MAX_UNITS * (12 * MAX_POWER) }
+    ensures value { result ≡ demand -ℤ totals.now.minimums -ℤ totals.now.renewable_high }
     ensures size { unsigned_abs result ≤ MAX_UNITS * (18 * MAX_POWER) }
 {
-    *demand - totals.minimums - totals.renewable_high
+    demand - totals.minimums - totals.renewable_high
 }
 
 // The greater of two totals.
-fn greater(first: &i64, second: &i64) -> i64
-    requires first { unsigned_abs first.now ≤ MAX_UNITS * (18 * MAX_POWER) }
-    requires second { unsigned_abs second.now ≤ MAX_UNITS * (18 * MAX_POWER) }
-    ensures value { result ≡ int_max first.now second.now }
+fn greater(first: i64, second: i64) -> i64
+    requires first { unsigned_abs first ≤ MAX_UNITS * (18 * MAX_POWER) }
+    requires second { unsigned_abs second ≤ MAX_UNITS * (18 * MAX_POWER) }
+    ensures value { result ≡ int_max first second }
     ensures size { unsigned_abs result ≤ MAX_UNITS * (18 * MAX_POWER) }
 {
-    (*first).max(*second)
+    first.max(second)
 }
 
 // The most room for reserve: where a watt of demand has a price, that of the least output.
-fn greatest_room(price: u32, totals: &Totals, demand: &i64) -> i64
+fn greatest_room(price: u32, totals: &Totals, demand: i64) -> i64
     requires sizes { AreSizedTotals totals.now }
-    requires demand { IsPower demand.now }
+    requires demand { IsPower demand }
     ensures size { unsigned_abs result ≤ MAX_UNITS * (22 * MAX_POWER) }
-    ensures value { (period : Period) → price ≡ period.instance.a → AreTotalsOf period totals.now → demand.now ≡ demand_of period
+    ensures value { (period : Period) → price ≡ period.instance.a → AreTotalsOf period totals.now → demand ≡ demand_of period
         → result ≡ greatest_room_of period }
 {
     if price > 0 {
@@ -136,15 +136,15 @@ pub fn imbalance(instance: &Instance, totals: &Totals, demand: &i64, need: &i64)
         });
     }
     let most = most(totals);
-    let is_under = is_beyond(instance.a, demand, &most);
+    let is_under = is_beyond(instance.a, *demand, most);
     if is_under {
         return Some(Why::Under {
             most,
             demand: *demand,
         });
     }
-    let room = greatest_room(instance.a, totals, demand);
-    let is_short = is_beyond(instance.b, need, &room);
+    let room = greatest_room(instance.a, totals, *demand);
+    let is_short = is_beyond(instance.b, *need, room);
     if is_short {
         return Some(Why::Reserve { room, need: *need });
     }
@@ -152,8 +152,8 @@ pub fn imbalance(instance: &Instance, totals: &Totals, demand: &i64, need: &i64)
 }
 
 // Whether what is wanted is above what there may be, and a watt of it has no price.
-fn is_beyond(price: u32, wanted: &i64, most: &i64) -> bool
-    ensures { result ≡ (price == 0 && int_lt most.now wanted.now) }
+fn is_beyond(price: u32, wanted: i64, most: i64) -> bool
+    ensures { result ≡ (price == 0 && int_lt most wanted) }
 {
-    price == 0 && *most < *wanted
+    price == 0 && most < wanted
 }

@@ -139,11 +139,11 @@ pub fn start_of(instance: &Instance, totals: &Totals, demand: &i64, need: &i64) 
     ensures need_size { IsSizedLeft result.left.need }
     ensures room_size { IsSizedLeft result.left.room }
 {
-    let shortage = shortage_of(instance, totals, demand, need);
+    let shortage = shortage_of(instance, totals, *demand, *need);
     let left = left(
         totals,
-        &without(demand, &shortage.shed),
-        &without(need, &shortage.short),
+        without(*demand, shortage.shed),
+        without(*need, shortage.short),
     );
     Start { shortage, left }
 }
@@ -171,88 +171,88 @@ fn fill_from_lows(
 }
 
 // A demand or a need, without what is missing of it.
-fn without(whole: &i64, missing: &i64) -> i64
-    requires whole { IsPower whole.now }
-    requires missing { IsSizedMissing missing.now }
-    ensures value { result ≡ whole.now -ℤ missing.now }
+fn without(whole: i64, missing: i64) -> i64
+    requires whole { IsPower whole }
+    requires missing { IsSizedMissing missing }
+    ensures value { result ≡ whole -ℤ missing }
     ensures size { IsSizedPart result }
 {
-    *whole - *missing
+    whole - missing
 }
 
 // What is left to give where each source gives its least.
-fn left(totals: &Totals, demand: &i64, need: &i64) -> Left
+fn left(totals: &Totals, demand: i64, need: i64) -> Left
     requires sizes { AreSizedTotals totals.now }
-    requires demand { IsSizedPart demand.now }
-    requires need { IsSizedPart need.now }
-    ensures first { (period : Period) → AreTotalsOf period totals.now → demand.now ≡ demand_of period → need.now ≡ need_of period
+    requires demand { IsSizedPart demand }
+    requires need { IsSizedPart need }
+    ensures first { (period : Period) → AreTotalsOf period totals.now → demand ≡ demand_of period → need ≡ need_of period
         → IsFirstLeft period result }
     ensures need_size { IsSizedLeft result.need }
     ensures room_size { IsSizedLeft result.room }
 {
     Left {
-        need: unmet(demand, &least(totals)),
+        need: unmet(demand, least(totals)),
         room: room_above(totals, need),
     }
 }
 
 // What is left of demand.
-fn unmet(demand: &i64, least: &i64) -> i64
-    requires demand { IsSizedPart demand.now }
-    requires least { IsSizedTotal least.now }
-    ensures value { result ≡ demand.now -ℤ least.now }
+fn unmet(demand: i64, least: i64) -> i64
+    requires demand { IsSizedPart demand }
+    requires least { IsSizedTotal least }
+    ensures value { result ≡ demand -ℤ least }
     ensures size { IsSizedLeft result }
 {
-    *demand - *least
+    demand - least
 }
 
 // What the thermal units may give beside the reserve that is needed, above their low ends.
-fn room_above(totals: &Totals, need: &i64) -> i64
+fn room_above(totals: &Totals, need: i64) -> i64
     requires sizes { AreSizedTotals totals.now }
-    requires need { IsSizedPart need.now }
-    ensures value { result ≡ (totals.now.heads -ℤ int_max need.now (pos 0)) -ℤ totals.now.thermal_low }
+    requires need { IsSizedPart need }
+    ensures value { result ≡ (totals.now.heads -ℤ int_max need (pos 0)) -ℤ totals.now.thermal_low }
     ensures size { IsSizedLeft result }
 {
-    above(&limit(totals, need), &totals.thermal_low)
+    above(limit(totals, need), totals.thermal_low)
 }
 
 // What the thermal units may give beside the reserve that is needed.
-fn limit(totals: &Totals, need: &i64) -> i64
+fn limit(totals: &Totals, need: i64) -> i64
     requires sizes { AreSizedTotals totals.now }
-    requires need { IsSizedPart need.now }
-    ensures value { result ≡ totals.now.heads -ℤ int_max need.now (pos 0) }
+    requires need { IsSizedPart need }
+    ensures value { result ≡ totals.now.heads -ℤ int_max need (pos 0) }
     ensures size { unsigned_abs result ≤ MAX_UNITS * (45 * MAX_POWER) }
 {
-    beside(&totals.heads, &positive(need))
+    beside(totals.heads, positive(need))
 }
 
 // Reserve that is needed, which is at least none.
-fn positive(need: &i64) -> i64
-    requires { IsSizedPart need.now }
-    ensures value { result ≡ int_max need.now (pos 0) }
+fn positive(need: i64) -> i64
+    requires { IsSizedPart need }
+    ensures value { result ≡ int_max need (pos 0) }
     ensures size { IsSizedPart result }
 {
-    (*need).max(0)
+    need.max(0)
 }
 
 // A sum less a part.
-fn beside(total: &i64, part: &i64) -> i64
-    requires total { IsSizedSum total.now }
-    requires part { IsSizedPart part.now }
-    ensures value { result ≡ total.now -ℤ part.now }
+fn beside(total: i64, part: i64) -> i64
+    requires total { IsSizedSum total }
+    requires part { IsSizedPart part }
+    ensures value { result ≡ total -ℤ part }
     ensures size { unsigned_abs result ≤ MAX_UNITS * (45 * MAX_POWER) }
 {
-    *total - *part
+    total - part
 }
 
 // A total less a sum.
-fn above(total: &i64, part: &i64) -> i64
-    requires total { unsigned_abs total.now ≤ MAX_UNITS * (45 * MAX_POWER) }
-    requires part { IsSizedSum part.now }
-    ensures value { result ≡ total.now -ℤ part.now }
+fn above(total: i64, part: i64) -> i64
+    requires total { unsigned_abs total ≤ MAX_UNITS * (45 * MAX_POWER) }
+    requires part { IsSizedSum part }
+    ensures value { result ≡ total -ℤ part }
     ensures size { IsSizedLeft result }
 {
-    *total - *part
+    total - part
 }
 
 // Each source gives its least.

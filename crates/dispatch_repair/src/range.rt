@@ -46,80 +46,80 @@ pub fn unit_reach(
     ensures low_size { IsSizedEnd result.range.low }
     ensures high_size { IsSizedEnd result.range.high }
 {
-    let head = head(periods, unit, pattern, t, before);
+    let head = head(periods, unit, pattern, t, *before);
     let range = Range {
-        low: lowest_output(before, &unit.rd),
-        high: highest_output(periods, unit, pattern, t, &head),
+        low: lowest_output(*before, unit.rd),
+        high: highest_output(periods, unit, pattern, t, head),
     };
     Reach { head, range }
 }
 
 // The head, by the cap and by what output may rise.
-fn head(periods: usize, unit: &Thermal, pattern: &Pattern, t: usize, before: &i64) -> i64
+fn head(periods: usize, unit: &Thermal, pattern: &Pattern, t: usize, before: i64) -> i64
     requires lawful { IsLawfulThermal unit.now }
     requires period { t < periods }
     requires few { periods ≤ MAX_PERIODS }
-    requires before { IsSizedOutput before.now }
-    ensures value { result ≡ head_after periods unit.now (commitment_of pattern.now) t before.now }
+    requires before { IsSizedOutput before }
+    ensures value { result ≡ head_after periods unit.now (commitment_of pattern.now) t before }
     ensures size { IsSizedEnd result }
 {
-    lower(&cap(periods, unit, pattern, t), &risen(before, &unit.ru))
+    lower(cap(periods, unit, pattern, t), risen(before, unit.ru))
 }
 
 // The most that output may be, by the head.
-fn highest_output(periods: usize, unit: &Thermal, pattern: &Pattern, t: usize, head: &i64) -> i64
+fn highest_output(periods: usize, unit: &Thermal, pattern: &Pattern, t: usize, head: i64) -> i64
     requires lawful { IsLawfulThermal unit.now }
     requires period { t < periods }
     requires few { periods ≤ MAX_PERIODS }
-    requires head { IsSizedEnd head.now }
-    ensures value { (before : ℤ) → head.now ≡ head_after periods unit.now (commitment_of pattern.now) t before
+    requires head { IsSizedEnd head }
+    ensures value { (before : ℤ) → head ≡ head_after periods unit.now (commitment_of pattern.now) t before
         → result ≡ highest periods unit.now (commitment_of pattern.now) t before }
     ensures size { IsSizedEnd result }
 {
-    let most = lower(head, &width(unit.points.as_slice()));
-    falling(periods, unit, pattern, t, &most)
+    let most = lower(head, width(unit.points.as_slice()));
+    falling(periods, unit, pattern, t, most)
 }
 
 // The most that output may be, by what it may rise.
-fn risen(before: &i64, rise: &i64) -> i64
-    requires before { IsSizedOutput before.now }
-    requires rise { IsLimit rise.now }
-    ensures value { result ≡ before.now +ℤ rise.now }
+fn risen(before: i64, rise: i64) -> i64
+    requires before { IsSizedOutput before }
+    requires rise { IsLimit rise }
+    ensures value { result ≡ before +ℤ rise }
     ensures size { IsSizedEnd result }
 {
-    *before + *rise
+    before + rise
 }
 
 // The least output, by what it may fall.
-fn lowest_output(before: &i64, fall: &i64) -> i64
-    requires before { IsSizedOutput before.now }
-    requires fall { IsLimit fall.now }
-    ensures value { result ≡ int_max (pos 0) (before.now -ℤ fall.now) }
+fn lowest_output(before: i64, fall: i64) -> i64
+    requires before { IsSizedOutput before }
+    requires fall { IsLimit fall }
+    ensures value { result ≡ int_max (pos 0) (before -ℤ fall) }
     ensures size { IsSizedEnd result }
 {
-    (*before - *fall).max(0)
+    (before - fall).max(0)
 }
 
 // The lower of two ends.
-fn lower(first: &i64, second: &i64) -> i64
-    requires first { IsSizedEnd first.now }
-    requires second { IsSizedEnd second.now }
-    ensures value { result ≡ int_min first.now second.now }
+fn lower(first: i64, second: i64) -> i64
+    requires first { IsSizedEnd first }
+    requires second { IsSizedEnd second }
+    ensures value { result ≡ int_min first second }
     ensures size { IsSizedEnd result }
 {
-    (*first).min(*second)
+    first.min(second)
 }
 
 // The most that output may be so that it can fall to nothing before a stop.
-fn falling(periods: usize, unit: &Thermal, pattern: &Pattern, t: usize, most: &i64) -> i64
+fn falling(periods: usize, unit: &Thermal, pattern: &Pattern, t: usize, most: i64) -> i64
     requires lawful { IsLawfulThermal unit.now }
     requires period { t < periods }
     requires few { periods ≤ MAX_PERIODS }
-    requires most { IsSizedEnd most.now }
-    ensures value { result ≡ (if is_off_after periods (commitment_of pattern.now) t then int_min most.now unit.now.rd else most.now) }
+    requires most { IsSizedEnd most }
+    ensures value { result ≡ (if is_off_after periods (commitment_of pattern.now) t then int_min most unit.now.rd else most) }
     ensures size { IsSizedEnd result }
 {
-    lowered(most, &unit.rd, is_off_next(periods, pattern, t))
+    lowered(most, unit.rd, is_off_next(periods, pattern, t))
 }
 
 // Whether the unit is off in the period after t.
@@ -132,13 +132,13 @@ fn is_off_next(periods: usize, pattern: &Pattern, t: usize) -> bool
 }
 
 // An end with a limit, where it applies.
-fn lowered(end: &i64, limit: &i64, applies: bool) -> i64
-    requires end { IsSizedEnd end.now }
-    requires limit { IsSizedEnd limit.now }
-    ensures value { result ≡ (if applies then int_min end.now limit.now else end.now) }
+fn lowered(end: i64, limit: i64, applies: bool) -> i64
+    requires end { IsSizedEnd end }
+    requires limit { IsSizedEnd limit }
+    ensures value { result ≡ (if applies then int_min end limit else end) }
     ensures size { IsSizedEnd result }
 {
-    if applies { lower(end, limit) } else { *end }
+    if applies { lower(end, limit) } else { end }
 }
 
 // The cap of a cell: the least of the limits of a start, and of a stop in the next period.
@@ -151,7 +151,7 @@ fn cap(periods: usize, unit: &Thermal, pattern: &Pattern, t: usize) -> i64
 {
     let start = start_cap(unit, pattern, t);
     if t + 1 < periods {
-        lower(&start, &stop_cap(unit, pattern, t))
+        lower(start, stop_cap(unit, pattern, t))
     } else {
         start
     }

@@ -79,21 +79,21 @@ pub fn renewable_range(instance: &Instance, t: usize, w: usize) -> Range
     ensures high_size { IsSizedEnd result.high }
 {
     let unit = &instance.renewable.as_slice()[w];
-    free_range(&unit.minimum.as_slice()[t], &unit.maximum.as_slice()[t])
+    free_range(unit.minimum.as_slice()[t], unit.maximum.as_slice()[t])
 }
 
 // The range between two limits, none of it below 0.
-fn free_range(minimum: &i64, maximum: &i64) -> Range
-    requires minimum { IsPower minimum.now }
-    requires maximum { IsPower maximum.now }
-    ensures low { result.low ≡ int_max minimum.now (pos 0) }
-    ensures high { result.high ≡ maximum.now }
+fn free_range(minimum: i64, maximum: i64) -> Range
+    requires minimum { IsPower minimum }
+    requires maximum { IsPower maximum }
+    ensures low { result.low ≡ int_max minimum (pos 0) }
+    ensures high { result.high ≡ maximum }
     ensures low_size { IsSizedEnd result.low }
     ensures high_size { IsSizedEnd result.high }
 {
     Range {
-        low: (*minimum).max(0),
-        high: *maximum,
+        low: minimum.max(0),
+        high: maximum,
     }
 }
 

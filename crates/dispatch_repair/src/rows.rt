@@ -175,40 +175,40 @@ pub(crate) fn write_period(
     ensures shape { HasPeriods instance.now instance.now.periods (printed_of rows.new) }
     ensures written { IsWritten instance.now room.now.amounts.items room.now.heads.items shortage.now t (printed_of rows.old) (printed_of rows.new) }
 {
-    let kept = without(&instance.reserves.as_slice()[t], &shortage.short);
-    write_powers(instance, rows, room, &kept, t);
-    set_number(&mut rows.shed, t, &shortage.shed);
-    set_number(&mut rows.short, t, &shortage.short);
+    let kept = without(instance.reserves.as_slice()[t], shortage.short);
+    write_powers(instance, rows, room, kept, t);
+    set_number(&mut rows.shed, t, shortage.shed);
+    set_number(&mut rows.short, t, shortage.short);
 }
 
 // A need without what is missing of it.
-fn without(need: &i64, missing: &i64) -> i64
-    requires { IsPower (need.now -ℤ missing.now) }
-    ensures value { result ≡ need.now -ℤ missing.now }
+fn without(need: i64, missing: i64) -> i64
+    requires { IsPower (need -ℤ missing) }
+    ensures value { result ≡ need -ℤ missing }
     ensures size { IsPower result }
 {
-    *need - *missing
+    need - missing
 }
 
 // Writes the number of period t.
-fn set_number(numbers: &mut Vec<i64>, t: usize, number: &i64)
+fn set_number(numbers: &mut Vec<i64>, t: usize, number: i64)
     requires { t < length numbers.old.items }
-    ensures { numbers.new.items ≡ slice_set numbers.old.items t number.now }
+    ensures { numbers.new.items ≡ slice_set numbers.old.items t number }
 {
-    numbers[t] = *number;
+    numbers[t] = number;
 }
 
 // Writes the amounts of period t, and reserve up to what is to be kept.
-fn write_powers(instance: &Instance, rows: &mut Rows, room: &Room, need: &i64, t: usize)
+fn write_powers(instance: &Instance, rows: &mut Rows, room: &Room, need: i64, t: usize)
     requires shape { HasPeriods instance.now instance.now.periods (printed_of rows.old) }
     requires room { IsRoomOf instance.now room.now }
     requires period { t < instance.now.periods }
-    requires need { IsPower need.now }
+    requires need { IsPower need }
     requires units { IsLawfulInstance instance.now }
     requires amounts { (g : ℕ) → g < thermal_count instance.now → IsSizedOutput (thermal_amount instance.now room.now.amounts.items g) }
     requires heads { (g : ℕ) → g < thermal_count instance.now → IsSizedEnd (amount_at room.now.heads.items g) }
     ensures shape { HasPeriods instance.now instance.now.periods (printed_of rows.new) }
-    ensures powered { IsPowered instance.now room.now.amounts.items room.now.heads.items need.now t (printed_of rows.old) (printed_of rows.new) }
+    ensures powered { IsPowered instance.now room.now.amounts.items room.now.heads.items need t (printed_of rows.old) (printed_of rows.new) }
     ensures shed { rows.new.shed ≡ rows.old.shed }
     ensures short { rows.new.short ≡ rows.old.short }
 {
@@ -236,58 +236,54 @@ fn write_outputs(rows: &mut Vec<Vec<i64>>, amounts: &[i64], t: usize)
 }
 
 // Writes the cells of period t, with reserve up to each head until what is needed is reached.
-fn write_cells(rows: &mut Vec<Vec<Cell>>, amounts: &[i64], heads: &[i64], need: &i64, t: usize)
+fn write_cells(rows: &mut Vec<Vec<Cell>>, amounts: &[i64], heads: &[i64], need: i64, t: usize)
     requires units { length amounts.now ≡ length rows.old.items }
     requires few { length rows.old.items ≤ MAX_UNITS }
     requires heads { length heads.now ≡ length rows.old.items }
     requires period { (g : ℕ) → g < length rows.old.items → t < length (row_at (rows_of rows.old.items) g) }
-    requires need { IsPower need.now }
+    requires need { IsPower need }
     requires outputs { (g : ℕ) → g < length rows.old.items → IsSizedOutput (amount_at amounts.now g) }
     requires ends { (g : ℕ) → g < length rows.old.items → IsSizedEnd (amount_at heads.now g) }
-    ensures { AreCellsWritten amounts.now heads.now need.now t (length rows.old.items) (rows_of rows.old.items) (rows_of rows.new.items) }
+    ensures { AreCellsWritten amounts.now heads.now need t (length rows.old.items) (rows_of rows.old.items) (rows_of rows.new.items) }
 {
-    let mut left = *need;
+    let mut left = need;
     for g in 0..amounts.len() {
-        write_cell(rows, g, t, &amounts[g], &heads[g], &mut left);
+        write_cell(rows, g, t, amounts[g], heads[g], &mut left);
     }
 }
 
 // Writes a cell's output, and its reserve: up to its head, and to what is left to give, which it takes away.
-fn write_cell(rows: &mut Vec<Vec<Cell>>, g: usize, t: usize, p: &i64, head: &i64, left: &mut i64)
+fn write_cell(rows: &mut Vec<Vec<Cell>>, g: usize, t: usize, p: i64, head: i64, left: &mut i64)
     requires unit { g < length rows.old.items }
     requires period { t < length (row_at (rows_of rows.old.items) g) }
-    requires output { IsSizedOutput p.now }
-    requires head { IsSizedEnd head.now }
+    requires output { IsSizedOutput p }
+    requires head { IsSizedEnd head }
     requires left { IsLeft MAX_UNITS left.old }
-    ensures left { left.new ≡ left.old -ℤ reserve_of p.now head.now left.old }
+    ensures left { left.new ≡ left.old -ℤ reserve_of p head left.old }
     ensures cell { rows_of rows.new.items ≡ slice_set (rows_of rows.old.items) g (slice_set (row_at (rows_of rows.old.items) g) t
-        (with_power (cell_of (row_at (rows_of rows.old.items) g) t) p.now (reserve_of p.now head.now left.old))) }
+        (with_power (cell_of (row_at (rows_of rows.old.items) g) t) p (reserve_of p head left.old))) }
 {
-    let r = reserve(p, head, left);
+    let r = reserve(p, head, *left);
     *left -= r;
-    let cell = powered(&rows[g][t], p, &r);
+    let cell = powered(&rows[g][t], p, r);
     set_at(rows, g, t, &cell);
 }
 
 // A cell with this output and reserve.
-fn powered(cell: &Cell, p: &i64, r: &i64) -> Cell
-    ensures { result ≡ with_power cell.now p.now r.now }
+fn powered(cell: &Cell, p: i64, r: i64) -> Cell
+    ensures { result ≡ with_power cell.now p r }
 {
-    Cell {
-        p: *p,
-        r: *r,
-        ..*cell
-    }
+    Cell { p, r, ..*cell }
 }
 
 // A unit's reserve: up to its head, and to what is left to give.
-fn reserve(p: &i64, head: &i64, left: &i64) -> i64
-    requires output { IsSizedOutput p.now }
-    requires head { IsSizedEnd head.now }
-    requires left { IsLeft MAX_UNITS left.now }
-    ensures { result ≡ reserve_of p.now head.now left.now }
+fn reserve(p: i64, head: i64, left: i64) -> i64
+    requires output { IsSizedOutput p }
+    requires head { IsSizedEnd head }
+    requires left { IsLeft MAX_UNITS left }
+    ensures { result ≡ reserve_of p head left }
 {
-    (*head - *p).min((*left).max(0))
+    (head - p).min(left.max(0))
 }
 
 // Writes unit i's entry of period t.

@@ -73,18 +73,18 @@ pub fn with_range(total: &Range, range: &Range) -> Range
     ensures high { result.high ≡ total.now.high +ℤ range.now.high }
 {
     Range {
-        low: with_term(&total.low, &range.low),
-        high: with_term(&total.high, &range.high),
+        low: with_term(total.low, range.low),
+        high: with_term(total.high, range.high),
     }
 }
 
 // A sum with a term more.
-fn with_term(total: &i64, term: &i64) -> i64
-    requires total { IsSizedSum total.now }
-    requires term { IsSizedEnd term.now }
-    ensures { result ≡ total.now +ℤ term.now }
+fn with_term(total: i64, term: i64) -> i64
+    requires total { IsSizedSum total }
+    requires term { IsSizedEnd term }
+    ensures { result ≡ total +ℤ term }
 {
-    *total + *term
+    total + term
 }
 
 // The sum of the heads.
@@ -96,7 +96,7 @@ fn sum_of_heads(heads: &[i64]) -> i64
 {
     let mut total = 0;
     for g in 0..heads.len() {
-        total = with_term(&total, &heads[g]);
+        total = with_term(total, heads[g]);
     }
     total
 }
@@ -111,7 +111,7 @@ fn sum_of_minimums(instance: &Instance, patterns: &[Pattern], t: usize) -> i64
 {
     let mut total = 0;
     for g in 0..instance.thermal.as_slice().len() {
-        total = with_term(&total, &unit_minimum(instance, patterns, t, g));
+        total = with_term(total, unit_minimum(instance, patterns, t, g));
     }
     total
 }

@@ -30,7 +30,7 @@ pub fn term(curve: &Curve, k: i64, a: i128, b: i128, cap: i64) -> Option<i128>
     let prices = freed(k, a, b);
     let corners = curve.corners();
     let place = least_place(corners, &prices);
-    cell_term(corners, &prices, place, &cap)
+    cell_term(corners, &prices, place, cap)
 }
 
 /// The terms of the cells of four caps, at the prices of one period.
@@ -53,52 +53,52 @@ pub(crate) fn row_terms(
     let corners = curve.corners();
     let place = least_place(corners, &prices);
     [
-        cell_term(corners, &prices, place, &caps[0]),
-        cell_term(corners, &prices, place, &caps[1]),
-        cell_term(corners, &prices, place, &caps[2]),
-        cell_term(corners, &prices, place, &caps[3]),
+        cell_term(corners, &prices, place, caps[0]),
+        cell_term(corners, &prices, place, caps[1]),
+        cell_term(corners, &prices, place, caps[2]),
+        cell_term(corners, &prices, place, caps[3]),
     ]
 }
 
 // The term of a cell of this cap, by the place of the least corner.
-fn cell_term(corners: &[Point], prices: &Prices, place: usize, cap: &i64) -> Option<i128>
+fn cell_term(corners: &[Point], prices: &Prices, place: usize, cap: i64) -> Option<i128>
     requires lawful { AreLawfulCorners corners.now }
     requires prices { AreLawfulPrices prices.now.k prices.now.a prices.now.b }
     requires place { IsLeastPlace corners.now prices.now.k prices.now.a place }
-    requires cap { unsigned_abs cap.now ≤ MAX_CAP }
+    requires cap { unsigned_abs cap ≤ MAX_CAP }
     ensures term { (points : List Point) (a b : ℤ) → IsLowerHull points corners.now
-        → AreFreed prices.now.k a b prices.now.k prices.now.a prices.now.b → IsCellTerm points prices.now.k a b cap.now result }
+        → AreFreed prices.now.k a b prices.now.k prices.now.a prices.now.b → IsCellTerm points prices.now.k a b cap result }
     ensures size { IfSome result (λ m. unsigned_abs m ≤ MAX_TERM) }
 {
-    if *cap < 0 {
+    if cap < 0 {
         return None;
     }
     Some(reserved(corners, prices, place, cap))
 }
 
 // The same, of a cap that isn't below 0.
-fn reserved(corners: &[Point], prices: &Prices, place: usize, cap: &i64) -> i128
+fn reserved(corners: &[Point], prices: &Prices, place: usize, cap: i64) -> i128
     requires lawful { AreLawfulCorners corners.now }
     requires prices { AreLawfulPrices prices.now.k prices.now.a prices.now.b }
     requires place { IsLeastPlace corners.now prices.now.k prices.now.a place }
-    requires cap { unsigned_abs cap.now ≤ MAX_CAP }
-    requires sign { pos 0 ≤ℤ cap.now }
+    requires cap { unsigned_abs cap ≤ MAX_CAP }
+    requires sign { pos 0 ≤ℤ cap }
     ensures term { (points : List Point) (a b : ℤ) → IsLowerHull points corners.now
-        → AreFreed prices.now.k a b prices.now.k prices.now.a prices.now.b → IsTerm points prices.now.k a b cap.now result }
+        → AreFreed prices.now.k a b prices.now.k prices.now.a prices.now.b → IsTerm points prices.now.k a b cap result }
     ensures size { unsigned_abs result ≤ MAX_TERM }
 {
-    let reserve = product(prices.b, i128::from(*cap));
+    let reserve = product(prices.b, i128::from(cap));
     sum(least_cost(corners, prices, place, cap), reserve)
 }
 
 // The term without reserve.
-fn least_cost(corners: &[Point], prices: &Prices, place: usize, cap: &i64) -> i128
+fn least_cost(corners: &[Point], prices: &Prices, place: usize, cap: i64) -> i128
     requires lawful { AreLawfulCorners corners.now }
     requires prices { AreLawfulPrices prices.now.k prices.now.a prices.now.b }
     requires place { IsLeastPlace corners.now prices.now.k prices.now.a place }
-    requires cap { unsigned_abs cap.now ≤ MAX_CAP }
-    requires sign { pos 0 ≤ℤ cap.now }
-    ensures term { (points : List Point) → IsLowerHull points corners.now → IsTerm points prices.now.k prices.now.a (pos 0) cap.now result }
+    requires cap { unsigned_abs cap ≤ MAX_CAP }
+    requires sign { pos 0 ≤ℤ cap }
+    ensures term { (points : List Point) → IsLowerHull points corners.now → IsTerm points prices.now.k prices.now.a (pos 0) cap result }
     ensures size { unsigned_abs result ≤ MAX_LEAST }
 {
     if is_within(corners, place, cap) {
@@ -138,12 +138,12 @@ fn falls(corners: &[Point], prices: &Prices, place: usize) -> bool
 }
 
 // The corner left of one right of the cap from which the segment holds the cap, found by halving.
-fn cap_place(corners: &[Point], place: usize, cap: &i64) -> usize
+fn cap_place(corners: &[Point], place: usize, cap: i64) -> usize
     requires lawful { AreLawfulCorners corners.now }
     requires within { place < length corners.now }
-    requires sign { pos 0 ≤ℤ cap.now }
-    requires right { cap.now <ℤ output_of corners.now place }
-    ensures { HoldsCap corners.now cap.now result place }
+    requires sign { pos 0 ≤ℤ cap }
+    requires right { cap <ℤ output_of corners.now place }
+    ensures { HoldsCap corners.now cap result place }
 {
     let mut low = 0;
     let mut high = place;
@@ -159,13 +159,13 @@ fn cap_place(corners: &[Point], place: usize, cap: &i64) -> usize
 }
 
 // The cost on the segment from a corner at the cap, rounded down.
-fn segment_cost(corners: &[Point], prices: &Prices, left: usize, cap: &i64) -> i128
+fn segment_cost(corners: &[Point], prices: &Prices, left: usize, cap: i64) -> i128
     requires lawful { AreLawfulCorners corners.now }
     requires prices { AreLawfulPrices prices.now.k prices.now.a prices.now.b }
-    requires cap { unsigned_abs cap.now ≤ MAX_CAP }
-    requires segment { LiesOnSegment corners.now cap.now left }
+    requires cap { unsigned_abs cap ≤ MAX_CAP }
+    requires segment { LiesOnSegment corners.now cap left }
     ensures floor { IsFloor
-        ((corner_cost_of corners.now prices.now.k prices.now.a (suc left) -ℤ corner_cost_of corners.now prices.now.k prices.now.a left) *ℤ over_of corners.now cap.now left)
+        ((corner_cost_of corners.now prices.now.k prices.now.a (suc left) -ℤ corner_cost_of corners.now prices.now.k prices.now.a left) *ℤ over_of corners.now cap left)
         (run_of corners.now left)
         (result -ℤ corner_cost_of corners.now prices.now.k prices.now.a left) }
     ensures size { unsigned_abs result ≤ MAX_LEAST }
@@ -176,12 +176,12 @@ fn segment_cost(corners: &[Point], prices: &Prices, left: usize, cap: &i64) -> i
 }
 
 // How far the segment's scaled cost rises until the cap, rounded down.
-fn rise_down(corners: &[Point], prices: &Prices, left: usize, cap: &i64) -> i128
+fn rise_down(corners: &[Point], prices: &Prices, left: usize, cap: i64) -> i128
     requires lawful { AreLawfulCorners corners.now }
     requires prices { AreLawfulPrices prices.now.k prices.now.a prices.now.b }
-    requires cap { unsigned_abs cap.now ≤ MAX_CAP }
-    requires segment { LiesOnSegment corners.now cap.now left }
-    ensures floor { IsFloor ((prices.now.k *ℤ rise_of corners.now left) *ℤ over_of corners.now cap.now left) (run_of corners.now left) result }
+    requires cap { unsigned_abs cap ≤ MAX_CAP }
+    requires segment { LiesOnSegment corners.now cap left }
+    ensures floor { IsFloor ((prices.now.k *ℤ rise_of corners.now left) *ℤ over_of corners.now cap left) (run_of corners.now left) result }
     ensures size { unsigned_abs result ≤ MAX_RISE }
 {
     let rising = product(rise(corners, prices, left), over(corners, left, cap));
@@ -225,23 +225,23 @@ fn corner_cost(corners: &[Point], prices: &Prices, place: usize) -> i128
 }
 
 // How far a corner lies left of the cap.
-fn over(corners: &[Point], place: usize, cap: &i64) -> i128
+fn over(corners: &[Point], place: usize, cap: i64) -> i128
     requires lawful { AreLawfulCorners corners.now }
     requires within { place < length corners.now }
-    requires cap { unsigned_abs cap.now ≤ MAX_CAP }
-    ensures value { result ≡ over_of corners.now cap.now place }
+    requires cap { unsigned_abs cap ≤ MAX_CAP }
+    ensures value { result ≡ over_of corners.now cap place }
     ensures size { unsigned_abs result ≤ MAX_OVER }
 {
-    difference(i128::from(*cap), output(corners, place))
+    difference(i128::from(cap), output(corners, place))
 }
 
 // Whether a corner lies at or left of the cap.
-fn is_within(corners: &[Point], place: usize, cap: &i64) -> bool
+fn is_within(corners: &[Point], place: usize, cap: i64) -> bool
     requires lawful { AreLawfulCorners corners.now }
     requires within { place < length corners.now }
-    ensures { result ≡ int_le (output_of corners.now place) cap.now }
+    ensures { result ≡ int_le (output_of corners.now place) cap }
 {
-    output(corners, place) <= i128::from(*cap)
+    output(corners, place) <= i128::from(cap)
 }
 
 // A corner's output above the first one's.

@@ -56,9 +56,9 @@ fn row(table: &Table, g: u32, t: usize, now: &Multipliers, next: &Multipliers) -
     let demand = price_in(table.pi(), t);
     let reserve = price_in(table.mu(), t);
     (
-        output(&demand, now, next),
-        gap(&now.up, &reserve),
-        wide(&demand),
+        output(demand, now, next),
+        gap(now.up, reserve),
+        wide(demand),
     )
 }
 
@@ -70,10 +70,10 @@ fn price_in(prices: &[i64], t: usize) -> i64
 }
 
 // The price of output in a period of this price of demand.
-fn output(demand: &i64, now: &Multipliers, next: &Multipliers) -> i128
-    ensures { result ≡ now.now.up -ℤ demand.now -ℤ next.now.up -ℤ now.now.down +ℤ next.now.down }
+fn output(demand: i64, now: &Multipliers, next: &Multipliers) -> i128
+    ensures { result ≡ now.now.up -ℤ demand -ℤ next.now.up -ℤ now.now.down +ℤ next.now.down }
 {
-    let own = gap(&now.up, demand);
-    let later = gap(&next.down, &now.down);
-    difference(sum(own, later), wide(&next.up))
+    let own = gap(now.up, demand);
+    let later = gap(next.down, now.down);
+    difference(sum(own, later), wide(next.up))
 }

@@ -38,8 +38,8 @@ fn ramp_part(unit: &Thermal, now: &Multipliers) -> i128
     ensures value { result ≡ neg_ℤ (now.now.up *ℤ unit.now.ru) -ℤ now.now.down *ℤ unit.now.rd }
     ensures size { unsigned_abs result ≤ 2 ^ 108 }
 {
-    let rise = priced(&now.up, &unit.ru);
-    let fall = priced(&now.down, &unit.rd);
+    let rise = priced(now.up, unit.ru);
+    let fall = priced(now.down, unit.rd);
     difference(0, sum(rise, fall))
 }
 
@@ -50,7 +50,7 @@ fn initial_part(unit: &Thermal, first: &Multipliers) -> i128
     ensures size { unsigned_abs result ≤ 2 ^ 110 }
 {
     let output = initial_output(unit);
-    product(gap(&first.down, &first.up), wide(&output))
+    product(gap(first.down, first.up), wide(output))
 }
 
 // The initial output above the minimum.

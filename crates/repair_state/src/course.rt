@@ -108,7 +108,7 @@ fn fill_sums(hours: &mut [Hour], unit: &Unit, fix: &Decided, cells: &[Cells]) {
         hours[t].on_before = on;
         hours[t].off_before = off;
         if t < cells.len() {
-            on = on.wrapping_add(cost_on(&cells[t].plain, true, fix, t));
+            on = on.wrapping_add(cost_on(cells[t].plain, true, fix, t));
             off = off.wrapping_add(cost_off(unit, fix, t));
         }
     }
@@ -136,9 +136,9 @@ fn fill_ways(
 }
 
 // What a cell costs, if it is allowed and nothing else is decided.
-fn cost_on(cost: &i64, is_allowed: bool, fix: &Decided, t: usize) -> i64 {
+fn cost_on(cost: i64, is_allowed: bool, fix: &Decided, t: usize) -> i64 {
     if is_allowed && !is_barred(fix, t, true) {
-        (*cost).max(-MOST).min(MOST)
+        cost.max(-MOST).min(MOST)
     } else {
         BARRED
     }
@@ -183,7 +183,7 @@ fn hour_of(
     let later = hour_at(hours, next);
     let mut run = later.run.after(later.on_before.wrapping_sub(own.on_before));
     if next < end {
-        let stop = cost_on(&cell.stop, unit.stop >= 0, fix, t);
+        let stop = cost_on(cell.stop, unit.stop >= 0, fix, t);
         run = run.lesser(Way {
             cost: later.rest.cost.wrapping_add(stop),
             at: next,
@@ -213,12 +213,12 @@ fn hour_of(
 fn start_of(hours: &[Hour], unit: &Unit, fix: &Decided, cell: &Cells, t: usize, end: usize) -> Way {
     let next = t.saturating_add(1);
     let later = hour_at(hours, next);
-    let cost = cost_on(&cell.start, unit.start >= 0, fix, t);
+    let cost = cost_on(cell.start, unit.start >= 0, fix, t);
     let least = t.saturating_add(unit.up).max(next);
     let from = hour_at(hours, least.saturating_sub(1).max(next).min(end));
     let way = from.run.after(cost.wrapping_add(from.on_before.wrapping_sub(later.on_before)));
     if least == next && next < end {
-        let both = cost_on(&cell.both, unit.start >= 0 && unit.stop >= 0, fix, t);
+        let both = cost_on(cell.both, unit.start >= 0 && unit.stop >= 0, fix, t);
         way.lesser(Way {
             cost: later.rest.cost.wrapping_add(both),
             at: next,

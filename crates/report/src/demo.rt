@@ -15,7 +15,7 @@ fn put_outcome<O: Out>(out: &mut O, found: &Found)
     ensures { O.emits (outcome_summary found.now found.now.schedule) out.old out.new }
 {
     match &found.schedule {
-        Some((_, cost)) => put_summary(out, found, DEMO_GAP, cost),
+        Some((_, cost)) => put_summary(out, found, DEMO_GAP, *cost),
         None => put_no_summary(out, found, &found.tree.bound()),
     }
 }

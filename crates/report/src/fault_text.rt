@@ -198,13 +198,13 @@ fn put_rule<O: Out>(out: &mut O, rule: u8, unit: usize, period: usize)
     }
 }
 
-fn put_costs<O: Out>(out: &mut O, written: &i128, computed: &i64)
-    ensures { O.emits (costs_line written.now computed.now) out.old out.new }
+fn put_costs<O: Out>(out: &mut O, written: i128, computed: i64)
+    ensures { O.emits (costs_line written computed) out.old out.new }
 {
     out.put(b"certificate: C3 written ");
-    put_money(out, written);
+    put_money(out, &written);
     out.put(b" computed ");
-    put_amount(out, computed);
+    put_amount(out, &computed);
     out.put(b"\n");
 }
 
@@ -215,7 +215,7 @@ fn put_refusal<O: Out>(out: &mut O, refusal: &Refusal)
     match refusal {
         Refusal::C1 { table } => put_whole_line(out, b"certificate: C1 table", u64::from(*table)),
         Refusal::C2 { rule, unit, period } => put_rule(out, *rule, *unit, *period),
-        Refusal::C3 { written, computed } => put_costs(out, written, computed),
+        Refusal::C3 { written, computed } => put_costs(out, *written, *computed),
         Refusal::C4 { node } => put_whole_line(out, b"certificate: C4 node", *node),
         Refusal::C5 { node } => put_whole_line(out, b"certificate: C5 node", *node),
         Refusal::C6 { node } => put_whole_line(out, b"certificate: C6 node", *node),

@@ -52,13 +52,13 @@ fn put_evaluations<O: Out>(out: &mut O, found: &Found)
 }
 
 // What a report says of a schedule before its rows.
-pub(crate) fn put_summary<O: Out>(out: &mut O, found: &Found, gap: u32, cost: &i64)
+pub(crate) fn put_summary<O: Out>(out: &mut O, found: &Found, gap: u32, cost: i64)
     requires { gap ≤ WHOLE_GAP }
-    ensures { O.emits (schedule_summary found.now gap cost.now) out.old out.new }
+    ensures { O.emits (schedule_summary found.now gap cost) out.old out.new }
 {
     let bound = found.tree.bound();
-    put_state(out, is_within_gap(cost, &bound, gap));
-    put_money_line(out, b"cost", &i128::from(*cost));
+    put_state(out, is_within_gap(&cost, &bound, gap));
+    put_money_line(out, b"cost", &i128::from(cost));
     put_bound(out, &bound);
     put_evaluations(out, found);
 }
@@ -69,10 +69,10 @@ fn put_found_schedule<O: Out>(
     instance: &Instance,
     gap: u32,
     printed: &Printed,
-    cost: &i64,
+    cost: i64,
 )
     requires { gap ≤ WHOLE_GAP }
-    ensures { O.emits (schedule_report instance.now found.now gap printed.now cost.now) out.old out.new }
+    ensures { O.emits (schedule_report instance.now found.now gap printed.now cost) out.old out.new }
 {
     put_summary(out, found, gap, cost);
     put_schedule(out, instance, printed);
@@ -109,7 +109,7 @@ fn put_report<O: Out>(out: &mut O, found: &Found, instance: &Instance, rounded: 
     put_size(out, instance, rounded);
     match &found.schedule {
         Some((printed, cost)) => {
-            put_found_schedule(out, found, instance, gap, printed, cost);
+            put_found_schedule(out, found, instance, gap, printed, *cost);
         },
         None => put_no_schedule(out, found, instance),
     }

@@ -21,11 +21,11 @@ fn put_windows<O: Out>(out: &mut O, windows: u32)
 }
 
 // A schedule of all periods.
-fn put_whole<O: Out>(out: &mut O, instance: &Instance, schedule: &Printed, cost: &i64, windows: u32)
-    ensures { O.emits (whole_lines instance.now schedule.now cost.now windows) out.old out.new }
+fn put_whole<O: Out>(out: &mut O, instance: &Instance, schedule: &Printed, cost: i64, windows: u32)
+    ensures { O.emits (whole_lines instance.now schedule.now cost windows) out.old out.new }
 {
     put_windows(out, windows);
-    put_money_line(out, b"cost", &i128::from(*cost));
+    put_money_line(out, b"cost", &i128::from(cost));
     put_schedule(out, instance, schedule);
 }
 
@@ -59,7 +59,7 @@ fn put_outcome<O: Out>(out: &mut O, instance: &Instance, rolled: &Rolled)
             schedule,
             cost,
             windows,
-        } => put_whole(out, instance, schedule, cost, *windows),
+        } => put_whole(out, instance, schedule, *cost, *windows),
         Rolled::Stopped {
             window,
             from,

@@ -27,16 +27,16 @@ fn put_thermal<O: Out>(out: &mut O, instance: &Instance, unit: usize)
 }
 
 // A power that doesn't fit another one.
-fn put_misfit<O: Out>(out: &mut O, what: &[u8], power: &i64, relation: &[u8], other: &i64)
-    ensures { O.emits (line what.now (money_text power.now ∷ relation.now ∷ money_text other.now ∷ [])) out.old out.new }
+fn put_misfit<O: Out>(out: &mut O, what: &[u8], power: i64, relation: &[u8], other: i64)
+    ensures { O.emits (line what.now (money_text power ∷ relation.now ∷ money_text other ∷ [])) out.old out.new }
 {
     out.put(what);
     out.put(b" ");
-    put_amount(out, power);
+    put_amount(out, &power);
     out.put(b" ");
     out.put(relation);
     out.put(b" ");
-    put_amount(out, other);
+    put_amount(out, &other);
     out.put(b"\n");
 }
 
@@ -59,12 +59,12 @@ fn put_why<O: Out>(out: &mut O, instance: &Instance, why: &Why)
             out.put(b" above its minimum\n");
         }
         Why::Over { least, demand } => {
-            put_misfit(out, b"least output", least, b"above demand", demand);
+            put_misfit(out, b"least output", *least, b"above demand", *demand);
         }
         Why::Under { most, demand } => {
-            put_misfit(out, b"most output", most, b"below demand", demand);
+            put_misfit(out, b"most output", *most, b"below demand", *demand);
         }
-        Why::Reserve { room, need } => put_misfit(out, b"reserve", room, b"below need", need),
+        Why::Reserve { room, need } => put_misfit(out, b"reserve", *room, b"below need", *need),
     }
 }
 

@@ -34,12 +34,12 @@ fn wide_digits(buffer: &mut Buffer, number: i128) -> &[u8]
 }
 
 // A line of one number, after its first word.
-fn put_number<O: Out>(out: &mut O, first: &[u8], number: &i128)
-    ensures { O.emits (line first.now (signed_text number.now ∷ [])) out.old out.new }
+fn put_number<O: Out>(out: &mut O, first: &[u8], number: i128)
+    ensures { O.emits (line first.now (signed_text number ∷ [])) out.old out.new }
 {
     out.put(first);
     out.put(b" ");
-    out.put(wide_digits(&mut Buffer::new(), *number));
+    out.put(wide_digits(&mut Buffer::new(), number));
     out.put(b"\n");
 }
 
@@ -59,7 +59,7 @@ impl Form<i64> for Price {
 fn put_prices<O: Out>(out: &mut O, table: &Table)
     ensures { O.emits (price_lines table.now) out.old out.new }
 {
-    put_number(out, b"scale", &i128::from(table.k()));
+    put_number(out, b"scale", i128::from(table.k()));
     put_list_line(out, b"price", &Price, table.pi());
     put_list_line(out, b"reserve-price", &Price, table.mu());
 }
@@ -73,7 +73,7 @@ impl PairForm<Thermal, i128> for ThermalUplift {
 
     fn put_pair<O: Out>(&self, unit: &Thermal, uplift: &i128, out: &mut O) {
         put_unit(out, b"thermal", unit.name.as_str());
-        put_number(out, b"", uplift);
+        put_number(out, b"", *uplift);
     }
 }
 
@@ -86,7 +86,7 @@ impl PairForm<Renewable, i128> for RenewableUplift {
 
     fn put_pair<O: Out>(&self, unit: &Renewable, uplift: &i128, out: &mut O) {
         put_unit(out, b"renewable", unit.name.as_str());
-        put_number(out, b"", uplift);
+        put_number(out, b"", *uplift);
     }
 }
 
@@ -97,8 +97,8 @@ fn has_shortage_price(instance: &Instance) -> bool
     instance.a > 0 || instance.b > 0
 }
 
-fn put_shed<O: Out>(out: &mut O, instance: &Instance, shed: &i128)
-    ensures { O.emits (shed_uplift_line instance.now shed.now) out.old out.new }
+fn put_shed<O: Out>(out: &mut O, instance: &Instance, shed: i128)
+    ensures { O.emits (shed_uplift_line instance.now shed) out.old out.new }
 {
     if has_shortage_price(instance) {
         put_number(out, b"shed", shed);
@@ -121,10 +121,10 @@ fn put_uplift<O: Out>(out: &mut O, instance: &Instance, table: &Table, numbers: 
         instance.renewable.as_slice(),
         numbers.renewable.as_slice(),
     );
-    put_shed(out, instance, &numbers.shed);
-    put_number(out, b"reserve-slack", &numbers.reserve_slack);
-    put_number(out, b"ramp-slack", &numbers.ramp_slack);
-    put_number(out, b"total", &numbers.total);
+    put_shed(out, instance, numbers.shed);
+    put_number(out, b"reserve-slack", numbers.reserve_slack);
+    put_number(out, b"ramp-slack", numbers.ramp_slack);
+    put_number(out, b"total", numbers.total);
 }
 
 /// Writes the uplifts of a schedule of the instance at the prices of the table. It takes no memory.

@@ -54,7 +54,7 @@ fn is_balanced(instance: &Instance, printed: &Printed, t: usize) -> bool
     requires period { t < instance.now.periods }
     ensures { result ≡ demand_holds (over printed.now.denominator) instance.now printed.now t }
 {
-    served(instance, printed, t) == numerator(printed.denominator, &instance.demand.as_slice()[t])
+    served(instance, printed, t) == numerator(printed.denominator, instance.demand.as_slice()[t])
 }
 
 // What all units give in period t, with the demand that stays unserved.
@@ -91,7 +91,7 @@ fn has_reserve(instance: &Instance, printed: &Printed, t: usize) -> bool
     requires period { t < instance.now.periods }
     ensures { result ≡ reserve_holds (over printed.now.denominator) instance.now printed.now t }
 {
-    numerator(printed.denominator, &instance.reserves.as_slice()[t]) <= held(instance, printed, t)
+    numerator(printed.denominator, instance.reserves.as_slice()[t]) <= held(instance, printed, t)
 }
 
 // The reserve in period t, with what is missing of it.
@@ -163,8 +163,8 @@ fn given(kind: Kind, instance: &Instance, printed: &Printed, i: usize, t: usize)
 {
     match kind {
         Kind::Thermal => thermal_output(instance, printed, i, t),
-        Kind::Reserve => wide(&cell(printed, i, t).r),
-        Kind::Renewable => wide(&output(printed, i, t)),
+        Kind::Reserve => wide(cell(printed, i, t).r),
+        Kind::Renewable => wide(output(printed, i, t)),
     }
 }
 
@@ -178,24 +178,21 @@ fn thermal_output(instance: &Instance, printed: &Printed, g: usize, t: usize) ->
     ensures size { unsigned_abs result ≤ MOST_OUTPUT }
 {
     let minimum = instance.thermal.as_slice()[g].pmin;
-    total_output(printed.denominator, &minimum, &cell(printed, g, t))
+    total_output(printed.denominator, minimum, &cell(printed, g, t))
 }
 
-fn total_output(denominator: u8, minimum: &i64, cell: &Cell) -> i128
-    ensures value { result ≡ cell.now.p +ℤ over denominator (minimum.now *ℤ bit cell.now.on) }
+fn total_output(denominator: u8, minimum: i64, cell: &Cell) -> i128
+    ensures value { result ≡ cell.now.p +ℤ over denominator (minimum *ℤ bit cell.now.on) }
     ensures size { unsigned_abs result ≤ MOST_OUTPUT }
 {
-    sum(
-        wide(&cell.p),
-        numerator(denominator, &part(minimum, cell.on)),
-    )
+    sum(wide(cell.p), numerator(denominator, part(minimum, cell.on)))
 }
 
 // A unit's minimum where it is on, and else 0.
-fn part(minimum: &i64, on: bool) -> i64
-    ensures { result ≡ minimum.now *ℤ bit on }
+fn part(minimum: i64, on: bool) -> i64
+    ensures { result ≡ minimum *ℤ bit on }
 {
-    if on { *minimum } else { 0 }
+    if on { minimum } else { 0 }
 }
 
 // The cell of thermal unit g in period t.
@@ -217,9 +214,9 @@ fn output(printed: &Printed, w: usize, t: usize) -> i64
 }
 
 // A number of a schedule in 128 bits.
-fn wide(number: &i64) -> i128
-    ensures value { result ≡ number.now }
+fn wide(number: i64) -> i128
+    ensures value { result ≡ number }
     ensures size { unsigned_abs result ≤ 2 ^ 63 }
 {
-    i128::from(*number)
+    i128::from(number)
 }

@@ -22,7 +22,7 @@ pub(crate) fn production(denominator: u8, unit: &Thermal, row: &[Cell], t: usize
 {
     let cell = &row[t];
     if cell.on {
-        is_on_hull(denominator, unit, &cell.p) && 0 <= cell.r
+        is_on_hull(denominator, unit, cell.p) && 0 <= cell.r
     } else {
         cell.p == 0 && cell.r == 0
     }
@@ -37,7 +37,7 @@ pub(crate) fn start_cap(denominator: u8, unit: &Thermal, row: &[Cell], t: usize)
 {
     let full = range(unit, row[t].on);
     let cap = reduced(&full, &start_reduction(unit), starts(unit, row, t));
-    is_at_most(denominator, &head(&row[t]), &cap)
+    is_at_most(denominator, head(&row[t]), cap)
 }
 
 /// M10: they are within the range, and in the period before a stop within the shut-down limit.
@@ -58,8 +58,8 @@ pub(crate) fn ramp_up(denominator: u8, unit: &Thermal, row: &[Cell], t: usize) -
     ensures { result ≡ ramp_up_by (over denominator) unit.now row.now t }
 {
     let before = output_before(denominator, unit, row, t);
-    let limit = numerator(denominator, &unit.ru);
-    is_rise_within(&before, &wide(&head(&row[t])), &limit)
+    let limit = numerator(denominator, unit.ru);
+    is_rise_within(before, wide(head(&row[t])), limit)
 }
 
 /// M12: output falls by no more than the ramp-down limit.
@@ -69,25 +69,25 @@ pub(crate) fn ramp_down(denominator: u8, unit: &Thermal, row: &[Cell], t: usize)
     ensures { result ≡ ramp_down_by (over denominator) unit.now row.now t }
 {
     let before = output_before(denominator, unit, row, t);
-    let limit = numerator(denominator, &unit.rd);
-    is_rise_within(&wide(&row[t].p), &before, &limit)
+    let limit = numerator(denominator, unit.rd);
+    is_rise_within(wide(row[t].p), before, limit)
 }
 
 // Whether one output is above another by no more than a limit.
-fn is_rise_within(from: &i128, to: &i128, limit: &i128) -> bool
-    requires from { unsigned_abs from.now ≤ 2 ^ 71 }
-    requires to { unsigned_abs to.now ≤ 2 ^ 71 }
-    ensures { result ≡ int_le (to.now -ℤ from.now) limit.now }
+fn is_rise_within(from: i128, to: i128, limit: i128) -> bool
+    requires from { unsigned_abs from ≤ 2 ^ 71 }
+    requires to { unsigned_abs to ≤ 2 ^ 71 }
+    ensures { result ≡ int_le (to -ℤ from) limit }
 {
-    *to - *from <= *limit
+    to - from <= limit
 }
 
 // Whether an output lies between the outputs of the unit's first and last point.
-fn is_on_hull(denominator: u8, unit: &Thermal, p: &i64) -> bool
+fn is_on_hull(denominator: u8, unit: &Thermal, p: i64) -> bool
     requires { IsLawfulThermal unit.now }
-    ensures { result ≡ (int_le (pos 0) p.now && int_le p.now (over denominator (width_of unit.now.points))) }
+    ensures { result ≡ (int_le (pos 0) p && int_le p (over denominator (width_of unit.now.points))) }
 {
-    0 <= *p && is_at_most(denominator, p, &width(unit.points.as_slice()))
+    0 <= p && is_at_most(denominator, p, width(unit.points.as_slice()))
 }
 
 // M10 where a period follows.
@@ -99,15 +99,15 @@ fn is_below_stop_cap(denominator: u8, unit: &Thermal, row: &[Cell], t: usize) ->
 {
     let full = range(unit, row[t].on);
     let cap = reduced(&full, &stop_reduction(unit), stops(unit, row, t + 1));
-    is_at_most(denominator, &head(&row[t]), &cap)
+    is_at_most(denominator, head(&row[t]), cap)
 }
 
 // A number in 128 bits.
-fn wide(number: &i64) -> i128
-    ensures value { result ≡ number.now }
+fn wide(number: i64) -> i128
+    ensures value { result ≡ number }
     ensures size { unsigned_abs result ≤ 2 ^ 71 }
 {
-    i128::from(*number)
+    i128::from(number)
 }
 
 // The output of a cell with its reserve.
@@ -127,9 +127,9 @@ fn output_before(denominator: u8, unit: &Thermal, row: &[Cell], t: usize) -> i12
     ensures size { unsigned_abs result ≤ 2 ^ 71 }
 {
     if t == 0 {
-        numerator(denominator, &initial_output(unit))
+        numerator(denominator, initial_output(unit))
     } else {
-        wide(&row[t - 1].p)
+        wide(row[t - 1].p)
     }
 }
 

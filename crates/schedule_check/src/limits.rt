@@ -11,18 +11,18 @@ use uc_model::limits::MAX_POWER;
 use uc_model::{Point, Thermal, scaled};
 
 /// A power in watts by its numerator over a denominator.
-pub(crate) fn numerator(denominator: u8, power: &i64) -> i128
-    ensures value { result ≡ over denominator power.now }
+pub(crate) fn numerator(denominator: u8, power: i64) -> i128
+    ensures value { result ≡ over denominator power }
     ensures size { unsigned_abs result ≤ 2 ^ 71 }
 {
-    scaled(i64::from(denominator), *power)
+    scaled(i64::from(denominator), power)
 }
 
 /// Whether a numerator is at most that of a limit.
-pub(crate) fn is_at_most(denominator: u8, number: &i64, limit: &i64) -> bool
-    ensures { result ≡ int_le number.now (over denominator limit.now) }
+pub(crate) fn is_at_most(denominator: u8, number: i64, limit: i64) -> bool
+    ensures { result ≡ int_le number (over denominator limit) }
 {
-    i128::from(*number) <= numerator(denominator, limit)
+    i128::from(number) <= numerator(denominator, limit)
 }
 
 /// What the unit gives initially above its minimum, in watts: 0 where it is off.

@@ -126,7 +126,7 @@ fn cell_cost(
     ensures size { unsigned_abs result ≤ MOST_CELL_COST }
 {
     let production = production_cost(denominator, unit, curve, known, cell);
-    sum(wide(&production), wide(&category_cost(unit, cell.category)))
+    sum(wide(production), wide(category_cost(unit, cell.category)))
 }
 
 // What its output costs.
@@ -197,16 +197,16 @@ pub fn shortages_cost(denominator: u8, instance: &Instance, shed: &[i64], short:
     for t in 0..instance.periods as usize {
         total = sum(
             total,
-            shortage_cost(denominator, instance, &shed[t], &short[t]),
+            shortage_cost(denominator, instance, shed[t], short[t]),
         );
     }
     total
 }
 
 // What it costs in a period.
-fn shortage_cost(denominator: u8, instance: &Instance, shed: &i64, short: &i64) -> i128
+fn shortage_cost(denominator: u8, instance: &Instance, shed: i64, short: i64) -> i128
     requires { 1 ≤ denominator }
-    ensures value { result ≡ quotient_up (pos instance.now.a *ℤ shed.now) (pos denominator) +ℤ quotient_up (pos instance.now.b *ℤ short.now) (pos denominator) }
+    ensures value { result ≡ quotient_up (pos instance.now.a *ℤ shed) (pos denominator) +ℤ quotient_up (pos instance.now.b *ℤ short) (pos denominator) }
     ensures size { unsigned_abs result ≤ 2 * MOST_MISSING_COST }
 {
     sum(
@@ -216,28 +216,28 @@ fn shortage_cost(denominator: u8, instance: &Instance, shed: &i64, short: &i64) 
 }
 
 // What is missing over the denominator costs at the price of a watt, rounded up.
-fn missing_cost(denominator: u8, price: u32, missing: &i64) -> i128
+fn missing_cost(denominator: u8, price: u32, missing: i64) -> i128
     requires { 1 ≤ denominator }
-    ensures value { result ≡ quotient_up (pos price *ℤ missing.now) (pos denominator) }
+    ensures value { result ≡ quotient_up (pos price *ℤ missing) (pos denominator) }
     ensures size { unsigned_abs result ≤ MOST_MISSING_COST }
 {
     ceil_div(cost_over(price, missing), i128::from(denominator))
 }
 
 // The same by its numerator.
-fn cost_over(price: u32, missing: &i64) -> i128
-    ensures value { result ≡ pos price *ℤ missing.now }
+fn cost_over(price: u32, missing: i64) -> i128
+    ensures value { result ≡ pos price *ℤ missing }
     ensures size { unsigned_abs result ≤ MOST_MISSING_COST }
 {
-    scaled(i64::from(price), *missing)
+    scaled(i64::from(price), missing)
 }
 
 // A cost in 128 bits.
-fn wide(cost: &i64) -> i128
-    ensures value { result ≡ cost.now }
+fn wide(cost: i64) -> i128
+    ensures value { result ≡ cost }
     ensures size { unsigned_abs result ≤ 2 ^ 63 }
 {
-    i128::from(*cost)
+    i128::from(cost)
 }
 
 // What a start of the category costs; 0 is no start.

@@ -54,13 +54,13 @@ fn is_within(denominator: u8, unit: &Renewable, outputs: &[i64], t: usize) -> bo
     ensures { result ≡ is_output_within (over denominator) unit.now outputs.now t }
 {
     let least = unit.minimum.as_slice()[t].max(0);
-    is_at_least(denominator, &outputs[t], &least)
-        && is_at_most(denominator, &outputs[t], &unit.maximum.as_slice()[t])
+    is_at_least(denominator, outputs[t], least)
+        && is_at_most(denominator, outputs[t], unit.maximum.as_slice()[t])
 }
 
 // Whether a numerator is at least that of a limit.
-fn is_at_least(denominator: u8, number: &i64, limit: &i64) -> bool
-    ensures { result ≡ int_le (over denominator limit.now) number.now }
+fn is_at_least(denominator: u8, number: i64, limit: i64) -> bool
+    ensures { result ≡ int_le (over denominator limit) number }
 {
-    numerator(denominator, limit) <= i128::from(*number)
+    numerator(denominator, limit) <= i128::from(number)
 }

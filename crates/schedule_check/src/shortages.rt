@@ -45,7 +45,7 @@ fn first_outside(denominator: u8, price: u32, needs: &[i64], missing: &[i64]) ->
     ensures { IsFirstFailure (length missing.now) (is_shortage_within (over denominator) price needs.now missing.now) result }
 {
     for t in 0..missing.len() {
-        if !is_within(denominator, price, &needs[t], &missing[t]) {
+        if !is_within(denominator, price, needs[t], missing[t]) {
             return Some(t);
         }
     }
@@ -53,9 +53,9 @@ fn first_outside(denominator: u8, price: u32, needs: &[i64], missing: &[i64]) ->
 }
 
 // Whether what is missing of a need isn't below 0 nor above the need, and is 0 where it has no price.
-fn is_within(denominator: u8, price: u32, need: &i64, missing: &i64) -> bool
-    ensures { result ≡ (int_le (pos 0) missing.now && int_le missing.now (over denominator (int_max need.now (pos 0))) && (nat_lt 0 price || int_eq missing.now (pos 0))) }
+fn is_within(denominator: u8, price: u32, need: i64, missing: i64) -> bool
+    ensures { result ≡ (int_le (pos 0) missing && int_le missing (over denominator (int_max need (pos 0))) && (nat_lt 0 price || int_eq missing (pos 0))) }
 {
-    let most = (*need).max(0);
-    0 <= *missing && is_at_most(denominator, missing, &most) && (price > 0 || *missing == 0)
+    let most = need.max(0);
+    0 <= missing && is_at_most(denominator, missing, most) && (price > 0 || missing == 0)
 }

@@ -85,7 +85,7 @@ fn are_limits(rows: &[List<i64>]) -> bool
 fn is_limit_row(outputs: &[i64]) -> bool
     ensures { IsTrue result → All IsLimit outputs.now }
 {
-    outputs.iter().all(|output| is_limit(output))
+    outputs.iter().all(|&output| is_limit(output))
 }
 
 // Whether what is missing of demand and of reserve is within its limits.
@@ -108,7 +108,7 @@ fn is_plain(cell: &Cell) -> bool
 fn has_limits(cell: &Cell) -> bool
     ensures { IsTrue result → (IsLimit cell.now.p × IsLimit cell.now.r × IsLimit (cell.now.p +ℤ cell.now.r)) }
 {
-    is_limit(&cell.p) && is_limit(&cell.r) && is_limit(&(cell.p + cell.r))
+    is_limit(cell.p) && is_limit(cell.r) && is_limit(cell.p + cell.r)
 }
 
 // Whether a cell has no number.
@@ -119,8 +119,8 @@ fn is_idle(cell: &Cell) -> bool
 }
 
 // Whether a number is at least 0 and within the limit on a power.
-fn is_limit(number: &i64) -> bool
-    ensures { IsTrue result → IsLimit number.now }
+fn is_limit(number: i64) -> bool
+    ensures { IsTrue result → IsLimit number }
 {
-    0 <= *number && *number <= MAX_POWER as i64
+    0 <= number && number <= MAX_POWER as i64
 }

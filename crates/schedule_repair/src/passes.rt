@@ -111,14 +111,14 @@ pub(crate) fn set_soft_prices(market: &Market, periods: &mut [Period], table: &T
     };
     let prices = table.mu();
     for t in 0..periods.len().min(prices.len()) {
-        let rate = least.max(rate_of(&prices[t], table.k()));
+        let rate = least.max(rate_of(prices[t], table.k()));
         periods[t].reserve_rate = rate.min(most);
     }
 }
 
 // The rate of a price at a scale.
-fn rate_of(price: &i64, scale: i64) -> i64 {
-    let rate = i128::from(*price).saturating_mul(i128::from(PART)) / i128::from(scale.max(1));
+fn rate_of(price: i64, scale: i64) -> i64 {
+    let rate = i128::from(price).saturating_mul(i128::from(PART)) / i128::from(scale.max(1));
     rate_within(&rate)
 }
 

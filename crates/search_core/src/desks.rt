@@ -19,9 +19,9 @@ pub(crate) fn see(desks: &mut Vec<Desk>, worker: u8, seen: &Option<i64>)
 }
 
 /// Says that the worker has seen this cost too.
-pub(crate) fn see_cost(desks: &mut Vec<Desk>, worker: u8, cost: &i64)
+pub(crate) fn see_cost(desks: &mut Vec<Desk>, worker: u8, cost: i64)
     requires { worker < vec_len desks.old }
-    ensures { desks.new.items ≡ with_desk desks.old.items worker (λ desk. record desk { seen = lesser_bound desk.seen (Some cost.now) }) }
+    ensures { desks.new.items ≡ with_desk desks.old.items worker (λ desk. record desk { seen = lesser_bound desk.seen (Some cost) }) }
 {
     let seen = &mut desks[worker as usize].seen;
     *seen = costs::least(seen, cost);

@@ -54,13 +54,13 @@ pub(crate) fn add_entry(
 }
 
 /// Notes the scale of the table of an entry of the node.
-pub(crate) fn add_scale(notes: &mut Vec<Note>, node: u32, scale: &i64)
+pub(crate) fn add_scale(notes: &mut Vec<Note>, node: u32, scale: i64)
     requires { node < vec_len notes.old }
-    ensures notes { notes.new.items ≡ with_note notes.old.items node (λ note. record note { greatest = int_max note.greatest scale.now }) }
+    ensures notes { notes.new.items ≡ with_note notes.old.items node (λ note. record note { greatest = int_max note.greatest scale }) }
     ensures capacity { vec_capacity notes.new ≡ vec_capacity notes.old }
 {
     let note = &mut notes[node as usize];
-    note.greatest = note.greatest.max(*scale);
+    note.greatest = note.greatest.max(scale);
 }
 
 /// Whether none of the node's entries is at this table with a value of this kind.

@@ -21,10 +21,10 @@ fn enter<T: Drop>(
     tables: &mut List<T>,
     entry: Entry,
     table: T,
-    scale: &i64,
+    scale: i64,
 ) -> Result<(), NoMemory>
     requires { entry.node < vec_len notes.old }
-    ensures notes { OnOk result (notes.new.items ≡ with_note notes.old.items entry.node (λ note. with_entry note (trial_of entry) scale.now)) }
+    ensures notes { OnOk result (notes.new.items ≡ with_note notes.old.items entry.node (λ note. with_entry note (trial_of entry) scale)) }
     ensures log { OnOk result (log.new ≡ log.old ++ entry ∷ []) }
     ensures tables { OnOk result (tables.new ≡ tables.old ++ table ∷ []) }
     ensures same { OnErr result ((notes.new.items ≡ notes.old.items) × (log.new ≡ log.old) × (tables.new ≡ tables.old)) }
@@ -54,12 +54,12 @@ pub(crate) fn record<T: Drop>(
     tickets: &[u32],
     entry: Entry,
     table: T,
-    scale: &i64,
+    scale: i64,
 ) -> Result<(), NoMemory>
     requires worker { entry.worker < vec_len desks.old }
     requires node { entry.node < vec_len notes.old }
     ensures desks { OnOk result (desks.new.items ≡ with_desk desks.old.items entry.worker (λ desk. with_tickets desk tickets.now)) }
-    ensures notes { OnOk result (notes.new.items ≡ with_note notes.old.items entry.node (λ note. with_entry note (trial_of entry) scale.now)) }
+    ensures notes { OnOk result (notes.new.items ≡ with_note notes.old.items entry.node (λ note. with_entry note (trial_of entry) scale)) }
     ensures log { OnOk result (log.new ≡ log.old ++ entry ∷ []) }
     ensures tables { OnOk result (tables.new ≡ tables.old ++ table ∷ []) }
     ensures same_desks { OnErr result (desks.new.items ≡ desks.old.items) }

@@ -346,7 +346,7 @@ impl State {
         requires { IsWorker self.now worker }
         ensures { IsTrue result ↔ MayPrune (HasSeen self.now worker) self.now.gap stored.now seen.now }
     {
-        costs::is_cost(&self.desks[worker as usize].seen, seen)
+        costs::is_cost(&self.desks[worker as usize].seen, *seen)
             && is_within_gap(seen, &Some(stored.value), self.gap)
     }
 
@@ -438,7 +438,7 @@ impl State {
                 action,
             } => self.commit(alloc, worker, unit, table, exact, &outcome, &action),
             Event::Publish { worker, cost } => {
-                self.publish(worker, &cost);
+                self.publish(worker, cost);
                 Ok(())
             }
             Event::Look { worker } => {
@@ -502,7 +502,7 @@ impl State {
             children,
             entry,
             table,
-            &scale,
+            scale,
         )?;
         moves::make(
             &mut self.tree,
@@ -520,9 +520,9 @@ impl State {
     }
 
     // Publishes a cost.
-    fn publish(&mut self, worker: u8, cost: &i64)
+    fn publish(&mut self, worker: u8, cost: i64)
         requires { IsWorker self.old worker }
-        ensures { self.new ≡ after self.old (event.Publish worker cost.now) }
+        ensures { self.new ≡ after self.old (event.Publish worker cost) }
     {
         self.best = costs::least(&self.best, cost);
         desks::see_cost(&mut self.desks, worker, cost);

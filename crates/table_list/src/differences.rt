@@ -12,10 +12,9 @@ use dual_model::{RampRow, Table};
 use uc_model::NoMemory;
 
 // The change of a price.
-fn new_price(prices: Prices, t: usize, price: &i64) -> Change
-    ensures { change_of result ≡ price_change prices t price.now }
+fn new_price(prices: Prices, t: usize, price: i64) -> Change
+    ensures { change_of result ≡ price_change prices t price }
 {
-    let price = *price;
     match prices {
         Prices::Demand => Change::Demand { t, price },
         Prices::Reserve => Change::Reserve { t, price },
@@ -27,12 +26,12 @@ fn push_price(
     changes: &mut Vec<Change>,
     prices: Prices,
     t: usize,
-    old: &i64,
-    new: &i64,
+    old: i64,
+    new: i64,
 ) -> Result<(), NoMemory>
-    ensures { OnOk result (changes_of changes.new.items ≡ changes_of changes.old.items ++ told_price (price_change prices) t old.now new.now) }
+    ensures { OnOk result (changes_of changes.new.items ≡ changes_of changes.old.items ++ told_price (price_change prices) t old new) }
 {
-    if *old != *new {
+    if old != new {
         changes.push(new_price(prices, t, new))?;
     }
     Ok(())
@@ -48,7 +47,7 @@ fn push_prices(
     ensures { OnOk result (changes_of changes.new.items ≡ changes_of changes.old.items ++ price_changes (price_change prices) 0 olds.now news.now) }
 {
     for t in 0..olds.len().min(news.len()) {
-        push_price(changes, prices, t, &olds[t], &news[t])?;
+        push_price(changes, prices, t, olds[t], news[t])?;
     }
     Ok(())
 }

@@ -101,7 +101,7 @@ impl TableList {
         ensures { IfOk result (λ table. (d : PriceTable) → table ≡ slice_index_or self.now number d) }
     {
         let entry = &self.kept.entries[number];
-        let mut numbers = Numbers::of(alloc, &self.kept.wholes[entry.whole], &entry.k)?;
+        let mut numbers = Numbers::of(alloc, &self.kept.wholes[entry.whole], entry.k)?;
         numbers.make_all(&self.kept.changes[entry.from..entry.end])?;
         numbers.table(alloc)
     }

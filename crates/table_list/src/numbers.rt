@@ -33,11 +33,11 @@ fn copied<T: Copy>(alloc: Global, items: &[T]) -> Result<Vec<T>, NoMemory>
 }
 
 // Sets the price of period t, where there is that period.
-fn set_price(prices: &mut Vec<i64>, t: usize, price: &i64)
-    ensures { prices.new.items ≡ slice_set prices.old.items t price.now }
+fn set_price(prices: &mut Vec<i64>, t: usize, price: i64)
+    ensures { prices.new.items ≡ slice_set prices.old.items t price }
 {
     if t < prices.len() {
-        prices[t] = *price;
+        prices[t] = price;
     }
 }
 
@@ -106,13 +106,13 @@ fn is_none(row: &RampRow) -> bool
 
 impl Numbers {
     /// Those of a table, with this scale.
-    pub(crate) fn of(alloc: Global, table: &Table, k: &i64) -> Result<Numbers, NoMemory>
-        ensures numbers { IfOk result (λ numbers. numbered numbers ≡ with_scale table.now k.now) }
+    pub(crate) fn of(alloc: Global, table: &Table, k: i64) -> Result<Numbers, NoMemory>
+        ensures numbers { IfOk result (λ numbers. numbered numbers ≡ with_scale table.now k) }
         ensures rising { IfOk result (λ numbers. AreRising numbers.ramps.items) }
     {
         Ok(Numbers {
             units: table.units(),
-            k: *k,
+            k,
             pi: copied(alloc, table.pi())?,
             mu: copied(alloc, table.mu())?,
             ramps: copied(alloc, table.ramps())?,
@@ -125,8 +125,8 @@ impl Numbers {
         ensures { OnOk result (numbered self.new ≡ changed (numbered self.old) (change_of change.now)) }
     {
         match change {
-            Change::Demand { t, price } => set_price(&mut self.pi, *t, price),
-            Change::Reserve { t, price } => set_price(&mut self.mu, *t, price),
+            Change::Demand { t, price } => set_price(&mut self.pi, *t, *price),
+            Change::Reserve { t, price } => set_price(&mut self.mu, *t, *price),
             Change::Ramps(row) => set_row(&mut self.ramps, row)?,
         }
         Ok(())

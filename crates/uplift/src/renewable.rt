@@ -70,32 +70,32 @@ fn period_uplift(instance: &Instance, printed: &Printed, table: &Table, w: usize
     let unit = &instance.renewable.as_slice()[w];
     let price = table.pi()[t];
     let best = best(
-        &price,
-        &unit.minimum.as_slice()[t],
-        &unit.maximum.as_slice()[t],
+        price,
+        unit.minimum.as_slice()[t],
+        unit.maximum.as_slice()[t],
     );
-    gained(&price, &best, &output(printed, w, t))
+    gained(price, best, output(printed, w, t))
 }
 
 // The output that pays best at a price: the greatest where it is above 0, and else the least.
-fn best(price: &i64, least: &i64, most: &i64) -> i64
-    requires least { IsPower least.now }
-    requires most { IsPower most.now }
-    ensures value { result ≡ best_output price.now least.now most.now }
+fn best(price: i64, least: i64, most: i64) -> i64
+    requires least { IsPower least }
+    requires most { IsPower most }
+    ensures value { result ≡ best_output price least most }
     ensures size { IsPower result }
 {
-    if *price > 0 { *most } else { (*least).max(0) }
+    if price > 0 { most } else { least.max(0) }
 }
 
 // What an output in place of another gains.
-fn gained(price: &i64, best: &i64, output: &i64) -> i128
-    requires price { IsPrice price.now }
-    requires best { IsPower best.now }
-    requires output { IsSized output.now }
-    ensures value { result ≡ price.now *ℤ (best.now -ℤ output.now) }
+fn gained(price: i64, best: i64, output: i64) -> i128
+    requires price { IsPrice price }
+    requires best { IsPower best }
+    requires output { IsSized output }
+    ensures value { result ≡ price *ℤ (best -ℤ output) }
     ensures size { unsigned_abs result ≤ MAX_PRICED }
 {
-    scaled(*price, *best - *output)
+    scaled(price, best - output)
 }
 
 // The output of unit w in period t.

@@ -42,17 +42,17 @@ fn period_slack(instance: &Instance, printed: &Printed, table: &Table, t: usize)
     ensures value { result ≡ reserve_slack_at instance.now printed.now table.now t }
     ensures size { unsigned_abs result ≤ MAX_SLACK }
 {
-    slack(&table.mu()[t], &spare(instance, printed, t))
+    slack(table.mu()[t], spare(instance, printed, t))
 }
 
 // A spare at a multiplier.
-fn slack(multiplier: &i64, spare: &i128) -> i128
-    requires multiplier { IsPrice multiplier.now }
-    requires spare { unsigned_abs spare.now ≤ MAX_SPARE }
-    ensures value { result ≡ multiplier.now *ℤ spare.now }
+fn slack(multiplier: i64, spare: i128) -> i128
+    requires multiplier { IsPrice multiplier }
+    requires spare { unsigned_abs spare ≤ MAX_SPARE }
+    ensures value { result ≡ multiplier *ℤ spare }
     ensures size { unsigned_abs result ≤ MAX_SLACK }
 {
-    product(i128::from(*multiplier), *spare)
+    product(i128::from(multiplier), spare)
 }
 
 // The reserve in period t, with what is missing of it, beyond what is required.
@@ -65,8 +65,8 @@ fn spare(instance: &Instance, printed: &Printed, t: usize) -> i128
     ensures size { unsigned_abs result ≤ MAX_SPARE }
 {
     let supply = supply(instance, printed, t);
-    let short = wide(&printed.short.as_slice()[t]);
-    let needed = wide(&instance.reserves.as_slice()[t]);
+    let short = wide(printed.short.as_slice()[t]);
+    let needed = wide(instance.reserves.as_slice()[t]);
     difference(sum(supply, short), needed)
 }
 
@@ -98,9 +98,9 @@ fn held(printed: &Printed, g: usize, t: usize) -> i128
 }
 
 // A number of 64 bits in 128.
-fn wide(number: &i64) -> i128
-    ensures value { result ≡ number.now }
+fn wide(number: i64) -> i128
+    ensures value { result ≡ number }
     ensures size { unsigned_abs result ≤ 2 ^ 63 }
 {
-    i128::from(*number)
+    i128::from(number)
 }

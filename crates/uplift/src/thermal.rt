@@ -1,6 +1,6 @@
 //! The uplifts of the thermal units.
 
-ghost use Rattle.std.specs.Prelude.{◌≡◌, ℕ, ◌+◌, ◌*◌, ◌<◌, ◌≤◌, ◌-ℤ◌, ◌*ℤ◌, pos, ◌≤ℤ◌, IfOk, length, unsigned_abs, All};
+ghost use Rattle.std.specs.Prelude.{◌≡◌, ℕ, ◌+◌, ◌*◌, ◌<◌, ◌≤◌, ◌+ℤ◌, ◌-ℤ◌, ◌*ℤ◌, pos, ◌≤ℤ◌, IfOk, length, unsigned_abs, All};
 ghost use Rattle.uc_model.specs.Limits.{IsLawfulInstance, IsLawfulThermal, IsPower};
 ghost use Rattle.uc_model.specs.PrintedSchedule.{HasShapeOf, cell_at};
 ghost use Rattle.uc_model.specs.Schedule.{thermal_count, thermal_unit};
@@ -8,6 +8,7 @@ ghost use Rattle.uc_model.specs.Sums.{bit, sum_below};
 ghost use Rattle.dual_model.specs.NodeAnswer.{MAX_PART};
 ghost use Rattle.dual_model.specs.NodeValue.{constant_at};
 ghost use Rattle.dual_model.specs.Prices.{HasSizeOf, IsWithinLimits};
+ghost use Rattle.dual_model.specs.Term.{output_price, reserve_price};
 ghost use Rattle.schedule_check.specs.SizedNumbers.{HasSizedNumbers, IsSized, IsSizedCell};
 ghost use Rattle.schedule_check.specs.WholeWatts.{HasPrice, IsSizedRow, cell as cell_of};
 ghost use Rattle.uplift.specs.Sizes.{MAX_CHARGE, MAX_PRICED, MAX_UNIT_COST, MAX_UPLIFT};
@@ -43,13 +44,13 @@ pub(crate) fn thermal_uplifts(
 {
     let mut uplifts = vec![in alloc; 0_i128; parts.len()]?;
     for g in 0..parts.len() {
-        uplifts[g] = unit_uplift(instance, printed, table, g, &parts[g]);
+        uplifts[g] = unit_uplift(instance, printed, table, g, parts[g]);
     }
     Ok(uplifts)
 }
 
 // The uplift of unit g, which adds this part to the value of the root: its value and its constant.
-fn unit_uplift(instance: &Instance, printed: &Printed, table: &Table, g: usize, part: &i128) -> i128
+fn unit_uplift(instance: &Instance, printed: &Printed, table: &Table, g: usize, part: i128) -> i128
     requires lawful { IsLawfulInstance instance.now }
     requires shape { HasShapeOf instance.now printed.now }
     requires sized { HasSizedNumbers printed.now }
@@ -58,13 +59,13 @@ fn unit_uplift(instance: &Instance, printed: &Printed, table: &Table, g: usize, 
     requires size { HasSizeOf instance.now table.now }
     requires limits { IsWithinLimits table.now }
     requires unit { g < thermal_count instance.now }
-    requires part { unsigned_abs part.now ≤ MAX_PART }
-    ensures value { result ≡ thermal_uplift instance.now printed.now table.now g (part.now -ℤ constant_at instance.now table.now g) }
+    requires part { unsigned_abs part ≤ MAX_PART }
+    ensures value { result ≡ thermal_uplift instance.now printed.now table.now g (part -ℤ constant_at instance.now table.now g) }
     ensures size { unsigned_abs result ≤ MAX_UPLIFT }
 {
     let unit = &instance.thermal.as_slice()[g];
     let row = printed.thermal.as_slice()[g].as_slice();
-    let value = difference(*part, constant(table, unit, g as u32));
+    let value = difference(part, constant(table, unit, g as u32));
     difference(reduced_cost(unit, row, table, g as u32), value)
 }
 
@@ -110,37 +111,47 @@ fn charge(unit: &Thermal, table: &Table, g: u32, t: u32, cell: &Cell) -> i128
     ensures value { result ≡ charge_of unit.now table.now g t cell.now }
     ensures size { unsigned_abs result ≤ MAX_CHARGE }
 {
+    let paid = minimum_paid(table.pi()[t as usize], unit.pmin, cell.on);
+    difference(charged(table, g, t, cell), paid)
+}
+
+// What they charge it for its output and its reserve there.
+fn charged(table: &Table, g: u32, t: u32, cell: &Cell) -> i128
+    requires period { t < length table.now.pi }
+    requires sized { IsSizedCell cell.now }
+    requires limits { IsWithinLimits table.now }
+    ensures value { result ≡ output_price table.now g t *ℤ cell.now.p +ℤ reserve_price table.now g t *ℤ cell.now.r }
+    ensures size { unsigned_abs result ≤ 2 * MAX_PRICED }
+{
     let (output, reserve) = coefficients(table, g, t);
-    let charged = sum(priced(&output, &cell.p), priced(&reserve, &cell.r));
-    let paid = minimum_paid(&table.pi()[t as usize], &unit.pmin, cell.on);
-    difference(charged, paid)
+    sum(priced(output, cell.p), priced(reserve, cell.r))
 }
 
 // A price times a number of a schedule.
-fn priced(price: &i128, power: &i64) -> i128
-    requires price { unsigned_abs price.now ≤ MAX_UNIT_PRICE }
-    requires power { IsSized power.now }
-    ensures value { result ≡ price.now *ℤ power.now }
+fn priced(price: i128, power: i64) -> i128
+    requires price { unsigned_abs price ≤ MAX_UNIT_PRICE }
+    requires power { IsSized power }
+    ensures value { result ≡ price *ℤ power }
     ensures size { unsigned_abs result ≤ MAX_PRICED }
 {
-    product(*price, i128::from(*power))
+    product(price, i128::from(power))
 }
 
 // What is paid for the least output while on.
-fn minimum_paid(price: &i64, minimum: &i64, on: bool) -> i128
-    requires price { unsigned_abs price.now ≤ MAX_UNIT_PRICE }
-    requires minimum { IsPower minimum.now }
-    ensures value { result ≡ price.now *ℤ (minimum.now *ℤ bit on) }
+fn minimum_paid(price: i64, minimum: i64, on: bool) -> i128
+    requires price { unsigned_abs price ≤ MAX_UNIT_PRICE }
+    requires minimum { IsPower minimum }
+    ensures value { result ≡ price *ℤ (minimum *ℤ bit on) }
     ensures size { unsigned_abs result ≤ MAX_PRICED }
 {
-    scaled(*price, output_of(minimum, on))
+    scaled(price, output_of(minimum, on))
 }
 
 // The least output while on, and else 0.
-fn output_of(minimum: &i64, on: bool) -> i64
-    requires { IsPower minimum.now }
-    ensures value { result ≡ minimum.now *ℤ bit on }
+fn output_of(minimum: i64, on: bool) -> i64
+    requires { IsPower minimum }
+    ensures value { result ≡ minimum *ℤ bit on }
     ensures size { unsigned_abs result ≤ MAX_POWER }
 {
-    if on { *minimum } else { 0 }
+    if on { minimum } else { 0 }
 }

@@ -61,9 +61,9 @@ pub fn of(
     let renewable = renewable_uplifts(alloc, instance, printed, table)?;
     let shed = shed_uplift(instance, printed, table);
     let reserve_slack = reserve_slack(instance, printed, table);
-    let total = gap(instance, printed, table, &valued.total);
+    let total = gap(instance, printed, table, valued.total);
     // The other numbers leave the ramp slack of the total: this is the theorem, read from its end.
-    let ramp_slack = rest(&total, &sum(shed, reserve_slack), &thermal, &renewable);
+    let ramp_slack = rest(total, sum(shed, reserve_slack), &thermal, &renewable);
     Ok(Uplifts {
         thermal: List::from_vec(thermal),
         renewable: List::from_vec(renewable),

@@ -18,13 +18,13 @@ use table_list::{Change, is_before, no_row};
 use uc_model::NoMemory;
 
 // Sets the price of period t, counted from 0, and answers whether it is another one than before.
-fn set_price(prices: &mut Vec<i64>, t: usize, price: &i64) -> bool
+fn set_price(prices: &mut Vec<i64>, t: usize, price: i64) -> bool
     requires { t < length prices.old.items }
-    ensures other { result ≡ not (int_eq (slice_index_or prices.old.items t (pos 0)) price.now) }
-    ensures set { prices.new.items ≡ slice_set prices.old.items t price.now }
+    ensures other { result ≡ not (int_eq (slice_index_or prices.old.items t (pos 0)) price) }
+    ensures set { prices.new.items ≡ slice_set prices.old.items t price }
 {
-    let other = prices[t] != *price;
-    prices[t] = *price;
+    let other = prices[t] != price;
+    prices[t] = price;
     other
 }
 
@@ -145,8 +145,8 @@ fn make_change<'b>(
         return Ok(None);
     }
     match change {
-        Change::Demand { t, price } => Ok(set_price(&mut draft.pi, *t, price).then_some(left)),
-        Change::Reserve { t, price } => Ok(set_price(&mut draft.mu, *t, price).then_some(left)),
+        Change::Demand { t, price } => Ok(set_price(&mut draft.pi, *t, *price).then_some(left)),
+        Change::Reserve { t, price } => Ok(set_price(&mut draft.mu, *t, *price).then_some(left)),
         Change::Ramps(row) => set_row(&mut draft.ramps, left, row),
     }
 }

@@ -8,13 +8,13 @@ use Rattle.uc_model.proofs.Sizes.{narrow}
 use Rattle.cost_curves.proofs.CornerSizes.{IsOver, over-is}
 use Rattle.cost_curves.proofs.places.over_left.Goals as goal
 
-parts : (c : goal.After-output) → IsOver c.args.p.now c.args.q.now (output_of c.args.corners.now c.args.left) c.output.result
+parts : (c : goal.After-output) → IsOver c.args.p c.args.q (output_of c.args.corners.now c.args.left) c.output.result
 parts c =
-    over-is c.args.corners.now c.args.p.now c.args.q.now c.output.result c.args.left c.requires.lawful c.requires.within c.requires.denominator.0 c.requires.denominator.1
+    over-is c.args.corners.now c.args.p c.args.q c.output.result c.args.left c.requires.lawful c.requires.within c.requires.denominator.0 c.requires.denominator.1
     c.requires.low c.requires.high c.output.ensures.value
 
-difference : (c : goal.After-output) → to_z w64 (of_z w64 c.args.p.now) -ℤ to_z w64 (of_z w64 (to_z w64 (of_z w64 c.args.q.now) *ℤ to_z w64 (of_z w64 c.output.result)))
-    ≡ c.args.p.now -ℤ c.args.q.now *ℤ output_of c.args.corners.now c.args.left
+difference : (c : goal.After-output) → to_z w64 (of_z w64 c.args.p) -ℤ to_z w64 (of_z w64 (to_z w64 (of_z w64 c.args.q) *ℤ to_z w64 (of_z w64 c.output.result)))
+    ≡ c.args.p -ℤ c.args.q *ℤ output_of c.args.corners.now c.args.left
 difference c =
     let is = parts c in
     let product = ap (λ z. to_z w64 (of_z w64 z)) is.product ∙ narrow _ (MAX_DENOMINATOR * (2 * MAX_POWER)) is.product_size (lit< tt) in

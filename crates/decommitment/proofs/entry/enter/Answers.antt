@@ -4,15 +4,15 @@ use Rattle.uc_model.specs.Schedule.{renewable_count}
 use Rattle.uc_model.proofs.Ring.{linear}
 use Rattle.uc_model.proofs.Sizes.{narrow}
 use Rattle.uc_model.proofs.Tests.{int_lt-true}
-use Rattle.dispatch_repair.specs.Amounts.{MAX_POWER, amount_at}
-use Rattle.dispatch_repair.specs.Period.{commitment_at}
+use Rattle.dispatch_repair.specs.Amounts.{MAX_POWER}
 use Rattle.dispatch_repair.proofs.Numbers.{at_most}
 use Rattle.dispatch_repair.specs.Rooms.{rows_of}
 use Rattle.dispatch_repair.specs.Segments.{source_count}
-use Rattle.decommitment.specs.inside.Fills.{hour_period, part_at, unit_part}
+use Rattle.decommitment.specs.inside.Fills.{IsSizedAmount, hour_period, part_at}
 use Rattle.decommitment.specs.inside.Levels.{IsLeastAt}
-use Rattle.decommitment.proofs.Parts.{entered, high_is, least_sized, low_is}
+use Rattle.decommitment.proofs.Parts.{entered, high_is, least_sized, low_is, part_read}
 use Rattle.decommitment.proofs.Places.{places_of}
+use Rattle.decommitment.proofs.Steps.{amount_kept}
 use Rattle.decommitment.proofs.entry.enter.Goals as goal
 
 pub returns-then-is_empty-clause-entered : goal.returns-then-is_empty-clause-entered
@@ -22,8 +22,7 @@ returns-then-is_empty-clause-entered c = λ have.
     let part = c.unit_part-part.result in
     let count : length c.as_slice.result.now ≡ renewable_count instance = ap length c.as_slice.ensures in
     let is : part ≡ part_at period c.args.g =
-    c.unit_part-part.ensures.is
-    ∙ (λ i. unit_part instance c.args.g (commitment_at c.args.hour.now.patterns.now c.args.g) c.args.hour.now.t (amount_at c.args.hour.now.before.now (count i + c.args.g))) in
+    part_read c.args.system.now c.args.hour.now c.requires.hour c.args.g _ part c.requires.unit count c.unit_part-part.ensures.is in
     let sizes = c.unit_part-part.ensures.sizes in
     let low = narrow part.reach.range.low (3 * MAX_POWER) sizes.low (omega arith) ∙ low_is period c.args.g part is sizes in
     let high = narrow part.reach.range.high (3 * MAX_POWER) sizes.high (omega arith) ∙ high_is period c.args.g part is sizes in
@@ -48,10 +47,10 @@ set_amount-requires-clause-amount c =
     let part = c.unit_part-part.result in
     let count : length c.as_slice.result.now ≡ renewable_count instance = ap length c.as_slice.ensures in
     let is : part ≡ part_at period c.args.g =
-    c.unit_part-part.ensures.is
-    ∙ (λ i. unit_part instance c.args.g (commitment_at c.args.hour.now.patterns.now c.args.g) c.args.hour.now.t (amount_at c.args.hour.now.before.now (count i + c.args.g))) in
-    least_sized period c.args.g part is c.unit_part-part.ensures.sizes c.args.system.now.merit.now.order.items (length c.as_slice.result.now + c.args.g) c.args.fill.now.level
-    c.open_at-rest.result.low c.open_at-rest.ensures.least
+    part_read c.args.system.now c.args.hour.now c.requires.hour c.args.g _ part c.requires.unit count c.unit_part-part.ensures.is in
+    let sized = least_sized period c.args.g part is c.unit_part-part.ensures.sizes c.args.system.now.merit.now.order.items (length c.as_slice.result.now + c.args.g)
+    c.args.fill.now.level c.open_at-rest.result.low c.open_at-rest.ensures.least in
+    subst IsSizedAmount (sym (amount_kept c.open_at-rest.result.low sized)) sized
 
 pub returns-clause-entered : goal.returns-clause-entered
 returns-clause-entered c =
@@ -63,10 +62,11 @@ returns-clause-entered c =
     let least = c.open_at-rest.result.low in
     let count : length c.as_slice.result.now ≡ renewable_count instance = ap length c.as_slice.ensures in
     let is : part ≡ part_at period c.args.g =
-    c.unit_part-part.ensures.is
-    ∙ (λ i. unit_part instance c.args.g (commitment_at c.args.hour.now.patterns.now c.args.g) c.args.hour.now.t (amount_at c.args.hour.now.before.now (count i + c.args.g))) in
+    part_read c.args.system.now c.args.hour.now c.requires.hour c.args.g _ part c.requires.unit count c.unit_part-part.ensures.is in
+    let n = length c.as_slice.result.now + c.args.g in
+    let kept = amount_kept least (least_sized period c.args.g part is c.unit_part-part.ensures.sizes order n fill.level least c.open_at-rest.ensures.least) in
     entered period c.args.g part is c.unit_part-part.ensures.sizes order c.args.old.now fill c.set_amount.new.fill least c.requires.unit c.requires.given
     (at_most part.reach.range.high part.reach.range.low (sym c.is_empty.ensures ∙ c.if-is_empty.false))
     (subst (λ m. IsLeastAt order (m + c.args.g) fill.level part.reach.range least) count c.open_at-rest.ensures.least)
-    (c.set_amount.ensures.amounts ∙ ap (λ m. slice_set fill.amounts.items (m + c.args.g) least) count) c.set_amount.ensures.given c.set_amount.ensures.level
+    (c.set_amount.ensures.amounts ∙ ap (slice_set fill.amounts.items n) kept ∙ ap (λ m. slice_set fill.amounts.items (m + c.args.g) least) count) c.set_amount.ensures.given c.set_amount.ensures.level
     (c.set_amount.ensures.totals ∙ c.exchanged_totals-fill.ensures)

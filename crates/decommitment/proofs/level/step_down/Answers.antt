@@ -1,36 +1,51 @@
 -- The source of the segment at the level, or of the last one, falls.
-use Rattle.std.proofs.Common.{◌≡◌, ◌∙◌, ◌-◌, ◌<◌, sym, subst, length, w64, if◌then◌else◌}
+use Rattle.std.proofs.Common.{◌≡◌, ◌∙◌, ◌-◌, ◌<◌, pos, ◌≤ℤ◌, sym, ap, subst, length, slice_set, w64, to_z, of_z, if◌then◌else◌}
 use Rattle.std.proofs.lemmas.Int.{to_z-of_z}
 use Rattle.dispatch_repair.specs.Segments.{segment_at}
 use Rattle.decommitment.specs.inside.Fills.{IsWalked, IsSizedAmount, hour_period}
 use Rattle.decommitment.specs.inside.Levels.{AreAtLevel, IsLeastAt, IsSunk}
 use Rattle.decommitment.proofs.Levels.{lowered}
-use Rattle.decommitment.proofs.Steps.{below_last, bottom, source_inside, sunk_sized, up_to_last, walked_down, within_last}
+use Rattle.decommitment.proofs.Steps.{amount_kept, below_last, sized_in, source_inside, sunk_sized, up_to_last, walked_down, within_last}
 use Rattle.decommitment.proofs.level.step_down.Goals as goal
+use Rattle.decommitment.proofs.level.step_down.Goals.{After-open_at-part, After-sunk-step}
 
-pub sunk-step-requires-clause-least : goal.sunk-step-requires-clause-least
-sunk-step-requires-clause-least c =
+-- the least amount at the level
+least_sized : (c : After-open_at-part) → IsSizedAmount c.open_at-part.result.low
+least_sized c =
     let order = c.as_slice-order.result.now in
     let level = c.min-level.result in
     let same = c.as_slice-order.ensures.value in
     let within = within_last c.args.fill.now.level level (length order) c.min-level.ensures (subst (λ xs. 0 < length xs) (sym same) c.requires.segments) in
     let inside = source_inside c.args.system.now.instance.now order c.args.system.now.merit.now.order.items level same c.requires.hour.merit.order within in
-    bottom (hour_period c.args.system.now c.args.hour.now) (segment_at order level).source c.source_range-range.result c.open_at-part.result.low
-    c.requires.hour.before.lawful c.requires.hour.before.period c.requires.ranges inside c.source_range-range.ensures c.open_at-part.ensures.least.low_end
+    let range = c.source_range-range.result in
+    let least = c.open_at-part.ensures.least in
+    sized_in (hour_period c.args.system.now c.args.hour.now) (segment_at order level).source range c.open_at-part.result.low
+    c.requires.hour.before.lawful c.requires.hour.before.period c.requires.ranges inside c.source_range-range.ensures least.low_end least.high_end
 
-pub set_amount-requires-clause-amount : goal.set_amount-requires-clause-amount
-set_amount-requires-clause-amount c =
+pub sunk-step-requires-clause-least : goal.sunk-step-requires-clause-least
+sunk-step-requires-clause-least c =
+    let sized = least_sized (goal.at.sunk-step-requires-clause-least c).After-open_at-part in
+    subst (λ z. pos 0 ≤ℤ z) (sym (amount_kept c.open_at-part.result.low sized)) sized.low
+
+-- the new amount
+amount_sized : (c : After-sunk-step) → IsSizedAmount c.open_at-part.result.low → IsSizedAmount c.sunk-step.result.amount
+amount_sized c least =
     let order = c.as_slice-order.result.now in
     let level = c.min-level.result in
     let same = c.as_slice-order.ensures.value in
     let within = within_last c.args.fill.now.level level (length order) c.min-level.ensures (subst (λ xs. 0 < length xs) (sym same) c.requires.segments) in
     let inside = source_inside c.args.system.now.instance.now order c.args.system.now.merit.now.order.items level same c.requires.hour.merit.order within in
     let amount = to_z-of_z w64 c.amount_of.result (record { sfits = c.amount_of.type_inv }) ∙ c.amount_of.ensures in
+    let kept = amount_kept c.open_at-part.result.low least in
     sunk_sized _ c.open_at-part.result.low c.sunk-step.result
-    (subst IsSizedAmount (sym amount) (c.requires.standing.given.sizes (segment_at order level).source inside))
-    (bottom (hour_period c.args.system.now c.args.hour.now) (segment_at order level).source c.source_range-range.result c.open_at-part.result.low
-    c.requires.hour.before.lawful c.requires.hour.before.period c.requires.ranges inside c.source_range-range.ensures c.open_at-part.ensures.least.low_end)
-    c.sunk-step.ensures
+    (subst IsSizedAmount (sym amount) (c.requires.standing.given.sizes (segment_at order level).source inside)) least.low
+    (subst (λ z. IsSunk (to_z w64 (of_z w64 c.amount_of.result)) z c.sunk-step.result) kept c.sunk-step.ensures)
+
+pub set_amount-requires-clause-amount : goal.set_amount-requires-clause-amount
+set_amount-requires-clause-amount c =
+    let least = least_sized (goal.at.set_amount-requires-clause-amount c).After-open_at-part in
+    let sized = amount_sized (goal.at.set_amount-requires-clause-amount c).After-sunk-step least in
+    subst IsSizedAmount (sym (amount_kept c.sunk-step.result.amount sized)) sized
 
 pub returns : goal.returns
 returns c =
@@ -44,6 +59,9 @@ returns c =
     let within = within_last fill.level level (length order) c.min-level.ensures (subst (λ xs. 0 < length xs) (sym same) c.requires.segments) in
     let inside = source_inside c.args.system.now.instance.now order items level same c.requires.hour.merit.order within in
     let amount = to_z-of_z w64 c.amount_of.result (record { sfits = c.amount_of.type_inv }) ∙ c.amount_of.ensures in
+    let sized = least_sized (goal.at.returns c).After-open_at-part in
+    let least = amount_kept c.open_at-part.result.low sized in
+    let kept = amount_kept c.sunk-step.result.amount (amount_sized (goal.at.returns c).After-sunk-step sized) in
     let at : AreAtLevel period order level fill.amounts.items =
     lowered period order fill.level level fill.amounts.items (below_last fill.level level (length order) c.min-level.ensures)
     (λ j. up_to_last fill.level level (length order) j c.min-level.ensures)
@@ -51,7 +69,8 @@ returns c =
     subst (λ l. IsWalked period items fill (record set { level = l })) (sym c.level_down-fill.ensures)
     (subst (λ xs. IsWalked period xs fill (record set { level = if c.sunk-step.result.goes_on then level - 1 else level })) same
     (walked_down period order fill set level c.source_range-range.result c.sunk-step.result inside c.requires.standing.given at
-    c.source_range-range.ensures c.set_amount.ensures.amounts c.set_amount.ensures.given c.set_amount.ensures.totals c.set_amount.ensures.shortage
+    c.source_range-range.ensures (c.set_amount.ensures.amounts ∙ ap (slice_set fill.amounts.items (segment_at order level).source) kept) c.set_amount.ensures.given
+    c.set_amount.ensures.totals c.set_amount.ensures.shortage
     c.open_at-part.result.low
     (subst (λ xs. IsLeastAt xs (segment_at order level).source level c.source_range-range.result c.open_at-part.result.low) (sym same) c.open_at-part.ensures.least)
-    (subst (λ z. IsSunk z c.open_at-part.result.low c.sunk-step.result) amount c.sunk-step.ensures)))
+    (subst (λ z. z) (λ i. IsSunk (amount i) (least i) c.sunk-step.result) c.sunk-step.ensures)))

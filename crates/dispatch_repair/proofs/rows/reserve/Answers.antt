@@ -4,5 +4,5 @@ use Rattle.dispatch_repair.proofs.rows.reserve.Goals as goal
 
 pub returns : goal.returns
 returns c =
-    reserve_is c.args.p.now c.args.head.now c.args.left.now c.max.result c.min.result c.requires.output c.requires.head c.requires.left
+    reserve_is c.args.p c.args.head c.args.left c.max.result c.min.result c.requires.output c.requires.head c.requires.left
     c.max.ensures.value c.min.ensures.value

@@ -1,10 +1,13 @@
--- The rows keep their lengths.
-use Rattle.std.proofs.Common.{◌≡◌, ◌<◌, length, refl, ap, subst, ◌∙◌, List, [], ℤ, length-set}
+-- The rows keep their lengths, and the need is the one that is passed on.
+use Rattle.std.proofs.Common.{◌≡◌, ◌<◌, length, arith, refl, ap, subst, ◌∙◌, List, [], ℤ, length-set}
+use Rattle.std.proofs.lemmas.Grind.{common_steps}
 use Rattle.std.proofs.lemmas.List.{length-map}
 use Rattle.std.proofs.lemmas.List.Elements.{All-from_get_or, All-get_or}
 use Rattle.uc_model.specs.declared.schedule.Cell.{Cell}
-use Rattle.dispatch_repair.specs.Rooms.{rows_of}
-use Rattle.dispatch_repair.specs.inside.Rows.{row_at}
+use Rattle.uc_model.specs.declared.limits.TheConstants.{MAX_POWER}
+use Rattle.uc_model.proofs.Sizes.{narrow}
+use Rattle.dispatch_repair.specs.Rooms.{printed_of, rows_of}
+use Rattle.dispatch_repair.specs.inside.Rows.{IsPowered, row_at}
 use Rattle.dispatch_repair.proofs.rows.write_powers.Goals as goal
 
 pub returns-clause-shape : goal.returns-clause-shape
@@ -27,3 +30,11 @@ returns-clause-shape c =
       short = c.requires.shape.short;
       whole = refl;
     }
+
+pub returns-clause-powered : goal.returns-clause-powered
+returns-clause-powered c =
+    let need = narrow c.args.need MAX_POWER c.requires.need (omega arith) in
+    subst
+    (λ z. IsPowered c.args.instance.now c.args.room.now.amounts.items c.args.room.now.heads.items z c.args.t (printed_of c.args.rows.now)
+    (printed_of (record c.args.rows.now { thermal = c.write_cells.new.rows; renewable = c.write_outputs.new.rows })))
+    need (grind (arith, common_steps))

@@ -1,5 +1,6 @@
 -- The term at the least corner, or on the segment that holds the cap.
 use Rattle.std.proofs.Common.{sym, subst, ◌∙◌, lit<, pos, arith}
+use Rattle.std.proofs.lemmas.Int.{to_z-of_z}
 use Rattle.uc_model.proofs.Tests.{int_le-true}
 use Rattle.uc_model.proofs.Sizes.{wide}
 use Rattle.dual_model.specs.Term.{IsTerm}
@@ -9,12 +10,14 @@ use Rattle.period_term.proofs.cell.least_cost.Goals as goal
 
 pub returns-then-is_within-clause-term : goal.returns-then-is_within-clause-term
 returns-then-is_within-clause-term c = λ points whole.
+    let cap = c.ranges.cap in
+    let within = simp to_z-of_z at c.is_within.ensures in
     let k = c.args.prices.now.k in
     let a = c.args.prices.now.a in
-    subst (λ z. IsTerm points k a (pos 0) c.args.cap.now z)
+    subst (λ z. IsTerm points k a (pos 0) c.args.cap z)
     (sym (wide c.corner_cost.result MAX_CORNER_COST c.corner_cost.ensures.size (lit< tt) ∙ c.corner_cost.ensures.value))
-    (corner_term points c.args.corners.now k a c.args.cap.now c.args.place whole c.requires.prices.scale.low c.requires.sign c.requires.place
-    (int_le-true _ _ (sym c.is_within.ensures ∙ c.if-is_within.true)))
+    (corner_term points c.args.corners.now k a c.args.cap c.args.place whole c.requires.prices.scale.low c.requires.sign c.requires.place
+    (int_le-true _ _ (sym within ∙ c.if-is_within.true)))
 
 pub segment_cost-requires-clause-segment : goal.segment_cost-requires-clause-segment
 segment_cost-requires-clause-segment c = record {
@@ -25,9 +28,12 @@ segment_cost-requires-clause-segment c = record {
 
 pub returns-else-is_within-clause-term : goal.returns-else-is_within-clause-term
 returns-else-is_within-clause-term c = λ points whole.
+    let cap = c.ranges.cap in
+    let within = simp to_z-of_z at c.is_within.ensures in
     let k = c.args.prices.now.k in
     let a = c.args.prices.now.a in
-    subst (λ z. IsTerm points k a (pos 0) c.args.cap.now z)
+    subst (λ z. IsTerm points k a (pos 0) c.args.cap z)
     (sym (wide c.segment_cost.result MAX_LEAST c.segment_cost.ensures.size (lit< tt)))
-    (segment_term points c.args.corners.now k a c.args.cap.now c.segment_cost.result c.cap_place.result c.args.place whole c.requires.prices.scale.low c.requires.sign
-    c.requires.place (beyond _ _ (sym c.is_within.ensures ∙ c.if-is_within.false)) c.cap_place.ensures c.segment_cost.ensures.floor)
+    (segment_term points c.args.corners.now k a c.args.cap c.segment_cost.result c.cap_place.result c.args.place whole c.requires.prices.scale.low c.requires.sign
+    c.requires.place (beyond _ _ (sym within ∙ c.if-is_within.false)) (simp to_z-of_z at c.cap_place.ensures)
+    (simp to_z-of_z at c.segment_cost.ensures.floor))

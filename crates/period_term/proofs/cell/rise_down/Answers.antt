@@ -1,23 +1,29 @@
 -- The part of the rise is no greater than the rise.
-use Rattle.std.proofs.Common.{suc, ◌≤◌, ◌*ℤ◌, arith, to_z, of_z, unsigned_abs}
+use Rattle.std.proofs.Common.{◌≤◌, ◌*ℤ◌, arith, lit<, to_z, of_z, unsigned_abs}
 use Rattle.std.specs.Int.{w128}
+use Rattle.std.proofs.lemmas.Int.{to_z-of_z}
 use Rattle.uc_model.specs.Division.{IsFloor}
 use Rattle.uc_model.specs.Points.{output_of}
 use Rattle.uc_model.proofs.Ring.{linear, sub_nonneg}
-use Rattle.period_term.specs.inside.Places.{over_of, rise_of, run_of, MAX_RISE}
+use Rattle.uc_model.proofs.Sizes.{product-fits}
+use Rattle.period_term.specs.inside.Places.{over_of, rise_of, run_of, MAX_OVER, MAX_RISE}
 use Rattle.period_term.proofs.CornerNumbers.{rise_down-is}
 use Rattle.period_term.proofs.cell.rise_down.Goals as goal
 
-part : (c : goal.After-floor_div) → IsFloor ((c.args.prices.now.k *ℤ rise_of c.args.corners.now c.args.left) *ℤ over_of c.args.corners.now c.args.cap.now c.args.left)
+pub product-rising-requires : goal.product-rising-requires
+product-rising-requires c = product-fits c.rise.result c.over.result MAX_RISE MAX_OVER c.rise.ensures.size c.over.ensures.size (lit< tt)
+
+part : (c : goal.After-floor_div) → IsFloor ((c.args.prices.now.k *ℤ rise_of c.args.corners.now c.args.left) *ℤ over_of c.args.corners.now c.args.cap c.args.left)
     (run_of c.args.corners.now c.args.left) (to_z w128 (of_z w128 c.floor_div.result))
     × (unsigned_abs (to_z w128 (of_z w128 c.floor_div.result)) ≤ MAX_RISE)
 part c =
     let corners = c.args.corners.now in
     let i = c.args.left in
-    rise_down-is (c.args.prices.now.k *ℤ rise_of corners i) (over_of corners c.args.cap.now i) (run_of corners i)
+    let cap = c.ranges.cap in
+    rise_down-is (c.args.prices.now.k *ℤ rise_of corners i) (over_of corners c.args.cap i) (run_of corners i)
     c.rise.result c.over.result c.run.result c.product-rising.result c.floor_div.result
-    c.rise.ensures.value c.rise.ensures.size c.over.ensures.value c.over.ensures.size c.run.ensures.value c.run.ensures.size
-    (sub_nonneg (output_of corners i) c.args.cap.now c.requires.segment.begins) (omega (arith, linear, c.requires.segment.reaches))
+    c.rise.ensures.value c.rise.ensures.size (simp to_z-of_z at c.over.ensures.value) c.over.ensures.size c.run.ensures.value c.run.ensures.size
+    (sub_nonneg (output_of corners i) c.args.cap c.requires.segment.begins) (omega (arith, linear, c.requires.segment.reaches))
     (omega (arith, linear, c.requires.segment.begins, c.requires.segment.reaches))
     c.product-rising.ensures c.floor_div.ensures
 

@@ -1,10 +1,19 @@
 -- Each of the four terms, by the place that was found once.
-use Rattle.std.proofs.Common.{sym, subst, slice_index_or, pos, ◌≤◌, IfSome, unsigned_abs}
+use Rattle.std.proofs.Common.{◌<◌, sym, subst, lit<, ℤ, List, to_z, of_z, slice_index_or, pos, ◌≤◌, Option, IfSome, unsigned_abs}
+use Rattle.std.specs.Int.{w64}
+use Rattle.uc_model.specs.declared.instance.Point.{Point}
+use Rattle.uc_model.proofs.Sizes.{narrow}
+use Rattle.dual_model.specs.declared.limits.TheConstants.{MAX_CAP}
 use Rattle.dual_model.specs.TableValue.{IsCellTerm}
 use Rattle.uc_model.specs.declared.limits.TheConstants.{MAX_TERM}
 use Rattle.cost_curves.specs.LowerHull.{IsLowerHull}
 use Rattle.period_term.proofs.FreedTerms.{freed_bits, of_freed, each_of_four}
 use Rattle.period_term.proofs.cell.row_terms.Goals as goal
+
+-- the term of a cap is that of what its bits say
+of_cap : (points : List Point) (k a b cap : ℤ) (term : Option ℤ) → unsigned_abs cap ≤ MAX_CAP → IsCellTerm points k a b (to_z w64 (of_z w64 cap)) term
+    → IsCellTerm points k a b cap term
+of_cap points k a b cap term small = subst (λ z. IsCellTerm points k a b z term) (narrow cap MAX_CAP small (lit< tt))
 
 pub returns-clause-term : goal.returns-clause-term
 returns-clause-term c = λ points i hull inside.
@@ -13,10 +22,14 @@ returns-clause-term c = λ points i hull inside.
     let whole = subst (λ xs. IsLowerHull points xs) (sym c.corners-corners.ensures.value) hull in
     each_of_four (λ cap term. IsCellTerm points c.args.k c.args.a c.args.b cap term) c.args.caps.now
     c.cell_term.result c.cell_term-2.result c.cell_term-3.result c.cell_term-4.result
-    (of_freed points c.args.k c.args.a c.args.b (slice_index_or c.args.caps.now 0 (pos 0)) prices.k prices.a prices.b c.cell_term.result freed (λ x y own. c.cell_term.ensures.term points x y whole own))
-    (of_freed points c.args.k c.args.a c.args.b (slice_index_or c.args.caps.now 1 (pos 0)) prices.k prices.a prices.b c.cell_term-2.result freed (λ x y own. c.cell_term-2.ensures.term points x y whole own))
-    (of_freed points c.args.k c.args.a c.args.b (slice_index_or c.args.caps.now 2 (pos 0)) prices.k prices.a prices.b c.cell_term-3.result freed (λ x y own. c.cell_term-3.ensures.term points x y whole own))
-    (of_freed points c.args.k c.args.a c.args.b (slice_index_or c.args.caps.now 3 (pos 0)) prices.k prices.a prices.b c.cell_term-4.result freed (λ x y own. c.cell_term-4.ensures.term points x y whole own))
+    (of_freed points c.args.k c.args.a c.args.b (slice_index_or c.args.caps.now 0 (pos 0)) prices.k prices.a prices.b c.cell_term.result freed
+    (λ x y own. of_cap points prices.k x y (slice_index_or c.args.caps.now 0 (pos 0)) c.cell_term.result (c.requires.caps 0 (lit< tt)) (c.cell_term.ensures.term points x y whole own)))
+    (of_freed points c.args.k c.args.a c.args.b (slice_index_or c.args.caps.now 1 (pos 0)) prices.k prices.a prices.b c.cell_term-2.result freed
+    (λ x y own. of_cap points prices.k x y (slice_index_or c.args.caps.now 1 (pos 0)) c.cell_term-2.result (c.requires.caps 1 (lit< tt)) (c.cell_term-2.ensures.term points x y whole own)))
+    (of_freed points c.args.k c.args.a c.args.b (slice_index_or c.args.caps.now 2 (pos 0)) prices.k prices.a prices.b c.cell_term-3.result freed
+    (λ x y own. of_cap points prices.k x y (slice_index_or c.args.caps.now 2 (pos 0)) c.cell_term-3.result (c.requires.caps 2 (lit< tt)) (c.cell_term-3.ensures.term points x y whole own)))
+    (of_freed points c.args.k c.args.a c.args.b (slice_index_or c.args.caps.now 3 (pos 0)) prices.k prices.a prices.b c.cell_term-4.result freed
+    (λ x y own. of_cap points prices.k x y (slice_index_or c.args.caps.now 3 (pos 0)) c.cell_term-4.result (c.requires.caps 3 (lit< tt)) (c.cell_term-4.ensures.term points x y whole own)))
     i inside
 
 pub returns-clause-size : goal.returns-clause-size

@@ -1,6 +1,7 @@
 -- The cost at the left end, the price of what lies between, and the part of the rise.
 use Rattle.std.proofs.Common.{◌≡◌, ◌+◌, ◌*◌, ◌≤◌, suc, ap, ◌∙◌, arith, lit<, to_z, of_z, ◌+ℤ◌, ◌*ℤ◌, unsigned_abs}
 use Rattle.std.specs.Int.{w128}
+use Rattle.std.proofs.lemmas.Int.{to_z-of_z}
 use Rattle.uc_model.specs.Points.{point_of, output_of}
 use Rattle.uc_model.proofs.Sizes.{sum-fits}
 use Rattle.dual_model.specs.declared.limits.TheConstants.{MAX_UNIT_PRICE}
@@ -15,15 +16,17 @@ sum-level-requires c =
 
 pub sum-requires : goal.sum-requires
 sum-requires c =
-    let level = level_is c.args.prices.now.a (over_of c.args.corners.now c.args.cap.now c.args.left) c.corner_cost.result c.over.result c.product-price.result c.sum-level.result
-    c.requires.prices.output c.over.ensures.value c.over.ensures.size c.corner_cost.ensures.size c.product-price.ensures c.sum-level.ensures in
+    let cap = c.ranges.cap in
+    let level = level_is c.args.prices.now.a (over_of c.args.corners.now c.args.cap c.args.left) c.corner_cost.result c.over.result c.product-price.result c.sum-level.result
+    c.requires.prices.output (simp to_z-of_z at c.over.ensures.value) c.over.ensures.size c.corner_cost.ensures.size c.product-price.ensures c.sum-level.ensures in
     sum-fits c.sum-level.result c.rise_down.result (MAX_CORNER_COST + 2 * MAX_UNIT_PRICE * MAX_OVER) MAX_RISE level.1 c.rise_down.ensures.size (lit< tt)
 
-whole : (c : goal.After-sum) → (to_z w128 (of_z w128 c.sum.result) ≡ (c.corner_cost.result +ℤ c.args.prices.now.a *ℤ over_of c.args.corners.now c.args.cap.now c.args.left) +ℤ c.rise_down.result)
+whole : (c : goal.After-sum) → (to_z w128 (of_z w128 c.sum.result) ≡ (c.corner_cost.result +ℤ c.args.prices.now.a *ℤ over_of c.args.corners.now c.args.cap c.args.left) +ℤ c.rise_down.result)
     × (unsigned_abs (to_z w128 (of_z w128 c.sum.result)) ≤ MAX_CORNER_COST + 2 * MAX_UNIT_PRICE * MAX_OVER + MAX_RISE)
 whole c =
-    let level = level_is c.args.prices.now.a (over_of c.args.corners.now c.args.cap.now c.args.left) c.corner_cost.result c.over.result c.product-price.result c.sum-level.result
-    c.requires.prices.output c.over.ensures.value c.over.ensures.size c.corner_cost.ensures.size c.product-price.ensures c.sum-level.ensures in
+    let cap = c.ranges.cap in
+    let level = level_is c.args.prices.now.a (over_of c.args.corners.now c.args.cap c.args.left) c.corner_cost.result c.over.result c.product-price.result c.sum-level.result
+    c.requires.prices.output (simp to_z-of_z at c.over.ensures.value) c.over.ensures.size c.corner_cost.ensures.size c.product-price.ensures c.sum-level.ensures in
     let both = sum_is c.sum-level.result c.rise_down.result c.sum.result (MAX_CORNER_COST + 2 * MAX_UNIT_PRICE * MAX_OVER) MAX_RISE c.sum.ensures level.1 c.rise_down.ensures.size (lit< tt) in
     (both.0 ∙ ap (λ z. z +ℤ c.rise_down.result) level.0, both.1)
 
@@ -34,6 +37,7 @@ pub returns-clause-floor : goal.returns-clause-floor
 returns-clause-floor c =
     let corners = c.args.corners.now in
     let i = c.args.left in
+    let cap = c.ranges.cap in
     segment_floor c.args.prices.now.k c.args.prices.now.a (point_of corners i).cost (point_of corners (suc i)).cost (output_of corners i) (output_of corners (suc i))
-    (over_of corners c.args.cap.now i) c.corner_cost.result c.rise_down.result _ c.corner_cost.ensures.value
-    (whole c).0 c.rise_down.ensures.floor
+    (over_of corners c.args.cap i) c.corner_cost.result c.rise_down.result _ c.corner_cost.ensures.value
+    (whole c).0 (simp to_z-of_z at c.rise_down.ensures.floor)

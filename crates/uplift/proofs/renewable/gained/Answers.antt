@@ -7,9 +7,9 @@ use Rattle.uplift.proofs.renewable.gained.Goals as goal
 
 pub returns-clause-size : goal.returns-clause-size
 returns-clause-size c =
-    let best = to_z w64 (of_z w64 c.args.best.now) in
-    let output = to_z w64 (of_z w64 c.args.output.now) in
-    let more = abs_sub best output MAX_POWER MAX_WATTS (omega (arith, c.requires.best, abs_narrow c.args.best.now))
-    (omega (arith, c.requires.output, abs_narrow c.args.output.now)) in
-    let size = scaled-size c.args.price.now (best -ℤ output) c.scaled.result MAX_PRICE (MAX_POWER + MAX_WATTS) c.scaled.ensures c.requires.price more in
+    let best = to_z w64 (of_z w64 c.args.best) in
+    let output = to_z w64 (of_z w64 c.args.output) in
+    let more = abs_sub best output MAX_POWER MAX_WATTS (omega (arith, c.requires.best, abs_narrow c.args.best))
+    (omega (arith, c.requires.output, abs_narrow c.args.output)) in
+    let size = scaled-size c.args.price (best -ℤ output) c.scaled.result MAX_PRICE (MAX_POWER + MAX_WATTS) c.scaled.ensures c.requires.price more in
     wide-size c.scaled.result MAX_PRICED (omega (arith, size))

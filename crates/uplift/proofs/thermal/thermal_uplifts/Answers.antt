@@ -1,15 +1,25 @@
 -- One uplift more.
-use Rattle.std.proofs.Common.{◌∙◌, arith}
+use Rattle.std.proofs.Common.{◌<◌, ap, length, ◌∙◌, arith, pos, ◌-ℤ◌}
 use Rattle.uc_model.specs.Schedule.{thermal_count}
 use Rattle.uc_model.proofs.Sizes.{wide, wide-size}
+use Rattle.dual_model.specs.NodeAnswer.{MAX_PART}
+use Rattle.dual_model.specs.NodeValue.{constant_at}
 use Rattle.uplift.specs.Sizes.{MAX_UPLIFT}
-use Rattle.uplift.specs.inside.Lists.{uplift_by}
+use Rattle.uplift.specs.Uplift.{thermal_uplift}
+use Rattle.uplift.specs.inside.Lists.{number_in, uplift_by}
 use Rattle.uplift.proofs.Lists.{more_first}
 use Rattle.uplift.proofs.thermal.thermal_uplifts.Goals as goal
 
 pub loop-g-preserved : goal.loop-g-preserved
 loop-g-preserved c =
-    more_first (thermal_count c.args.instance.now) c.loop-g.g (uplift_by c.args.instance.now c.args.printed.now c.args.table.now c.args.parts.now)
-    c.loop-g.uplifts.items _ (omega (arith, c.loop-g-test.true, c.requires.parts))
-    (wide c.unit_uplift.result MAX_UPLIFT c.unit_uplift.ensures.size (omega arith) ∙ c.unit_uplift.ensures.value)
+    let instance = c.args.instance.now in
+    let printed = c.args.printed.now in
+    let table = c.args.table.now in
+    let parts = c.args.parts.now in
+    let g = c.loop-g.g in
+    let within : g < length parts = omega (arith, c.loop-g-test.true) in
+    let part = wide (number_in parts g) MAX_PART (c.requires.part g (pos 0) within) (omega arith) in
+    more_first (thermal_count instance) g (uplift_by instance printed table parts) c.loop-g.uplifts.items _ (omega (arith, within, c.requires.parts))
+    (wide c.unit_uplift.result MAX_UPLIFT c.unit_uplift.ensures.size (omega arith) ∙ c.unit_uplift.ensures.value
+    ∙ ap (λ z. thermal_uplift instance printed table g (z -ℤ constant_at instance table g)) part)
     (wide-size c.unit_uplift.result MAX_UPLIFT c.unit_uplift.ensures.size) c.loop-g.invariant

@@ -44,7 +44,7 @@ reduced_cost-requires-clause-prices c =
 
 value-size : (c : goal.After-reduced_cost) → unsigned_abs c.difference-value.result ≤ MAX_PART + MAX_CONSTANT
 value-size c =
-    difference-size c.args.part.now c.constant.result c.difference-value.result MAX_PART MAX_CONSTANT c.difference-value.ensures c.requires.part
+    difference-size c.args.part c.constant.result c.difference-value.result MAX_PART MAX_CONSTANT c.difference-value.ensures c.requires.part
     (c.constant.ensures.size c.requires.limits)
 
 pub difference-requires : goal.difference-requires
@@ -74,10 +74,10 @@ returns-clause-value c =
     (periods_are instance printed g c.requires.shape c.requires.unit) c.requires.whole in
     let constant : c.constant.result ≡ constant_at instance table g =
     c.constant.ensures.value ∙ (λ i. unit_constant (c.requires.size.periods i) table (sym unit i) g) in
-    let value : c.difference-value.result ≡ c.args.part.now -ℤ constant_at instance table g =
-    difference-is c.args.part.now c.constant.result c.difference-value.result MAX_PART MAX_CONSTANT c.difference-value.ensures c.requires.part
+    let value : c.difference-value.result ≡ c.args.part -ℤ constant_at instance table g =
+    difference-is c.args.part c.constant.result c.difference-value.result MAX_PART MAX_CONSTANT c.difference-value.ensures c.requires.part
     (c.constant.ensures.size c.requires.limits) (omega arith)
-    ∙ ap (λ z. c.args.part.now -ℤ z) constant in
+    ∙ ap (λ z. c.args.part -ℤ z) constant in
     wide c.difference.result MAX_UPLIFT (size c) (omega arith)
     ∙ difference-is c.reduced_cost.result c.difference-value.result c.difference.result (MAX_UNIT_COST + 168 * MAX_CHARGE) (MAX_PART + MAX_CONSTANT)
     c.difference.ensures c.reduced_cost.ensures.size (value-size c.before) (omega arith)

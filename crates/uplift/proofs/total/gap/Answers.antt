@@ -21,5 +21,5 @@ returns-clause-size c =
     let scale : unsigned_abs c.args.table.now.k ≤ 10 ^ 9 = omega (arith, ints, table.size.form.scale, table.limits.scale) in
     let k : unsigned_abs c.k.result ≤ 10 ^ 9 = subst (λ z. unsigned_abs z ≤ 10 ^ 9) (sym c.k.ensures) scale in
     let costs = scaled-size c.k.result c.cost.result c.scaled.result (10 ^ 9) COST_MAX c.scaled.ensures k cost in
-    let size = difference-size c.scaled.result c.args.value.now c.difference.result (10 ^ 9 * COST_MAX) MAX_VALUE c.difference.ensures costs c.requires.value in
+    let size = difference-size c.scaled.result c.args.value c.difference.result (10 ^ 9 * COST_MAX) MAX_VALUE c.difference.ensures costs c.requires.value in
     wide-size c.difference.result MAX_GAP (omega (arith, size))

@@ -1,5 +1,5 @@
 -- The lists hold the uplifts, and what the others leave of the gap is the ramp slack.
-use Rattle.std.proofs.Common.{◌≤◌, List, length, sym, subst, ◌∙◌, rules, ℤ, ◌+ℤ◌, ◌-ℤ◌, to_z, of_z, unsigned_abs, All}
+use Rattle.std.proofs.Common.{◌≤◌, FitsSigned, List, length, sym, subst, ◌∙◌, rules, ℤ, ◌+ℤ◌, ◌-ℤ◌, to_z, of_z, unsigned_abs, All}
 use Rattle.std.specs.Int.{w128}
 use Rattle.std.proofs.lemmas.Int.{to_z-of_z}
 use Rattle.uc_model.specs.Schedule.{renewable_count, thermal_count}
@@ -34,6 +34,7 @@ returns c =
     let printed = c.args.printed.now in
     let table = c.args.table.now in
     let known = to_z-of_z w128 c.sum.result (search rules) ∙ c.sum.ensures in
+    let fits : FitsSigned w128 c.in_ok-valued.valued.total = search rules in
     let first = c.deref.ensures.value ∙ sym c.from_vec.ensures in
     let second = c.deref-2.ensures.value ∙ sym c.from_vec-2.ensures in
     uplifts_are instance printed table c.in_ok-valued.valued _
@@ -45,7 +46,7 @@ returns c =
       renewable = subst (λ (uplifts : List ℤ). AreRenewableUplifts instance printed table uplifts) (sym c.from_vec-2.ensures) c.in_ok-renewable.ensures;
       shed = to_z-of_z w128 c.shed_uplift-shed.result (search rules) ∙ c.shed_uplift-shed.ensures.value;
       reserve = to_z-of_z w128 c.reserve_slack-reserve_slack.result (search rules) ∙ c.reserve_slack-reserve_slack.ensures.value;
-      total = to_z-of_z w128 c.gap-total.result (search rules) ∙ c.gap-total.ensures.value;
+      total = to_z-of_z w128 c.gap-total.result (search rules) ∙ simp to_z-of_z at c.gap-total.ensures.value;
       rest = to_z-of_z w128 c.rest-ramp_slack.result (search rules) ∙ c.rest-ramp_slack.ensures
           ∙ (λ i. to_z w128 (of_z w128 c.gap-total.result) -ℤ (known i +ℤ (sum_in (first i) +ℤ sum_in (second i))));
     })
