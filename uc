@@ -8,12 +8,13 @@ program=$top/crates/uc/out/uc
 child='' work='' told='' crates=() uses=() began=() took=()
 
 # What the proof of each crate took when it was measured, in seconds of one processor.
-weights='uc_model 84 dual_model 66 outside 102 outside_system 132 decimal_json 174 instance 234 table_list 102 cert_text 432
-  report 192 cost_curves 84 start_costs 36 period_term 102 ramp_duals 36 system_value 72 interval_graph 36 step_functions 162
-  hull_function 30 unit_path 102 unit_runs 18 unit_exact 174 dispatch_repair 324 dual_value 102 quick_value 348
-  opening_tables 78 uplift 144 bundle 228 prices 258 repair_state 282 schedule_repair 294 roll 114 branch_tree 102
-  incumbent 42 steal_pool 78 search_core 204 claims 48 book 150 decommitment 336 opening 156 workers 702 schedule_check 180
-  state_walk 156 leaf_values 120 cert_check 186 demo_gen 42 command_line 204 uc_check 174 uc_cli 114 uc 186'
+weights='uc_model 72 dual_model 48 outside 66 outside_system 132 decimal_json 144 instance 228 table_list 108
+  cert_text 366 report 180 cost_curves 72 start_costs 30 period_term 84 ramp_duals 36 system_value 84 interval_graph 36
+  step_functions 114 hull_function 24 unit_path 84 unit_runs 18 unit_exact 144 dispatch_repair 228 dual_value 96
+  quick_value 258 opening_tables 60 uplift 144 bundle 168 prices 216 repair_state 192 schedule_repair 228 roll 114
+  branch_tree 78 incumbent 42 steal_pool 96 search_core 156 claims 42 book 150 decommitment 270 opening 138 workers 768
+  schedule_check 126 state_walk 126 leaf_values 114 cert_check 126 demo_gen 48 command_line 222 uc_check 138 uc_cli 126
+  uc 210'
 
 say() { printf 'uc: %s\n' "$*" >&2; }
 is_current() {
