@@ -4,7 +4,7 @@
 -- and down times, and start-up and shut-down limits), in whole watts.
 --
 -- Periods count from 0 here: the index t is period t + 1 of the model.
-use Rattle.std.specs.Prelude.{◌≡◌, ℕ, zero, suc, ◌+◌, ◌-◌, ◌<◌, min, IsTrue, Bool, not, ◌&&◌, ◌||◌, nat_lt, ℤ, pos, ◌-ℤ◌, ◌*ℤ◌, int_le, if◌then◌else◌}
+use Rattle.std.specs.Prelude.{◌≡◌, ℕ, zero, suc, ◌+◌, ◌-◌, ◌<◌, min, IsTrue, Bool, not, ◌&&◌, ◌||◌, ◌==◌, nat_lt, ℤ, pos, ◌-ℤ◌, ◌*ℤ◌, int_le, if◌then◌else◌}
 use Rattle.std.specs.Int.{int_min, int_max}
 use Rattle.uc_model.specs.Sums.{sum_below, all_below, bit}
 pub use Rattle.uc_model.specs.declared.instance.Thermal.{Thermal}
@@ -84,6 +84,15 @@ stop_cap unit on t = (unit.pmax -ℤ unit.pmin) *ℤ bit (on t) -ℤ stop_reduct
 -- the cap of a cell: the least of the right sides of M9 and M10
 abbrev pub cap : ℕ → Thermal → Commitment → ℕ → ℤ
 cap periods unit on t = if nat_lt (suc t) periods then int_min (start_cap unit on t) (stop_cap unit on t) else start_cap unit on t
+
+-- the cap of a cell, by whether it is a start and whether a stop follows: a unit that is on initially has no start in the first
+-- period, and after the last period there is no stop
+abbrev pub cell_cap : ℕ → Thermal → ℕ → Bool → Bool → ℤ
+cell_cap periods unit t start stop =
+    let full = unit.pmax -ℤ unit.pmin in
+    let started = start && not (unit.on0 && (t == 0)) in
+    let followed = stop && nat_lt (suc t) periods in
+    int_min (full -ℤ start_reduction unit *ℤ bit started) (full -ℤ stop_reduction unit *ℤ bit followed)
 
 -- what an allowed pattern keeps in period t: M1 to M5, and a cap of at least 0 where it is on
 abbrev pub is_allowed_at : ℕ → Thermal → Commitment → ℕ → Bool

@@ -7,6 +7,7 @@ use Rattle.uc_model.specs.Commitment.{Thermal, Commitment, was_on, stops, stop_r
 use Rattle.uc_model.specs.Rules.{Rule, MustRun, InitialUp, InitialDown, MinimumUp, MinimumDown, Category, InitialStop, Production, StartCap, StopCap, RampUp, RampDown, RenewableRange, Demand, Reserve, ShedRange, ShortRange, holds, holds_at}
 use Rattle.uc_model.specs.Schedule.{Instance, no_unit, thermal_unit}
 use Rattle.uc_model.specs.PrintedSchedule.{Cell, Point, Printed, printed_schedule, printed_denominator, printed_cost, cell_at}
+use Rattle.uc_model.specs.Denominator.{is_schedule_whole_over}
 use Rattle.uc_model.specs.declared.instance.StartRow.{StartRow}
 
 -- whole megawatts in watts, and whole dollars in micro-dollars
@@ -174,6 +175,12 @@ abbrev pub broken_rules : Example → List Rule
 broken_rules e =
     let q = printed_denominator e.instance e.printed in
     filter (λ rule. not (holds rule e.instance q (printed_schedule e.instance e.printed q))) all_rules
+
+-- over d, each amount of the schedule which an example stands for is whole
+abbrev pub is_whole_in : Example → ℕ → Bool
+is_whole_in e d =
+    let q = printed_denominator e.instance e.printed in
+    is_schedule_whole_over e.instance q (printed_schedule e.instance e.printed q) d
 
 -- ---- start categories, caps and costs
 

@@ -6,12 +6,14 @@ pub mod Commitment
 pub mod PatternBits
 pub mod ExtremePatterns
 pub mod StartCategory
+pub mod Switches
 pub mod Points
 pub mod Schedule
 pub mod Rules
 pub mod Cost
 pub mod Hull
 pub mod PrintedSchedule
+pub mod Denominator
 pub mod Limits
 pub mod Examples
 pub mod Tolerance

@@ -6,7 +6,7 @@ ghost use Rattle.uc_model.specs.Commitment.{cap};
 ghost use Rattle.uc_model.specs.StartCategory.{is_category_allowed, sigma};
 ghost use Rattle.uc_model.specs.Rules.{Rule, RampDown, StopCap, ShedRange, ShortRange, rule_number};
 ghost use Rattle.uc_model.specs.Hull.{segment_at, hull_cost};
-ghost use Rattle.uc_model.specs.Examples.{mw, dollars, obeying, breaking, all_rules, broken_rules, two_category_unit, on_off_on, uneven_unit, one_stop, two_stops, weak_start_unit, pattern, stopping, printed_cost_of, bent_unit, rising_unit, falling_unit, rule_at_period, ramp_down_between_on_periods, stop_cap_in_stop_period, shed_below_nought, short_below_nought, short_above_need, shed_alone, shed_and_short, halved, half_missing};
+ghost use Rattle.uc_model.specs.Examples.{mw, dollars, obeying, breaking, all_rules, broken_rules, two_category_unit, on_off_on, uneven_unit, one_stop, two_stops, weak_start_unit, pattern, stopping, printed_cost_of, bent_unit, rising_unit, falling_unit, rule_at_period, ramp_down_between_on_periods, stop_cap_in_stop_period, shed_below_nought, short_below_nought, short_above_need, shed_alone, shed_and_short, halved, half_missing, is_whole_in};
 
 /// For each rule there is a schedule that breaks it and no other rule, and there is one that obeys all.
 pub fn each_rule_is_told_apart()
@@ -27,6 +27,9 @@ pub fn shortages_and_denominators_by_example()
     ensures halved { broken_rules halved ≡ [] }
     ensures halved_cost { printed_cost_of halved ≡ dollars 300 }
     ensures rounded_up { printed_cost_of half_missing ≡ pos 11 }
+    ensures whole_watts { is_whole_in halved 1 ≡ true }
+    ensures half_watts { is_whole_in half_missing 1 ≡ false }
+    ensures in_halves { is_whole_in half_missing 2 ≡ true }
 {}
 
 /// Start categories by the stops and by the initial time off, and the least start cost by the last stop.

@@ -14,7 +14,8 @@ pub struct FieldRefusal {
     /// 5 it is outside its range;
     /// 6 the array is shorter than the number of periods;
     /// 7 there are too many periods, units or rows;
-    /// 8 it is rounded, where only exact numbers are taken.
+    /// 8 it is rounded, where only exact numbers are taken;
+    /// 9 at the prices given, all shortages together may cost more than their limit. It names no field.
     pub code: u8,
     /// 0 where the field is in no unit, 1 where it is in a thermal one, and 2 in a renewable one.
     pub kind_of_unit: u8,

@@ -10,7 +10,7 @@ const LOW_PERIODS: u32 = 128;
 
 /// The commitment of one unit over up to 168 periods, without heap: period t, from 0, is bit t of
 /// `low`, or bit t - 128 of `high`.
-#[derive(Clone, Copy, Debug)]
+#[derive(Clone, Copy, Debug, PartialEq, Eq)]
 pub struct Pattern {
     pub low: u128,
     pub high: u64,

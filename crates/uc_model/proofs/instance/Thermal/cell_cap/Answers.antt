@@ -1,0 +1,38 @@
+-- The lesser of both caps, which is as small as both.
+use Rattle.std.proofs.Common.{◌≡◌, ◌≤◌, ◌∙◌, ap, sym, subst, arith, lit<, ℤ, ◌-ℤ◌, ◌*ℤ◌, to_z, of_z, unsigned_abs}
+use Rattle.std.specs.Int.{w64, int_min}
+use Rattle.uc_model.specs.Commitment.{start_reduction, stop_reduction}
+use Rattle.uc_model.specs.Limits.{MAX_POWER}
+use Rattle.uc_model.specs.Sums.{bit}
+use Rattle.uc_model.proofs.Sizes.{abs_min, abs_narrow, narrow}
+use Rattle.uc_model.proofs.instance.Thermal.cell_cap.Goals as goal
+
+-- a number of known size and value, as its bits say it
+is_in_bits : (z value : ℤ) → unsigned_abs z ≤ MAX_POWER → z ≡ value → to_z w64 (of_z w64 z) ≡ value
+is_in_bits z value size is = narrow z MAX_POWER size (lit< tt) ∙ is
+
+least_is_short : (z a b : ℤ) → z ≡ int_min (to_z w64 (of_z w64 a)) (to_z w64 (of_z w64 b)) → unsigned_abs a ≤ MAX_POWER
+    → unsigned_abs b ≤ MAX_POWER → unsigned_abs z ≤ MAX_POWER
+least_is_short z a b is h k =
+    subst (λ x. unsigned_abs x ≤ MAX_POWER) (sym is)
+    (abs_min (to_z w64 (of_z w64 a)) (to_z w64 (of_z w64 b)) MAX_POWER (omega (arith, abs_narrow a, h)) (omega (arith, abs_narrow b, k)))
+
+least_is : (z a b first second : ℤ) → z ≡ int_min (to_z w64 (of_z w64 a)) (to_z w64 (of_z w64 b)) → unsigned_abs a ≤ MAX_POWER
+    → unsigned_abs b ≤ MAX_POWER → a ≡ first → b ≡ second → to_z w64 (of_z w64 z) ≡ int_min first second
+least_is z a b first second is h k a_is b_is =
+    is_in_bits z (int_min first second) (least_is_short z a b is h k)
+    (is ∙ (ap (λ x. int_min x (to_z w64 (of_z w64 b))) (is_in_bits a first h a_is) ∙ ap (λ x. int_min first x) (is_in_bits b second k b_is)))
+
+pub returns-clause-value : goal.returns-clause-value
+returns-clause-value c lawful =
+    let unit = c.args.self.now in
+    least_is c.min.result c.start_cap-started.result c.stop_cap-followed.result _ _ c.min.ensures.value
+    (c.start_cap-started.ensures.size lawful) (c.stop_cap-followed.ensures.size lawful)
+    (c.start_cap-started.ensures.value lawful ∙ ap (λ b. unit.pmax -ℤ unit.pmin -ℤ start_reduction unit *ℤ bit b) c.is_start.ensures)
+    (c.stop_cap-followed.ensures.value lawful ∙ ap (λ b. unit.pmax -ℤ unit.pmin -ℤ stop_reduction unit *ℤ bit b) c.is_followed.ensures)
+
+pub returns-clause-size : goal.returns-clause-size
+returns-clause-size c lawful =
+    let short = least_is_short c.min.result c.start_cap-started.result c.stop_cap-followed.result c.min.ensures.value
+    (c.start_cap-started.ensures.size lawful) (c.stop_cap-followed.ensures.size lawful) in
+    omega (arith, abs_narrow c.min.result, short)
