@@ -17,3 +17,4 @@ pub mod HullPoints
 pub mod HullSegments
 pub mod PrintedCosts
 pub mod Sizes
+pub mod Caps

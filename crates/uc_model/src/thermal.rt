@@ -2,7 +2,7 @@
 
 ghost use Rattle.std.specs.Prelude.{◌≡◌, ℕ, suc, ◌+◌, ◌*◌, ◌-◌, ◌<◌, ◌≤◌, ◌-ℤ◌, ◌*ℤ◌, ◌==◌, ◌&&◌, not, nat_le, nat_lt, unsigned_abs};
 ghost use Rattle.uc_model.specs.Commitment.{cell_cap as cap_of, initial_p, start_reduction as start_reduction_of, stop_reduction as stop_reduction_of};
-ghost use Rattle.uc_model.specs.Limits.{IsLawfulThermal, IsPower};
+ghost use Rattle.uc_model.specs.Limits.{IsLawfulThermal, IsLimit, IsPower};
 ghost use Rattle.uc_model.specs.Sums.{bit};
 ghost use Rattle.uc_model.specs.Switches.{has_lasted, may_switch};
 
@@ -14,7 +14,7 @@ impl Thermal {
     /// The width of the unit's range: the greatest output less the least, in watts.
     pub fn range(&self) -> i64
         ensures value { IsLawfulThermal self.now → result ≡ self.now.pmax -ℤ self.now.pmin }
-        ensures size { IsLawfulThermal self.now → unsigned_abs result ≤ MAX_POWER }
+        ensures limit { IsLawfulThermal self.now → IsLimit result }
     {
         difference(self.pmax, self.pmin)
     }
@@ -34,7 +34,7 @@ impl Thermal {
     /// How far the limit of a start lies below the greatest output, in watts; 0 where it lies above.
     pub fn start_reduction(&self) -> i64
         ensures value { IsLawfulThermal self.now → result ≡ start_reduction_of self.now }
-        ensures size { IsLawfulThermal self.now → unsigned_abs result ≤ MAX_POWER }
+        ensures limit { IsLawfulThermal self.now → IsLimit result }
     {
         difference(self.pmax, self.su).max(0)
     }
@@ -42,9 +42,33 @@ impl Thermal {
     /// How far the limit of a stop lies below the greatest output, in watts; 0 where it lies above.
     pub fn stop_reduction(&self) -> i64
         ensures value { IsLawfulThermal self.now → result ≡ stop_reduction_of self.now }
-        ensures size { IsLawfulThermal self.now → unsigned_abs result ≤ MAX_POWER }
+        ensures limit { IsLawfulThermal self.now → IsLimit result }
     {
         difference(self.pmax, self.sd).max(0)
+    }
+
+    /// The right side of M9 in watts: the range of an hour in which the unit is `on`, and else 0, less what a start in it takes.
+    pub fn start_cap(&self, on: bool, is_start: bool) -> i64
+        ensures value { IsLawfulThermal self.now → result ≡ (self.now.pmax -ℤ self.now.pmin) *ℤ bit on -ℤ start_reduction_of self.now *ℤ bit is_start }
+        ensures size { IsLawfulThermal self.now → unsigned_abs result ≤ MAX_POWER }
+    {
+        reduced(self.range_where(on), self.start_reduction(), is_start)
+    }
+
+    /// The right side of M10 in watts: the range of an hour in which the unit is `on`, and else 0, less what a stop behind it takes.
+    pub fn stop_cap(&self, on: bool, is_followed: bool) -> i64
+        ensures value { IsLawfulThermal self.now → result ≡ (self.now.pmax -ℤ self.now.pmin) *ℤ bit on -ℤ stop_reduction_of self.now *ℤ bit is_followed }
+        ensures size { IsLawfulThermal self.now → unsigned_abs result ≤ MAX_POWER }
+    {
+        reduced(self.range_where(on), self.stop_reduction(), is_followed)
+    }
+
+    // The range where the unit is on, and else 0.
+    fn range_where(&self, on: bool) -> i64
+        ensures value { IsLawfulThermal self.now → result ≡ (self.now.pmax -ℤ self.now.pmin) *ℤ bit on }
+        ensures limit { IsLawfulThermal self.now → IsLimit result }
+    {
+        if on { self.range() } else { 0 }
     }
 
     /// The cap of an on hour, in watts above the minimum: that of period `t` (from 0) of `periods`, by whether the unit starts
@@ -54,33 +78,9 @@ impl Thermal {
         ensures value { IsLawfulThermal self.now → result ≡ cap_of periods self.now t start stop }
         ensures size { IsLawfulThermal self.now → unsigned_abs result ≤ MAX_POWER }
     {
-        let started = self.start_cap(is_start(self, t, start));
-        let followed = self.stop_cap(is_followed(periods, t, stop));
+        let started = self.start_cap(true, is_start(self, t, start));
+        let followed = self.stop_cap(true, is_followed(periods, t, stop));
         started.min(followed)
-    }
-
-    // The range, less what a start takes of it.
-    fn start_cap(&self, is_start: bool) -> i64
-        ensures value { IsLawfulThermal self.now → result ≡ self.now.pmax -ℤ self.now.pmin -ℤ start_reduction_of self.now *ℤ bit is_start }
-        ensures size { IsLawfulThermal self.now → unsigned_abs result ≤ MAX_POWER }
-    {
-        if is_start {
-            difference(self.range(), self.start_reduction())
-        } else {
-            self.range()
-        }
-    }
-
-    // The range, less what a stop behind the hour takes of it.
-    fn stop_cap(&self, is_followed: bool) -> i64
-        ensures value { IsLawfulThermal self.now → result ≡ self.now.pmax -ℤ self.now.pmin -ℤ stop_reduction_of self.now *ℤ bit is_followed }
-        ensures size { IsLawfulThermal self.now → unsigned_abs result ≤ MAX_POWER }
-    {
-        if is_followed {
-            difference(self.range(), self.stop_reduction())
-        } else {
-            self.range()
-        }
     }
 
     /// The first period, from 0, in which the minimum times let a unit be switched that is `on`, or off, since `since`: 0 is
@@ -103,6 +103,18 @@ fn difference(power: i64, other: i64) -> i64
     ensures { IsPower power → IsPower other → result ≡ power -ℤ other }
 {
     power.saturating_sub(other)
+}
+
+// A limit less a reduction, where it applies.
+fn reduced(limit: i64, reduction: i64, applies: bool) -> i64
+    ensures value { IsLimit limit → IsLimit reduction → result ≡ limit -ℤ reduction *ℤ bit applies }
+    ensures size { IsLimit limit → IsLimit reduction → IsPower result }
+{
+    if applies {
+        difference(limit, reduction)
+    } else {
+        limit
+    }
 }
 
 // Whether an hour that is to be a start can be one.

@@ -1,15 +1,13 @@
 -- The lesser of both caps, which is as small as both.
-use Rattle.std.proofs.Common.{◌≡◌, ◌≤◌, ◌∙◌, ap, sym, subst, arith, lit<, ℤ, ◌-ℤ◌, ◌*ℤ◌, to_z, of_z, unsigned_abs}
+use Rattle.std.proofs.Common.{◌≡◌, ◌≤◌, ◌∙◌, ap, sym, subst, arith, ℤ, ◌-ℤ◌, ◌*ℤ◌, to_z, of_z, unsigned_abs}
 use Rattle.std.specs.Int.{w64, int_min}
 use Rattle.uc_model.specs.Commitment.{start_reduction, stop_reduction}
 use Rattle.uc_model.specs.Limits.{MAX_POWER}
 use Rattle.uc_model.specs.Sums.{bit}
-use Rattle.uc_model.proofs.Sizes.{abs_min, abs_narrow, narrow}
+use Rattle.uc_model.proofs.Caps.{is_in_bits}
+use Rattle.uc_model.proofs.Ring.{mul-one}
+use Rattle.uc_model.proofs.Sizes.{abs_min, abs_narrow}
 use Rattle.uc_model.proofs.instance.Thermal.cell_cap.Goals as goal
-
--- a number of known size and value, as its bits say it
-is_in_bits : (z value : ℤ) → unsigned_abs z ≤ MAX_POWER → z ≡ value → to_z w64 (of_z w64 z) ≡ value
-is_in_bits z value size is = narrow z MAX_POWER size (lit< tt) ∙ is
 
 least_is_short : (z a b : ℤ) → z ≡ int_min (to_z w64 (of_z w64 a)) (to_z w64 (of_z w64 b)) → unsigned_abs a ≤ MAX_POWER
     → unsigned_abs b ≤ MAX_POWER → unsigned_abs z ≤ MAX_POWER
@@ -26,10 +24,13 @@ least_is z a b first second is h k a_is b_is =
 pub returns-clause-value : goal.returns-clause-value
 returns-clause-value c lawful =
     let unit = c.args.self.now in
+    let full = unit.pmax -ℤ unit.pmin in
     least_is c.min.result c.start_cap-started.result c.stop_cap-followed.result _ _ c.min.ensures.value
     (c.start_cap-started.ensures.size lawful) (c.stop_cap-followed.ensures.size lawful)
-    (c.start_cap-started.ensures.value lawful ∙ ap (λ b. unit.pmax -ℤ unit.pmin -ℤ start_reduction unit *ℤ bit b) c.is_start.ensures)
-    (c.stop_cap-followed.ensures.value lawful ∙ ap (λ b. unit.pmax -ℤ unit.pmin -ℤ stop_reduction unit *ℤ bit b) c.is_followed.ensures)
+    (c.start_cap-started.ensures.value lawful
+    ∙ (ap (λ z. z -ℤ start_reduction unit *ℤ bit c.is_start.result) (mul-one full) ∙ ap (λ b. full -ℤ start_reduction unit *ℤ bit b) c.is_start.ensures))
+    (c.stop_cap-followed.ensures.value lawful
+    ∙ (ap (λ z. z -ℤ stop_reduction unit *ℤ bit c.is_followed.result) (mul-one full) ∙ ap (λ b. full -ℤ stop_reduction unit *ℤ bit b) c.is_followed.ensures))
 
 pub returns-clause-size : goal.returns-clause-size
 returns-clause-size c lawful =
