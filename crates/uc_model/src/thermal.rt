@@ -83,6 +83,20 @@ impl Thermal {
         started.min(followed)
     }
 
+    /// What is left of the minimum up time at the initial time, in hours: M2 keeps a unit on for so long that is on then.
+    pub fn up_time_left(&self) -> u32
+        ensures { result ≡ self.now.ut - self.now.ut0 }
+    {
+        self.ut.saturating_sub(self.ut0)
+    }
+
+    /// What is left of the minimum down time at the initial time, in hours: M3 keeps a unit off for so long that is off then.
+    pub fn down_time_left(&self) -> u32
+        ensures { result ≡ self.now.dt - self.now.dt0 }
+    {
+        self.dt.saturating_sub(self.dt0)
+    }
+
     /// The first period, from 0, in which the minimum times let a unit be switched that is `on`, or off, since `since`: 0 is
     /// since before the first period, and s + 1 since period s, in which it was switched.
     pub fn first_switch(&self, on: bool, since: usize) -> usize
@@ -91,9 +105,9 @@ impl Thermal {
         ensures size { IsLawfulThermal self.now → result ≤ MAX_PERIODS + MAX_TIME }
     {
         if on {
-            first_left(self.ut, self.ut0, since)
+            first_left(self.ut, self.up_time_left(), since)
         } else {
-            first_left(self.dt, self.dt0, since)
+            first_left(self.dt, self.down_time_left(), since)
         }
     }
 }
@@ -132,14 +146,16 @@ fn is_followed(periods: usize, t: usize, stop: bool) -> bool
     stop && t + 1 < periods
 }
 
-// The first period in which a state may be left that lasts `least` hours, of which `initial` have gone by before the first period.
-fn first_left(least: u32, initial: u32, since: usize) -> usize
+// The first period in which a state may be left: initially `left` hours remain, and a state that was entered in the horizon lasts
+// `most`.
+fn first_left(most: u32, left: u32, since: usize) -> usize
+    requires left { left ≤ most }
     requires past { since ≤ MAX_PERIODS }
-    ensures first { (t : ℕ) → has_lasted (least - initial) least since t ≡ nat_le result t }
-    ensures size { result ≤ since + least }
+    ensures first { (t : ℕ) → has_lasted left most since t ≡ nat_le result t }
+    ensures size { result ≤ since + most }
 {
     match since.checked_sub(1) {
-        None => least.saturating_sub(initial) as usize,
-        Some(period) => period + least as usize,
+        None => left as usize,
+        Some(period) => period + most as usize,
     }
 }
