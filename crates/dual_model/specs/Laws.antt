@@ -11,6 +11,7 @@ use Rattle.dual_model.specs.NodeValue.{IsNodeValue}
 use Rattle.dual_model.specs.Opening.{IsShortageRay, HasRayNumbers}
 use Rattle.dual_model.specs.ExactValue.{UnitSchedule, IsUnitSchedule, unit_schedule_value, IsExactBound, IsExactUnitValue, IsLeastWholeValue, HasNoUnitSchedule, IsExactNodeValue}
 use Rattle.dual_model.specs.ValueKind.{IsValueOf, HasBlockedUnit}
+use Rattle.dual_model.specs.LeastStarts.{cost_by_least_starts}
 use Rattle.dual_model.specs.Tree.{Tree, root, child, agreeing_leaves, EachLeaf}
 use Rattle.dual_model.specs.Cover.{Leaf, Bound, Ray, Empty, Holds, AllExcluded}
 use Rattle.dual_model.specs.Certificate.{Certificate, CertificateHolds}
@@ -31,6 +32,13 @@ WeakDuality exact =
     (instance : Instance) (node : Node) (table : Table) (v : ℤ) (q : ℕ) (x : Schedule) → IsLawfulInstance instance
     → IsBoundTable instance table → IsValueOf exact instance node table v → IsScheduleAt instance node q x
     → (pos q *ℤ v) ≤ℤ (table.k *ℤ cost instance q x)
+
+-- and at most K times that cost with the least start costs in place of the categories'
+abbrev pub WeakDualityOfLeastStarts : Bool → Type 0
+WeakDualityOfLeastStarts exact =
+    (instance : Instance) (node : Node) (table : Table) (v : ℤ) (q : ℕ) (x : Schedule) → IsLawfulInstance instance
+    → IsBoundTable instance table → IsValueOf exact instance node table v → IsScheduleAt instance node q x
+    → (pos q *ℤ v) ≤ℤ (table.k *ℤ cost_by_least_starts instance q x)
 
 -- a ray of positive value leaves no schedule
 abbrev pub RaysExclude : Bool → Type 0

@@ -3,15 +3,17 @@
 //! value, V and the exact value VE.
 
 ghost use Rattle.std.specs.Prelude.{Bool};
-ghost use Rattle.dual_model.specs.Laws.{WeakDuality, RaysExclude, BlockedUnitsExclude, ValuesAreUnique, ValuesExist, ValuesExistAtSchedules, ChildBound, ShortageRaysExcludeNothing, LeavesPart, CoversBound, CoversExclude, CertificatesClaimTruly};
+ghost use Rattle.dual_model.specs.Laws.{WeakDuality, WeakDualityOfLeastStarts, RaysExclude, BlockedUnitsExclude, ValuesAreUnique, ValuesExist, ValuesExistAtSchedules, ChildBound, ShortageRaysExcludeNothing, LeavesPart, CoversBound, CoversExclude, CertificatesClaimTruly};
 ghost use Rattle.dual_model.specs.LookUps.{LookUpsAgree};
 
 /// Weak duality. For each lawful instance, each node and each table of the instance's size whose scale and
 /// whose multipliers of inequalities are at least 0: the node has a value v of each kind there wherever a schedule
-/// obeys and agrees with it, and over every denominator q, `q*v <= K*cost` for each such schedule. With K = 0 and
-/// v > 0 there is none, nor is there one where some unit is blocked: has no pattern, or no schedule of its own.
+/// obeys and agrees with it, and over every denominator q, `q*v <= K*cost` for each such schedule, also where each start
+/// costs the least that its unit's last stop allows in place of its category's cost. With K = 0 and v > 0 there is none,
+/// nor is there one where some unit is blocked: has no pattern, or no schedule of its own.
 pub fn weak_duality()
     ensures bound { (exact : Bool) → WeakDuality exact }
+    ensures least_starts { (exact : Bool) → WeakDualityOfLeastStarts exact }
     ensures ray { (exact : Bool) → RaysExclude exact }
     ensures value { (exact : Bool) → ValuesExistAtSchedules exact }
     ensures blocked { (exact : Bool) → BlockedUnitsExclude exact }
