@@ -79,11 +79,11 @@ ChildBound exact =
     → ((w : ℤ) × IsValueOf exact instance (child node g t on) table w × (v ≤ℤ w))
     ⊎ HasBlockedUnit exact instance (child node g t on)
 
--- where both shortages have a price, no opening ray of demand or reserve alone excludes anything
-abbrev pub ShortageRaysExcludeNothing : Type 0
-ShortageRaysExcludeNothing =
+-- where both shortages have a price, no opening ray that asks for demand or reserve of a period alone excludes anything
+abbrev pub ShortageRaysExcludeNothing : Bool → Type 0
+ShortageRaysExcludeNothing exact =
     (instance : Instance) (node : Node) (n : ℕ) (table : Table) (v : ℤ) → IsLawfulInstance instance → 0 < instance.a
-    → 0 < instance.b → IsShortageRay instance.periods n → HasRayNumbers instance n table → IsNodeValue instance node table v
+    → 0 < instance.b → IsShortageRay instance.periods n → HasRayNumbers instance n table → IsValueOf exact instance node table v
     → v ≤ℤ pos 0
 
 -- every schedule agrees with exactly one leaf of a tree

@@ -30,10 +30,11 @@ pub fn child_bound()
     ensures { (exact : Bool) → ChildBound exact }
 {}
 
-/// Where unserved demand and missing reserve both have a price, the opening's rays of demand and reserve that name no ramp
-/// have a value of at most 0: that there is no schedule never rests on a shortage alone.
+/// Where unserved demand and missing reserve both have a price, the opening's rays that ask for demand, for reserve or for
+/// both in a period, and name no ramp, have values of at most 0, of either kind and at every node: such a shortage alone
+/// excludes nothing.
 pub fn shortage_rays_exclude_nothing()
-    ensures { ShortageRaysExcludeNothing }
+    ensures { (exact : Bool) → ShortageRaysExcludeNothing exact }
 {}
 
 /// Every schedule agrees with exactly one leaf of a tree. So, where the tables of its leaves are lawful, a
