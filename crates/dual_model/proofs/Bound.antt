@@ -1,10 +1,10 @@
--- Weak duality: q times the value of a node is at most K times the cost, for each schedule that obeys over q and agrees
--- with the node.
+-- Weak duality: q times the value of a node is at most K times the cost by least starts, for each schedule that obeys over
+-- q and agrees with the node.
 use Rattle.std.proofs.Common.{ℕ, ◌<◌, ◌≤◌, length, refl, ap, arith, ℤ, pos, ◌+ℤ◌, ◌-ℤ◌, ◌*ℤ◌, ◌≤ℤ◌}
 use Rattle.uc_model.specs.Sums.{sum_below, bit}
 use Rattle.uc_model.specs.Commitment.{initial_p}
 use Rattle.uc_model.specs.Schedule.{Schedule, thermal_unit, thermal_count, renewable_count, demand_at, reserve_at, p_at, p_before}
-use Rattle.uc_model.specs.Cost.{cell_cost, unit_cost, shortage_cost, cost}
+use Rattle.uc_model.specs.Cost.{shortage_cost}
 use Rattle.uc_model.specs.Rules.{RampUp, RampDown, RenewableRange, Demand, Reserve, Obeys, thermal_output}
 use Rattle.uc_model.proofs.Ring.{linear, scale-le-scale}
 use Rattle.uc_model.proofs.Tests.{int_le-true, int_eq-true}
@@ -13,6 +13,7 @@ use Rattle.dual_model.specs.Prices.{Instance, Table, pi_at, mu_at, up_at, down_a
 use Rattle.dual_model.specs.Fixings.{Node, IsPatternAt}
 use Rattle.dual_model.specs.UnitValue.{Thermal, period_value, IsPatternValue, IsUnitValue}
 use Rattle.dual_model.specs.NodeValue.{constant_at, system_value, renewable_value, renewables_value, shortages_value, IsNodeValue}
+use Rattle.dual_model.specs.LeastStarts.{cell_cost_by_least_starts, unit_cost_by_least_starts, cost_by_least_starts}
 use Rattle.dual_model.proofs.Lagrange.{unit_priced, bound_priced}
 use Rattle.dual_model.proofs.Multipliers.{mu_at_nonneg, signed_at, up_at_past, down_at_past}
 use Rattle.dual_model.proofs.PricedRules.{period_priced, shortages_priced, renewable_priced}
@@ -26,9 +27,9 @@ module _ (instance : Instance) (q : ℕ) (x : Schedule) (table : Table) (obeys :
   abbrev constant : ℕ → ℤ
   constant g = constant_at instance table g
 
-  -- what unit g costs, and what its output and reserve are paid
+  -- what unit g costs by least starts, and what its output and reserve are paid
   abbrev cost_of : ℕ → ℤ
-  cost_of g = unit_cost instance.periods q (unit_at g) (x.thermal g)
+  cost_of g = unit_cost_by_least_starts instance.periods q (unit_at g) (x.thermal g)
 
   abbrev paid : ℕ → ℤ
   paid g =
@@ -45,7 +46,7 @@ module _ (instance : Instance) (q : ℕ) (x : Schedule) (table : Table) (obeys :
       let bound =
       unit_priced instance.periods (pos q) unit.ru unit.rd (initial_p unit) table.k (up_at table g) (down_at table g)
       (pi_at table) (mu_at table) (p_at unit row) row.reserve (p_before q unit row)
-      (λ t. pos q *ℤ unit.pmin *ℤ bit (row.on t)) (cell_cost q unit row) (period_value table unit row.on value.term)
+      (λ t. pos q *ℤ unit.pmin *ℤ bit (row.on t)) (cell_cost_by_least_starts q unit row) (period_value table unit row.on value.term)
       (record {
         up_sign = λ t. (signed_at table signs g t).up;
         down_sign = λ t. (signed_at table signs g t).down;
@@ -56,7 +57,7 @@ module _ (instance : Instance) (q : ℕ) (x : Schedule) (table : Table) (obeys :
         rise = λ t ht. int_le-true _ _ (rule_at instance q x obeys RampUp g t hg ht);
         fall = λ t ht. int_le-true _ _ (rule_at instance q x obeys RampDown g t hg ht);
         period = λ t ht.
-            period_priced instance q x table g t value.term obeys hg ht size.form.scale (λ on. (value.terms t ht on).bound);
+            period_priced instance q x table g t value.term obeys hg ht (λ on. (value.terms t ht on).bound);
       }) in
       let same = ap (λ v. pos q *ℤ (v +ℤ constant g)) value.total in
       omega (arith, linear)
@@ -76,7 +77,7 @@ module _ (instance : Instance) (q : ℕ) (x : Schedule) (table : Table) (obeys :
   -- those of the renewable units
   pub parts_bound : (part : ℕ → ℤ) → ((g : ℕ) → g < thermal_count instance → (pos q *ℤ part g) ≤ℤ (table.k *ℤ cost_of g -ℤ paid g))
       → (pos q *ℤ (system_value instance table +ℤ sum_below (thermal_count instance) part +ℤ renewables_value instance table))
-      ≤ℤ (table.k *ℤ cost instance q x)
+      ≤ℤ (table.k *ℤ cost_by_least_starts instance q x)
   parts_bound part each =
       bound_priced instance.periods (thermal_count instance) (renewable_count instance) (pos q) table.k (pi_at table)
       (mu_at table) (demand_at instance) (reserve_at instance) x.shed x.short (shortages_value instance table)
@@ -96,7 +97,7 @@ module _ (instance : Instance) (q : ℕ) (x : Schedule) (table : Table) (obeys :
   pub bound_from : (node : Node) (v : ℤ) → IsNodeValue instance node table v
       → ((g : ℕ) → g < thermal_count instance → IsPatternAt instance node g (x.thermal g).on)
       → ((g : ℕ) → g < thermal_count instance → (w : ℤ) × IsPatternValue instance table g (x.thermal g).on w)
-      → (pos q *ℤ v) ≤ℤ (table.k *ℤ cost instance q x)
+      → (pos q *ℤ v) ≤ℤ (table.k *ℤ cost_by_least_starts instance q x)
   bound_from node v is_value patterns values =
       let bound =
       parts_bound (λ g. is_value.unit_value g +ℤ constant g) (λ g hg.

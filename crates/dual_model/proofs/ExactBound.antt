@@ -1,18 +1,18 @@
 -- Weak duality of exact values: a schedule that obeys gives each unit a schedule of its own, whose value is at most K
--- times what the unit costs, less what its output and reserve are paid.
+-- times what the unit costs by least starts, less what its output and reserve are paid.
 use Rattle.std.proofs.Common.{◌≡◌, ℕ, zero, suc, ◌-◌, ◌<◌, ◌⊎◌, Bool, true, false, not, cond, refl, sym, ap, subst, ◌∙◌, arith, ⊎_elim, ℤ, pos, ◌+ℤ◌, ◌-ℤ◌, ◌*ℤ◌, ◌≤ℤ◌, IsTrue, nat_lt, int_le, unsigned_abs}
 use Rattle.std.specs.Int.{int_max}
 use Rattle.std.proofs.lemmas.Int.{ints, clamps}
 use Rattle.std.proofs.lemmas.Bool.{cases_Bool, cond-true, cond-false, or_cases, not_from_true, true≢false, lt-ltb}
 use Rattle.uc_model.specs.Sums.{sum_below, bit}
 use Rattle.uc_model.specs.Commitment.{starts, start_cap, stop_cap}
-use Rattle.uc_model.specs.StartCategory.{last_stop, sigma, category_cost}
+use Rattle.uc_model.specs.StartCategory.{last_stop, sigma}
 use Rattle.uc_model.specs.Schedule.{Row, Schedule, thermal_unit, thermal_count, point_count, p_at, p_before, weight_sum}
 use Rattle.uc_model.specs.Points.{output_of}
-use Rattle.uc_model.specs.Cost.{production_cost, cell_cost, unit_cost, cost}
-use Rattle.uc_model.specs.Rules.{Category, Production, StartCap, StopCap, RampUp, RampDown, Obeys, stop_cap_at, thermal_output}
+use Rattle.uc_model.specs.Cost.{production_cost}
+use Rattle.uc_model.specs.Rules.{Production, StartCap, StopCap, RampUp, RampDown, Obeys, stop_cap_at, thermal_output}
 use Rattle.uc_model.specs.Limits.{IsLawfulThermal}
-use Rattle.uc_model.proofs.Ring.{linear, mul-le-mul_right, mul_nonneg, mul_comm, mul-one, mul-zero, zero-mul, mul-add, mul-lt-mul_left, pos_nonneg}
+use Rattle.uc_model.proofs.Ring.{linear, mul-le-mul_right, mul_nonneg, mul_comm, mul-one, mul-zero, mul-add, pos_nonneg}
 use Rattle.uc_model.proofs.Sums.{sum_below-le, sum_below-sub, sum_below-mul_left}
 use Rattle.uc_model.proofs.Tests.{int_le-true}
 use Rattle.uc_model.proofs.HullPoints.{abs_is}
@@ -21,9 +21,11 @@ use Rattle.dual_model.specs.Prices.{pi_at, mu_at}
 use Rattle.dual_model.specs.Fixings.{IsPatternAt}
 use Rattle.dual_model.specs.NodeValue.{unit_part}
 use Rattle.dual_model.specs.ExactValue.{Thermal, Instance, Node, Table, UnitSchedule, greatest_output, floored_cost, output_before, IsUnitScheduleAt, IsUnitSchedule, exact_cell_value, exact_period_value, unit_schedule_value, exact_part, IsExactUnitValue}
-use Rattle.dual_model.specs.Laws.{WeakDuality, RaysExclude, SchedulesAreUnitSchedules}
+use Rattle.dual_model.specs.LeastStarts.{least_start_cost, cell_cost_by_least_starts, unit_cost_by_least_starts, cost_by_least_starts}
+use Rattle.dual_model.specs.Laws.{WeakDualityOfLeastStarts, SchedulesAreUnitSchedules}
 use Rattle.dual_model.proofs.Agreement.{pattern-obeying}
-use Rattle.dual_model.proofs.PricedRules.{start_priced, made_off}
+use Rattle.dual_model.proofs.LeastStarts.{start_scaled}
+use Rattle.dual_model.proofs.PricedRules.{made_off}
 use Rattle.dual_model.proofs.Bound.{unit_share, parts_bound}
 use Rattle.dual_model.proofs.UnitValues.{allowed_value}
 use Rattle.uc_model.proofs.HullSegments.{Rises, outputs_rise}
@@ -66,20 +68,20 @@ stopped periods q unit row t holds before = ⊎_elim
     int_le-true _ _ below)
     (or_cases _ _ holds)
 
--- ---- a period, over plain numbers: what a cell adds, K times its start and its category, and what it is paid
-on_period : (q k pi mu floored made p r pmin start category u cell : ℤ) → cell ≡ floored -ℤ pi *ℤ (p +ℤ q *ℤ pmin) -ℤ mu *ℤ r
-    → u ≡ pos 1 → floored ≤ℤ (k *ℤ made) → start ≤ℤ (k *ℤ (q *ℤ category))
-    → (cell +ℤ start) ≤ℤ (k *ℤ (made +ℤ q *ℤ category) -ℤ (pi *ℤ (p +ℤ q *ℤ pmin *ℤ u) +ℤ mu *ℤ r))
-on_period q k pi mu floored made p r pmin start category u cell is is_on below begun =
-    let parts = mul-add k made (q *ℤ category) in
+-- ---- a period, over plain numbers: what a cell adds, K times its start, and what it is paid
+on_period : (q k pi mu floored made p r pmin start least u cell : ℤ) → cell ≡ floored -ℤ pi *ℤ (p +ℤ q *ℤ pmin) -ℤ mu *ℤ r
+    → u ≡ pos 1 → floored ≤ℤ (k *ℤ made) → start ≡ k *ℤ (q *ℤ least)
+    → (cell +ℤ start) ≤ℤ (k *ℤ (made +ℤ q *ℤ least) -ℤ (pi *ℤ (p +ℤ q *ℤ pmin *ℤ u) +ℤ mu *ℤ r))
+on_period q k pi mu floored made p r pmin start least u cell is is_on below begun =
+    let parts = mul-add k made (q *ℤ least) in
     rw (is, is_on, mul-one (q *ℤ pmin)) (omega (arith, linear, below, begun, parts))
 
-off_period : (q k pi mu made p r pmin start category u : ℤ) → u ≡ pos 0 → made ≡ pos 0 → p ≡ pos 0 → r ≡ pos 0
-    → start ≤ℤ (k *ℤ (q *ℤ category))
-    → (pos 0 +ℤ start) ≤ℤ (k *ℤ (made +ℤ q *ℤ category) -ℤ (pi *ℤ (p +ℤ q *ℤ pmin *ℤ u) +ℤ mu *ℤ r))
-off_period q k pi mu made p r pmin start category u is_off none p_none r_none begun =
+off_period : (q k pi mu made p r pmin start least u : ℤ) → u ≡ pos 0 → made ≡ pos 0 → p ≡ pos 0 → r ≡ pos 0
+    → start ≡ k *ℤ (q *ℤ least)
+    → (pos 0 +ℤ start) ≤ℤ (k *ℤ (made +ℤ q *ℤ least) -ℤ (pi *ℤ (p +ℤ q *ℤ pmin *ℤ u) +ℤ mu *ℤ r))
+off_period q k pi mu made p r pmin start least u is_off none p_none r_none begun =
     let nothing = mul-zero pi in
-    let parts = mul-add k (pos 0) (q *ℤ category) in
+    let parts = mul-add k (pos 0) (q *ℤ least) in
     rw (is_off, none, p_none, r_none, mul-zero (q *ℤ pmin), mul-zero mu)
     (omega (arith, linear, begun, nothing, parts, mul-zero k))
 
@@ -142,16 +144,14 @@ module _ (instance : Instance) (q : ℕ) (x : Schedule) (g : ℕ) (obeys : Obeys
   paid_at table t = pi_at table t *ℤ thermal_output instance q x g t +ℤ mu_at table t *ℤ row.reserve t
 
   period_bound : (table : Table) (t : ℕ) → t < instance.periods → pos 0 ≤ℤ table.k
-      → exact_period_value table q unit (own unit row) t ≤ℤ (table.k *ℤ cell_cost q unit row t -ℤ paid_at table t)
+      → exact_period_value table q unit (own unit row) t ≤ℤ (table.k *ℤ cell_cost_by_least_starts q unit row t -ℤ paid_at table t)
   period_bound table t ht sign =
       let p = unsigned_abs (p_at unit row t) in
       let r = unsigned_abs (row.reserve t) in
       let start = table.k *ℤ sigma unit (last_stop unit row.on t) t in
-      let scaled = scaled_cond (pos q) (starts unit row.on t) start in
-      let below = start_priced table.k q unit row t sign (rule_at instance q x obeys Category g t hg ht) in
-      let begun : cond (starts unit row.on t) (pos q *ℤ start) (pos 0)
-      ≤ℤ (table.k *ℤ (pos q *ℤ category_cost unit (row.category t))) =
-      omega (arith, linear, scaled, below) in
+      let begun : cond (starts unit row.on t) (pos q *ℤ start) (pos 0) ≡ table.k *ℤ (pos q *ℤ least_start_cost unit row.on t) =
+      scaled_cond (pos q) (starts unit row.on t) start
+      ∙ start_scaled table.k (pos q) (starts unit row.on t) (sigma unit (last_stop unit row.on t) t) in
       ⊎_elim
       (λ (on : IsTrue (row.on t)).
       let whole : weight_sum unit row t ≡ pos q = (made t ht).total ∙ ap (λ b. pos q *ℤ bit b) on ∙ mul-one (pos q) in
@@ -167,7 +167,7 @@ module _ (instance : Instance) (q : ℕ) (x : Schedule) (g : ℕ) (obeys : Obeys
       on_period (pos q) table.k (pi_at table t) (mu_at table t) (floored_cost unit.points table.k q p)
       (production_cost unit row t)
       (p_at unit row t) (row.reserve t) unit.pmin (cond (starts unit row.on t) (pos q *ℤ start) (pos 0))
-      (category_cost unit (row.category t)) (bit (row.on t))
+      (least_start_cost unit row.on t) (bit (row.on t))
       (cond (row.on t) (exact_cell_value table q unit (own unit row) t) (pos 0))
       cell (ap bit on) cost_below begun)
       (λ (off : row.on t ≡ false).
@@ -175,29 +175,29 @@ module _ (instance : Instance) (q : ℕ) (x : Schedule) (g : ℕ) (obeys : Obeys
       let none : weight_sum unit row t ≡ pos 0 = (made t ht).total ∙ ap (λ u. pos q *ℤ u) is_off ∙ mul-zero (pos q) in
       let idle = (made t ht).idle off in
       subst (λ z. (z +ℤ cond (starts unit row.on t) (pos q *ℤ start) (pos 0))
-      ≤ℤ (table.k *ℤ cell_cost q unit row t -ℤ paid_at table t))
+      ≤ℤ (table.k *ℤ cell_cost_by_least_starts q unit row t -ℤ paid_at table t))
       (sym (cond-false (row.on t) (exact_cell_value table q unit (own unit row) t) (pos 0) off))
       (off_period (pos q) table.k (pi_at table t) (mu_at table t) (production_cost unit row t) (p_at unit row t)
       (row.reserve t) unit.pmin
-      (cond (starts unit row.on t) (pos q *ℤ start) (pos 0)) (category_cost unit (row.category t))
+      (cond (starts unit row.on t) (pos q *ℤ start) (pos 0)) (least_start_cost unit row.on t)
       (bit (row.on t)) is_off
       (made_off q unit row t none) idle.0 idle.1 begun))
       (cases_Bool (row.on t))
 
-  -- the value of the unit's schedule is at most K times what the unit costs, less what it is paid
+  -- the value of the unit's schedule is at most K times what the unit costs by least starts, less what it is paid
   own_bound : (table : Table) → pos 0 ≤ℤ table.k → unit_schedule_value instance table g q (own unit row)
-      ≤ℤ (table.k *ℤ unit_cost instance.periods q unit row -ℤ sum_below instance.periods (paid_at table))
+      ≤ℤ (table.k *ℤ unit_cost_by_least_starts instance.periods q unit row -ℤ sum_below instance.periods (paid_at table))
   own_bound table sign =
       let each = sum_below-le instance.periods (exact_period_value table q unit (own unit row))
-      (λ t. table.k *ℤ cell_cost q unit row t -ℤ paid_at table t) (λ t ht. period_bound table t ht sign) in
-      let parts = sum_below-sub instance.periods (λ t. table.k *ℤ cell_cost q unit row t) (paid_at table) in
-      let times = sum_below-mul_left instance.periods table.k (cell_cost q unit row) in
+      (λ t. table.k *ℤ cell_cost_by_least_starts q unit row t -ℤ paid_at table t) (λ t ht. period_bound table t ht sign) in
+      let parts = sum_below-sub instance.periods (λ t. table.k *ℤ cell_cost_by_least_starts q unit row t) (paid_at table) in
+      let times = sum_below-mul_left instance.periods table.k (cell_cost_by_least_starts q unit row) in
       omega (arith, linear, each, parts, times)
 
   -- so is q times the unit's exact value
   exact_unit_bound : (node : Node) (table : Table) (e : ℤ) → pos 0 ≤ℤ table.k → IsPatternAt instance node g row.on
       → IsExactUnitValue instance node table g e
-      → (pos q *ℤ e) ≤ℤ (table.k *ℤ unit_cost instance.periods q unit row -ℤ sum_below instance.periods (paid_at table))
+      → (pos q *ℤ e) ≤ℤ (table.k *ℤ unit_cost_by_least_starts instance.periods q unit row -ℤ sum_below instance.periods (paid_at table))
   exact_unit_bound node table e sign pattern is =
       let below = is.bound q (own unit row) (own-is node pattern) in
       let bound = own_bound table sign in
@@ -214,14 +214,14 @@ greater_bound q a b c h k = ⊎_elim
     (max_is a b)
 
 -- the greater of both bounds takes the unit's part
-pub exact_weak_duality : WeakDuality true
-exact_weak_duality instance node table v q x lawful bounds is_value schedule =
+pub exact_least_starts : WeakDualityOfLeastStarts true
+exact_least_starts instance node table v q x lawful bounds is_value schedule =
     let bound = parts_bound instance q x table schedule.obeys bounds.size bounds.signs
     (λ g. exact_part instance table g (is_value.unit_value g) (is_value.exact_value g)) each in
-    subst (λ z. (pos q *ℤ z) ≤ℤ (table.k *ℤ cost instance q x)) (sym is_value.total) bound
+    subst (λ z. (pos q *ℤ z) ≤ℤ (table.k *ℤ cost_by_least_starts instance q x)) (sym is_value.total) bound
   where
     each : (g : ℕ) → g < thermal_count instance → (pos q *ℤ exact_part instance table g (is_value.unit_value g) (is_value.exact_value g))
-        ≤ℤ (table.k *ℤ unit_cost instance.periods q (thermal_unit instance g) (x.thermal g)
+        ≤ℤ (table.k *ℤ unit_cost_by_least_starts instance.periods q (thermal_unit instance g) (x.thermal g)
         -ℤ sum_below instance.periods (λ t. pi_at table t *ℤ thermal_output instance q x g t
         +ℤ mu_at table t *ℤ (x.thermal g).reserve t))
     each g hg =
@@ -235,16 +235,6 @@ exact_weak_duality instance node table v q x lawful bounds is_value schedule =
         (unit_share instance q x table schedule.obeys bounds.size bounds.signs node g (is_value.unit_value g) hg
         (is_value.units g hg)
         pattern (allowed_value instance table g (x.thermal g).on own_lawful.points.0 pattern.allowed))
-
--- a ray costs nothing
-pub exact_rays_exclude : RaysExclude true
-exact_rays_exclude instance node table v q x lawful bounds is_value is_ray positive schedule =
-    let bound = exact_weak_duality instance node table v q x lawful bounds is_value schedule in
-    let free = ap (λ k. k *ℤ cost instance q x) is_ray ∙ zero-mul (cost instance q x) in
-    let some = schedule.obeys.denominator in
-    let above = mul-lt-mul_left (pos q) (pos 0) v (omega (arith, linear, some)) positive in
-    let nothing = mul-zero (pos q) in
-    absurd (omega (arith, linear, bound, free, above, nothing))
 
 -- each unit has a schedule of its own
 pub schedules_are_unit_schedules : SchedulesAreUnitSchedules

@@ -1,6 +1,7 @@
 pub mod Lagrange
 pub mod Multipliers
 pub mod UnitRows
+pub mod LeastStarts
 pub mod PricedRules
 pub mod Agreement
 pub mod Bound

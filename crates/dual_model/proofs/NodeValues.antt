@@ -1,20 +1,19 @@
 -- The value of a node: it is unique, it exists where each unit has a pattern, it bounds the cost of each of the node's
 -- schedules, and a child's is at least its parent's.
-use Rattle.std.proofs.Common.{◌≡◌, ℕ, zero, suc, ◌<◌, ◌≤◌, ◌⊎◌, inl, inr, [], ◌∷◌, length, Bool, false, refl, sym, ap, subst, ◌∙◌, arith, ⊎_elim, ℤ, pos, ◌+ℤ◌, ◌*ℤ◌, ◌≤ℤ◌, IsTrue, Option, Some, None, option_map, unwrap_or}
+use Rattle.std.proofs.Common.{◌≡◌, ℕ, zero, suc, ◌<◌, ◌≤◌, ◌⊎◌, inl, inr, [], ◌∷◌, length, Bool, false, refl, sym, ap, subst, ◌∙◌, arith, ⊎_elim, ℤ, pos, ◌+ℤ◌, ◌≤ℤ◌, IsTrue, Option, Some, None, option_map, unwrap_or}
 use Rattle.std.proofs.lemmas.Bool.{and_parts}
 use Rattle.std.proofs.lemmas.List.Folds.{list_all-append}
 use Rattle.uc_model.specs.Sums.{sum_below}
 use Rattle.uc_model.specs.Commitment.{Commitment}
 use Rattle.uc_model.specs.Schedule.{Schedule, thermal_unit, thermal_count}
-use Rattle.uc_model.specs.Cost.{cost}
 use Rattle.uc_model.specs.Limits.{IsLawfulInstance}
-use Rattle.uc_model.proofs.Ring.{linear, le_antisymm, zero-mul, mul-lt-mul_left, mul-zero}
+use Rattle.uc_model.proofs.Ring.{linear, le_antisymm}
 use Rattle.uc_model.proofs.Sums.{sum_below-same, sum_below-le}
 use Rattle.dual_model.specs.Fixings.{Instance, Node, keeps_of, unit_agrees, HasEmptyUnit}
 use Rattle.dual_model.specs.UnitValue.{IsUnitValue}
 use Rattle.dual_model.specs.NodeValue.{Table, constant_at, unit_part, system_value, renewables_value, IsNodeValue}
 use Rattle.dual_model.specs.Tree.{child}
-use Rattle.dual_model.specs.Laws.{IsScheduleAt, WeakDuality, RaysExclude, ValuesAreUnique, ValuesExist, ValuesExistAtSchedules, ChildBound}
+use Rattle.dual_model.specs.Laws.{IsScheduleAt, WeakDualityOfLeastStarts, ValuesAreUnique, ValuesExist, ValuesExistAtSchedules, ChildBound}
 use Rattle.dual_model.proofs.Agreement.{pattern-obeying}
 use Rattle.dual_model.proofs.Bound.{bound_from}
 use Rattle.dual_model.proofs.UnitValues.{unit_value_of, IsUnitAnswer, unit_value_is, allowed_value}
@@ -151,21 +150,12 @@ values_exist_at_schedules instance node table q x lawful schedule = ⊎_elim
     (values_exist instance node table lawful)
 
 -- ---- it is a bound
-pub weak_duality : WeakDuality false
-weak_duality instance node table v q x lawful bounds is_value schedule =
+pub least_starts : WeakDualityOfLeastStarts false
+least_starts instance node table v q x lawful bounds is_value schedule =
     let pattern = λ (g : ℕ) (l : g < thermal_count instance).
     pattern-obeying instance node q x g lawful.periods.0 schedule.obeys schedule.agrees l (lawful.thermal g l) in
     bound_from instance q x table schedule.obeys bounds.size bounds.signs node v is_value pattern
     (λ g l. allowed_value instance table g (x.thermal g).on (lawful.thermal g l).points.0 (pattern g l).allowed)
-
-pub rays_exclude : RaysExclude false
-rays_exclude instance node table v q x lawful bounds is_value is_ray positive schedule =
-    let bound = weak_duality instance node table v q x lawful bounds is_value schedule in
-    let free = ap (λ k. k *ℤ cost instance q x) is_ray ∙ zero-mul (cost instance q x) in
-    let some = schedule.obeys.denominator in
-    let above = mul-lt-mul_left (pos q) (pos 0) v (omega (arith, linear)) positive in
-    let nothing = mul-zero (pos q) in
-    absurd (omega (arith, linear))
 
 -- ---- children
 -- what agrees with a child agrees with its parent

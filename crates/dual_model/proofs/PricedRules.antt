@@ -3,23 +3,24 @@
 use Rattle.std.proofs.Common.{◌≡◌, ℕ, suc, ◌<◌, false, not, ◌&&◌, cond, sym, ap, ◌∙◌, arith, ⊎_elim, ℤ, pos, ◌+ℤ◌, ◌-ℤ◌, ◌*ℤ◌, neg_ℤ, ◌≤ℤ◌, IsTrue, nat_lt, int_lt, int_le}
 use Rattle.std.specs.Int.{int_min, int_max}
 use Rattle.std.proofs.lemmas.Int.{ints}
-use Rattle.std.proofs.lemmas.Bool.{and_parts, or_cases, cases_Bool, cond_both, cond-true, cond-false, not_from_true, true≢false, eqb-true, ltb-false}
+use Rattle.std.proofs.lemmas.Bool.{and_parts, or_cases, cases_Bool, cond_both, cond-true, cond-false, not_from_true, true≢false, ltb-false}
 use Rattle.uc_model.specs.Sums.{bit}
 use Rattle.uc_model.specs.Commitment.{starts, cap, start_cap, stop_cap}
-use Rattle.uc_model.specs.StartCategory.{sigma, last_stop, category_cost, is_category_allowed, category_holds_at}
+use Rattle.uc_model.specs.StartCategory.{sigma, last_stop, category_cost, category_holds_at}
 use Rattle.uc_model.specs.Schedule.{Row, Schedule, thermal_unit, thermal_count, point, point_count, p_at, weight_sum, renewable_minimum, renewable_maximum, most_shed, most_short}
-use Rattle.uc_model.specs.Cost.{production_cost, cell_cost, shortage_cost}
-use Rattle.uc_model.specs.Rules.{Category, Production, StartCap, StopCap, Obeys, stop_cap_at}
+use Rattle.uc_model.specs.Cost.{production_cost, shortage_cost}
+use Rattle.uc_model.specs.Rules.{Production, StartCap, StopCap, Obeys, stop_cap_at}
 use Rattle.uc_model.proofs.Ring.{linear, spread, scale-le-scale, mul-le-mul_left, mul-le-mul_right, mul-le-mul_turned, mul_left_comm, mul_assoc, mul-add, sub-mul, mul-one, mul-zero, mul-neg, pos_nonneg}
 use Rattle.uc_model.proofs.Sums.{sum_below-zero, term-le-sum_below}
 use Rattle.uc_model.proofs.Tests.{int_le-true, int_min_left, int_min_right}
 use Rattle.uc_model.proofs.Obeyed.{rule_at, Produces, production_parts}
 use Rattle.uc_model.proofs.Shortages.{IsShortage, shed_parts, short_parts}
-use Rattle.uc_model.proofs.StartCosts.{sigma-le-allowed}
 use Rattle.dual_model.specs.Prices.{Instance, Table, pi_at, mu_at}
 use Rattle.dual_model.specs.Term.{IsCellBound, output_price, reserve_price}
 use Rattle.dual_model.specs.UnitValue.{Thermal, period_value}
 use Rattle.dual_model.specs.NodeValue.{renewable_value, shortage_value, shortages_value}
+use Rattle.dual_model.specs.LeastStarts.{least_start_cost, cell_cost_by_least_starts}
+use Rattle.dual_model.proofs.LeastStarts.{start_scaled, least_start-category}
 
 -- ---- start costs
 -- K times the least start cost of a start is at most that of its category, and a cell without a start has none
@@ -27,20 +28,10 @@ pub start_priced : (k : ℤ) (q : ℕ) (unit : Thermal) (row : Row) (t : ℕ) �
     → (pos q *ℤ cond (starts unit row.on t) (k *ℤ sigma unit (last_stop unit row.on t) t) (pos 0))
     ≤ℤ (k *ℤ (pos q *ℤ category_cost unit (row.category t)))
 start_priced k q unit row t sign holds =
-    cond_both (starts unit row.on t) (k *ℤ sigma unit (last_stop unit row.on t) t) (pos 0)
-    (λ s. (pos q *ℤ s) ≤ℤ (k *ℤ (pos q *ℤ category_cost unit (row.category t))))
-    (λ start.
-    let allowed : IsTrue (is_category_allowed unit row.on (row.category t) t) = sym (cond-true _ _ _ start) ∙ holds in
-    let below = scale-le-scale q _ _ (sigma-le-allowed unit row.on (row.category t) t start allowed) in
+    let below = scale-le-scale q _ _ (least_start-category unit row.on row.category t holds) in
     let times = mul-le-mul_left k _ _ sign below in
-    let order = mul_left_comm (pos q) k (sigma unit (last_stop unit row.on t) t) in
-    omega (arith, linear))
-    (λ none.
-    let zero_category = eqb-true _ _ (sym (cond-false _ _ _ none) ∙ holds) in
-    let free : k *ℤ (pos q *ℤ category_cost unit (row.category t)) ≡ pos 0 =
-    ap (λ c. k *ℤ (pos q *ℤ category_cost unit c)) zero_category ∙ ap (λ z. k *ℤ z) (mul-zero (pos q)) ∙ mul-zero k in
-    let nothing = mul-zero (pos q) in
-    omega (arith, linear))
+    let same = start_scaled k (pos q) (starts unit row.on t) (sigma unit (last_stop unit row.on t) t) in
+    omega (arith, linear)
 
 -- ---- an on cell
 -- output and reserve stay within the cap
@@ -62,17 +53,17 @@ within_cap periods q unit row t started stopped =
     either a b h k = cond_both (int_lt b a) b a (λ c. (p_at unit row t +ℤ row.reserve t) ≤ℤ (pos q *ℤ c)) (λ e. k)
         (λ e. h)
 
-on_parts : (q term pi pmin start k made category a p b r value u : ℤ) → value ≡ term -ℤ pi *ℤ pmin → u ≡ pos 1
-    → (q *ℤ term) ≤ℤ (k *ℤ made +ℤ a *ℤ p +ℤ b *ℤ r) → (q *ℤ start) ≤ℤ (k *ℤ (q *ℤ category))
-    → (q *ℤ (value +ℤ start)) ≤ℤ (k *ℤ (made +ℤ q *ℤ category) +ℤ a *ℤ p +ℤ b *ℤ r -ℤ pi *ℤ (q *ℤ pmin *ℤ u))
-on_parts q term pi pmin start k made category a p b r value u is_value is_on bound begun =
+on_parts : (q term pi pmin start k made least a p b r value u : ℤ) → value ≡ term -ℤ pi *ℤ pmin → u ≡ pos 1
+    → (q *ℤ term) ≤ℤ (k *ℤ made +ℤ a *ℤ p +ℤ b *ℤ r) → q *ℤ start ≡ k *ℤ (q *ℤ least)
+    → (q *ℤ (value +ℤ start)) ≤ℤ (k *ℤ (made +ℤ q *ℤ least) +ℤ a *ℤ p +ℤ b *ℤ r -ℤ pi *ℤ (q *ℤ pmin *ℤ u))
+on_parts q term pi pmin start k made least a p b r value u is_value is_on bound begun =
     let order = mul_left_comm q pi pmin in
     rw (is_value, is_on, mul-one (q *ℤ pmin)) (simp spread (omega (arith, linear)))
 
-off_parts : (q pmin start pi k made category a p b r value u : ℤ) → value ≡ pos 0 → u ≡ pos 0 → made ≡ pos 0 → p ≡ pos 0 → r ≡ pos 0
-    → (q *ℤ start) ≤ℤ (k *ℤ (q *ℤ category))
-    → (q *ℤ (value +ℤ start)) ≤ℤ (k *ℤ (made +ℤ q *ℤ category) +ℤ a *ℤ p +ℤ b *ℤ r -ℤ pi *ℤ (q *ℤ pmin *ℤ u))
-off_parts q pmin start pi k made category a p b r value u is_value is_off none p_none r_none begun =
+off_parts : (q pmin start pi k made least a p b r value u : ℤ) → value ≡ pos 0 → u ≡ pos 0 → made ≡ pos 0 → p ≡ pos 0 → r ≡ pos 0
+    → q *ℤ start ≡ k *ℤ (q *ℤ least)
+    → (q *ℤ (value +ℤ start)) ≤ℤ (k *ℤ (made +ℤ q *ℤ least) +ℤ a *ℤ p +ℤ b *ℤ r -ℤ pi *ℤ (q *ℤ pmin *ℤ u))
+off_parts q pmin start pi k made least a p b r value u is_value is_off none p_none r_none begun =
     rw (is_value, is_off, none, p_none, r_none, mul-zero (q *ℤ pmin), mul-zero pi, mul-zero a, mul-zero b)
     (simp (spread, mul-zero) (omega (arith, linear)))
 
@@ -89,23 +80,23 @@ made_off q unit row t none =
         let least = pos_nonneg (row.weight t l) in
         omega (arith, linear)
 
--- q times the value of a period is at most K times its cost and the prices of its output and reserve
+-- q times the value of a period is at most K times its cost by least starts and the prices of its output and reserve
 pub period_priced : (instance : Instance) (q : ℕ) (x : Schedule) (table : Table) (g t : ℕ) (term : ℕ → ℤ) → Obeys instance q x
-    → g < thermal_count instance → t < instance.periods → pos 0 ≤ℤ table.k
+    → g < thermal_count instance → t < instance.periods
     → (IsTrue ((x.thermal g).on t)
     → IsCellBound (thermal_unit instance g).points table.k (output_price table g t) (reserve_price table g t)
     (cap instance.periods (thermal_unit instance g) (x.thermal g).on t) (term t))
     → (pos q *ℤ period_value table (thermal_unit instance g) (x.thermal g).on term t)
-    ≤ℤ (table.k *ℤ cell_cost q (thermal_unit instance g) (x.thermal g) t
+    ≤ℤ (table.k *ℤ cell_cost_by_least_starts q (thermal_unit instance g) (x.thermal g) t
     +ℤ output_price table g t *ℤ p_at (thermal_unit instance g) (x.thermal g) t
     +ℤ reserve_price table g t *ℤ (x.thermal g).reserve t
     -ℤ pi_at table t *ℤ (pos q *ℤ (thermal_unit instance g).pmin *ℤ bit ((x.thermal g).on t)))
-period_priced instance q x table g t term obeys hg ht sign bound =
+period_priced instance q x table g t term obeys hg ht bound =
     let unit = thermal_unit instance g in
     let row = x.thermal g in
     let made : Produces q unit row t = production_parts q unit row t
     (rule_at instance q x obeys Production g t hg ht) in
-    let begun = start_priced table.k q unit row t sign (rule_at instance q x obeys Category g t hg ht) in
+    let begun = start_scaled table.k (pos q) (starts unit row.on t) (sigma unit (last_stop unit row.on t) t) in
     ⊎_elim
     (λ (on : IsTrue (row.on t)).
     let is_on : bit (row.on t) ≡ pos 1 = ap bit on in
@@ -113,7 +104,7 @@ period_priced instance q x table g t term obeys hg ht sign bound =
     let started = int_le-true _ _ (rule_at instance q x obeys StartCap g t hg ht) in
     let fits = within_cap instance.periods q unit row t started (rule_at instance q x obeys StopCap g t hg ht) in
     on_parts (pos q) (term t) (pi_at table t) unit.pmin _ table.k (production_cost unit row t)
-    (category_cost unit (row.category t))
+    (least_start_cost unit row.on t)
     (output_price table g t) (p_at unit row t) (reserve_price table g t) (row.reserve t) _ _
     (cond-true (row.on t) _ _ on) is_on ((bound on).below q (row.weight t) (row.reserve t) whole made.reserve fits)
     begun)
@@ -122,7 +113,7 @@ period_priced instance q x table g t term obeys hg ht sign bound =
     let none : weight_sum unit row t ≡ pos 0 = made.total ∙ ap (λ u. pos q *ℤ u) is_off ∙ mul-zero (pos q) in
     let idle = made.idle off in
     off_parts (pos q) unit.pmin _ (pi_at table t) table.k (production_cost unit row t)
-    (category_cost unit (row.category t))
+    (least_start_cost unit row.on t)
     (output_price table g t) (p_at unit row t) (reserve_price table g t) (row.reserve t) _ _
     (cond-false (row.on t) _ _ off) is_off (made_off q unit row t none) idle.0 idle.1 begun)
     (cases_Bool (row.on t))

@@ -1,21 +1,25 @@
 -- Rays of demand and reserve that name no ramp, where both may be missing at a price: their values are at most 0, since a
 -- unit that gives nothing above its minimum costs nothing at the scale 0, and what is needed may be missing.
-use Rattle.std.proofs.Common.{◌≡◌, ◌≢◌, ℕ, zero, suc, ◌*◌, ◌<◌, ◌%◌, Bool, true, false, refl, sym, ap, subst, ◌∙◌, arith, length, ◌==◌, nat_lt, if◌then◌else◌, List, ℤ, pos, neg_ℤ, ◌+ℤ◌, ◌-ℤ◌, ◌*ℤ◌, ◌≤ℤ◌, int_lt, IsTrue, slice_index_or}
-use Rattle.std.specs.Int.{int_min, int_max}
-use Rattle.std.proofs.lemmas.Int.{ints}
+use Rattle.std.proofs.Common.{◌≡◌, ◌≢◌, ℕ, zero, suc, ◌*◌, ◌/◌, ◌<◌, ◌%◌, Bool, true, false, refl, sym, ap, subst, ◌∙◌, arith, length, ◌==◌, nat_lt, if◌then◌else◌, List, ℤ, pos, neg_ℤ, ◌+ℤ◌, ◌-ℤ◌, ◌*ℤ◌, ◌≤ℤ◌, int_lt, IsTrue, slice_index_or, Option, Some, None}
+use Rattle.std.specs.Int.{int_div_euclid, int_min, int_max}
+use Rattle.std.proofs.Math.Nat.{zero-div}
+use Rattle.std.proofs.lemmas.Int.{ints, clamps}
 use Rattle.std.proofs.lemmas.Bool.{cond-true, cond_both, lt-ltb}
 use Rattle.uc_model.specs.Sums.{sum_below, bit}
+use Rattle.uc_model.specs.Hull.{rise, Segment, segment_at, segment_width, hull_cost}
 use Rattle.uc_model.specs.Commitment.{starts, initial_p}
 use Rattle.uc_model.specs.StartCategory.{sigma, last_stop}
 use Rattle.uc_model.specs.Schedule.{thermal_unit, thermal_count, renewable_count, renewable_minimum, renewable_maximum, demand_at, reserve_at}
 use Rattle.uc_model.specs.Limits.{IsLawfulInstance}
-use Rattle.uc_model.proofs.Ring.{linear, mul-zero, zero-mul, mul-one, one-mul, mul_nonneg, mul-le-mul_left, neg-mul, le_trans}
+use Rattle.uc_model.proofs.Ring.{linear, mul-zero, zero-mul, mul-one, one-mul, mul_nonneg, mul-le-mul_left, neg-mul, le_trans, le_from_mul, pos_nonneg}
 use Rattle.uc_model.proofs.Sums.{sum_below-le, sum_below-zero, sum_below-single}
 use Rattle.dual_model.specs.Prices.{Instance, Table, pi_at, mu_at, up_at, down_at}
 use Rattle.dual_model.specs.Term.{Point, output_of, weighted_total, weighted_output, weighted_cost, IsTerm}
 use Rattle.dual_model.specs.Fixings.{Node}
 use Rattle.dual_model.specs.UnitValue.{Thermal, period_value, IsUnitValue}
-use Rattle.dual_model.specs.NodeValue.{shortage_value, shortages_value, unit_part, renewable_value, renewable_part, IsNodeValue}
+use Rattle.dual_model.specs.NodeValue.{shortage_value, shortages_value, unit_part, renewable_value, renewable_part}
+use Rattle.dual_model.specs.ExactValue.{UnitSchedule, floored_slope, slope_from, floored_cost, exact_cell_value, exact_period_value, IsExactUnitValue, exact_part, parts_total}
+use Rattle.dual_model.specs.ValueKind.{IsValueOf}
 use Rattle.dual_model.specs.Opening.{OpeningRay, IsShortageRay, HasRayNumbers, ray_at, ray_period, period_rays, no_ray}
 use Rattle.dual_model.specs.Laws.{ShortageRaysExcludeNothing}
 
@@ -92,6 +96,10 @@ term_nonpos points k a b room m some free term =
     let priced : a *ℤ weighted_output points first_point ≡ pos 0 = ap (λ z. a *ℤ z) output ∙ mul-zero a in
     omega (arith, linear, below, cost, priced, mul-zero b, one-mul m)
 
+-- a start costs nothing at the scale 0
+start_free : (k s : ℤ) → k ≡ pos 0 → k *ℤ s ≡ pos 0
+start_free k s free = ap (λ z. z *ℤ s) free ∙ zero-mul s
+
 period_value_nonpos : (table : Table) (unit : Thermal) (on : ℕ → Bool) (term : ℕ → ℤ) (t : ℕ) → table.k ≡ pos 0
     → pos 0 ≤ℤ pi_at table t → pos 0 ≤ℤ unit.pmin → (IsTrue (on t) → term t ≤ℤ pos 0) → period_value table unit on term t ≤ℤ pos 0
 period_value_nonpos table unit on term t free sign minimum below =
@@ -102,7 +110,7 @@ period_value_nonpos table unit on term t free sign minimum below =
     let begun : (if starts unit on t then table.k *ℤ sigma unit (last_stop unit on t) t else pos 0) ≤ℤ pos 0 =
     cond_both (starts unit on t) (table.k *ℤ sigma unit (last_stop unit on t) t) (pos 0) (λ z. z ≤ℤ pos 0)
     (λ starting.
-    let cost = ap (λ z. z *ℤ sigma unit (last_stop unit on t) t) free ∙ zero-mul (sigma unit (last_stop unit on t) t) in
+    let cost = start_free table.k (sigma unit (last_stop unit on t) t) free in
     omega (arith, linear))
     (λ none. omega (arith, linear)) in
     omega (arith, linear)
@@ -129,6 +137,58 @@ unit_nonpos instance node table g v lawful asks hg value =
     let total = own.total in
     omega (arith, linear)
 
+-- ---- a unit's own schedule
+slope_free : (points : List Point) (segment : Option Segment) → floored_slope points (pos 0) segment ≡ pos 0
+slope_free points None = refl
+slope_free points (Some s) =
+    ap (λ z. int_div_euclid z (pos (segment_width points s))) (zero-mul (rise points s.left s.right))
+    ∙ ap pos (zero-div (segment_width points s))
+
+floored_free : (points : List Point) (k : ℤ) (q p : ℕ) → k ≡ pos 0 → floored_cost points k q p ≡ pos 0
+unfolding floored_cost
+floored_free points k q p free = subst (λ z. floored_cost points z q p ≡ pos 0) (sym free)
+    (let first = ap (λ z. pos q *ℤ z) (zero-mul (hull_cost points 1 (pos 0))) ∙ mul-zero (pos q) in
+    let steps = sum_below-zero p (λ y. slope_from points (pos 0) (y / q)) (λ y l. slope_free points (segment_at points 1 (pos (suc (y / q))))) in
+    omega (arith, linear, first, steps))
+
+exact_period_nonpos : (table : Table) (q : ℕ) (unit : Thermal) (x : UnitSchedule) (t : ℕ) → table.k ≡ pos 0 → pos 0 ≤ℤ pi_at table t
+    → pos 0 ≤ℤ mu_at table t → pos 0 ≤ℤ unit.pmin → exact_period_value table q unit x t ≤ℤ pos 0
+exact_period_nonpos table q unit x t free wants holds minimum =
+    let produced : (if x.on t then exact_cell_value table q unit x t else pos 0) ≤ℤ pos 0 =
+    cond_both (x.on t) (exact_cell_value table q unit x t) (pos 0) (λ z. z ≤ℤ pos 0)
+    (λ is_on.
+    let least = mul_nonneg (pos q) unit.pmin (pos_nonneg q) minimum in
+    let given = pos_nonneg (x.p t) in
+    let paid = mul_nonneg (pi_at table t) (pos (x.p t) +ℤ pos q *ℤ unit.pmin) wants (omega (arith, linear, least, given)) in
+    let held = mul_nonneg (mu_at table t) (pos (x.r t)) holds (pos_nonneg (x.r t)) in
+    let cost = floored_free unit.points table.k q (x.p t) free in
+    omega (arith, linear, paid, held, cost))
+    (λ none. omega (arith, linear)) in
+    let start = table.k *ℤ sigma unit (last_stop unit x.on t) t in
+    let started : (if starts unit x.on t then pos q *ℤ start else pos 0) ≤ℤ pos 0 =
+    cond_both (starts unit x.on t) (pos q *ℤ start) (pos 0) (λ z. z ≤ℤ pos 0)
+    (λ starting.
+    let cost = ap (λ z. pos q *ℤ z) (start_free table.k (sigma unit (last_stop unit x.on t) t) free) ∙ mul-zero (pos q) in
+    omega (arith, linear, cost))
+    (λ none. omega (arith, linear)) in
+    omega (arith, linear, produced, started)
+
+-- it has a schedule, which is worth no more than 0
+exact_unit_nonpos : (instance : Instance) (node : Node) (table : Table) (g : ℕ) (e : ℤ) → IsLawfulInstance instance
+    → AsksForNeeds instance table → g < thermal_count instance → IsExactUnitValue instance node table g e → e ≤ℤ pos 0
+exact_unit_nonpos instance node table g e lawful asks hg value =
+    let unit = thermal_unit instance g in
+    let thermal = lawful.thermal g hg in
+    let periods = sum_nonpos instance.periods (exact_period_value table value.q unit value.x) (λ t ht.
+    exact_period_nonpos table value.q unit value.x t asks.scale (asks.demand t ht) (asks.reserve t ht) thermal.minimum.low) in
+    let bound = value.bound value.q value.x value.is_schedule in
+    let some = value.is_schedule.denominator in
+    le_from_mul (pos value.q) e (pos 0) (omega (arith, linear, some))
+    (let nothing = mul-zero (pos value.q) in omega (arith, linear, periods, bound, nothing))
+
+max_nonpos : (a b : ℤ) → a ≤ℤ pos 0 → b ≤ℤ pos 0 → int_max a b ≤ℤ pos 0
+max_nonpos a b h k = omega (arith, ints, clamps)
+
 -- ---- a renewable unit
 renewable_nonpos : (instance : Instance) (table : Table) (w t : ℕ) → IsLawfulInstance instance → AsksForNeeds instance table
     → w < renewable_count instance → t < instance.periods → renewable_value instance table w t ≤ℤ pos 0
@@ -141,18 +201,29 @@ renewable_nonpos instance table w t lawful asks hw ht =
     (neg_ℤ (pi_at table t *ℤ int_max (renewable_minimum instance w t) (pos 0))) (λ z. z ≤ℤ pos 0)
     (λ up. omega (arith, linear, most)) (λ down. omega (arith, linear, least))
 
--- ---- the whole
-asking_nonpos : (instance : Instance) (node : Node) (table : Table) (v : ℤ) → IsLawfulInstance instance
-    → AsksForNeeds instance table → 0 < instance.a → 0 < instance.b → IsNodeValue instance node table v → v ≤ℤ pos 0
-asking_nonpos instance node table v lawful asks shed short value =
+-- ---- the whole, by what the thermal units add
+parts_nonpos : (instance : Instance) (table : Table) (v : ℤ) (part : ℕ → ℤ) → IsLawfulInstance instance → AsksForNeeds instance table
+    → 0 < instance.a → 0 < instance.b → v ≡ parts_total instance table part
+    → ((g : ℕ) → g < thermal_count instance → part g ≤ℤ pos 0) → v ≤ℤ pos 0
+parts_nonpos instance table v part lawful asks shed short total each =
     let system = sum_nonpos instance.periods _ (λ t ht. period_nonpos instance table t asks shed short ht) in
-    let units = sum_nonpos (thermal_count instance) (λ g. unit_part instance table g (value.unit_value g))
-    (λ g hg. unit_nonpos instance node table g (value.unit_value g) lawful asks hg (value.units g hg)) in
+    let units = sum_nonpos (thermal_count instance) part each in
     let renewables = sum_nonpos (renewable_count instance) (renewable_part instance table)
     (λ w hw. sum_nonpos instance.periods (renewable_value instance table w)
     (λ t ht. renewable_nonpos instance table w t lawful asks hw ht)) in
-    let total = value.total in
     omega (arith, linear)
+
+asking_nonpos : (exact : Bool) (instance : Instance) (node : Node) (table : Table) (v : ℤ) → IsLawfulInstance instance
+    → AsksForNeeds instance table → 0 < instance.a → 0 < instance.b → IsValueOf exact instance node table v → v ≤ℤ pos 0
+asking_nonpos false instance node table v lawful asks shed short value =
+    parts_nonpos instance table v (λ g. unit_part instance table g (value.unit_value g)) lawful asks shed short value.total
+    (λ g hg. unit_nonpos instance node table g (value.unit_value g) lawful asks hg (value.units g hg))
+asking_nonpos true instance node table v lawful asks shed short value =
+    parts_nonpos instance table v (λ g. exact_part instance table g (value.unit_value g) (value.exact_value g)) lawful asks shed short
+    value.total
+    (λ g hg. max_nonpos (value.exact_value g) (unit_part instance table g (value.unit_value g))
+    (exact_unit_nonpos instance node table g (value.exact_value g) lawful asks hg (value.exact_units g hg))
+    (unit_nonpos instance node table g (value.unit_value g) lawful asks hg (value.units g hg)))
 
 -- the rays of a period that aren't its second
 record IsNeedRay (demand reserve : ℤ) (up down : Thermal → Bool) : Type 0 where
@@ -194,6 +265,6 @@ asks_of instance n table is_ray numbers =
       down = λ g t hg. no_multiplier_at (t == 0) (ray.down (thermal_unit instance g)) _ (need.no_down _) (numbers.down g t hg);
     }
 
-pub shortage_rays_exclude_nothing : ShortageRaysExcludeNothing
-shortage_rays_exclude_nothing instance node n table v lawful shed short is_ray numbers value =
-    asking_nonpos instance node table v lawful (asks_of instance n table is_ray numbers) shed short value
+pub shortage_rays_exclude_nothing : (exact : Bool) → ShortageRaysExcludeNothing exact
+shortage_rays_exclude_nothing exact instance node n table v lawful shed short is_ray numbers value =
+    asking_nonpos exact instance node table v lawful (asks_of instance n table is_ray numbers) shed short value

@@ -1,21 +1,36 @@
--- The laws of values over both kinds, each by cases from those of either.
-use Rattle.std.proofs.Common.{ℕ, ◌<◌, Bool, true, false}
+-- The laws of values over both kinds: each by cases from those of either, or from another one of both.
+use Rattle.std.proofs.Common.{ℕ, ◌<◌, Bool, true, false, ap, ◌∙◌, arith, pos, ◌*ℤ◌}
 use Rattle.uc_model.specs.Schedule.{thermal_count}
+use Rattle.uc_model.specs.Cost.{cost}
+use Rattle.uc_model.proofs.Ring.{linear, le_trans, mul-le-mul_left, mul-lt-mul_left, mul-zero, zero-mul}
 use Rattle.dual_model.specs.Fixings.{Instance, Node}
 use Rattle.dual_model.specs.ValueKind.{IsBlocked, HasBlockedUnit}
-use Rattle.dual_model.specs.Laws.{WeakDuality, RaysExclude, BlockedUnitsExclude, ValuesAreUnique, ValuesExist, ValuesExistAtSchedules, ChildBound}
+use Rattle.dual_model.specs.Laws.{WeakDuality, WeakDualityOfLeastStarts, RaysExclude, BlockedUnitsExclude, ValuesAreUnique, ValuesExist, ValuesExistAtSchedules, ChildBound}
+use Rattle.dual_model.proofs.LeastStarts.{cost_by_least-cost}
 use Rattle.dual_model.proofs.NodeValues
 use Rattle.dual_model.proofs.ExactBound
 use Rattle.dual_model.proofs.ExactValues
 use Rattle.dual_model.proofs.ExactExists
 
-pub weak_duality : (exact : Bool) → WeakDuality exact
-weak_duality false = NodeValues.weak_duality
-weak_duality true = ExactBound.exact_weak_duality
+pub least_starts : (exact : Bool) → WeakDualityOfLeastStarts exact
+least_starts false = NodeValues.least_starts
+least_starts true = ExactBound.exact_least_starts
 
+-- categories cost no less than the least starts
+pub weak_duality : (exact : Bool) → WeakDuality exact
+weak_duality exact instance node table v q x lawful bounds is_value schedule =
+    le_trans _ _ _ (least_starts exact instance node table v q x lawful bounds is_value schedule)
+    (mul-le-mul_left table.k _ _ bounds.size.form.scale (cost_by_least-cost instance q x schedule.obeys))
+
+-- a ray costs nothing
 pub rays_exclude : (exact : Bool) → RaysExclude exact
-rays_exclude false = NodeValues.rays_exclude
-rays_exclude true = ExactBound.exact_rays_exclude
+rays_exclude exact instance node table v q x lawful bounds is_value is_ray positive schedule =
+    let bound = weak_duality exact instance node table v q x lawful bounds is_value schedule in
+    let free = ap (λ k. k *ℤ cost instance q x) is_ray ∙ zero-mul (cost instance q x) in
+    let some = schedule.obeys.denominator in
+    let above = mul-lt-mul_left (pos q) (pos 0) v (omega (arith, linear, some)) positive in
+    let nothing = mul-zero (pos q) in
+    absurd (omega (arith, linear, bound, free, above, nothing))
 
 -- where a schedule obeys and agrees, each unit has one of its own, so no unit is blocked
 unscheduled_exclude : BlockedUnitsExclude true

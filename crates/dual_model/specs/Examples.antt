@@ -1,7 +1,8 @@
 -- Small instances, nodes and tables whose values are computed by hand: on the model's example unit of 10 to
 -- 50 MW, at 100 dollars an hour for 10 MW and 500 for 50.
-use Rattle.std.specs.Prelude.{ℕ, suc, ◌*◌, Bool, true, List, [], ◌∷◌, ℤ, pos, neg_ℤ, length, replicate}
+use Rattle.std.specs.Prelude.{ℕ, suc, ◌*◌, Bool, true, not, ◌&&◌, ◌==◌, List, [], ◌∷◌, ℤ, pos, neg_ℤ, length, replicate, if◌then◌else◌}
 use Rattle.uc_model.specs.Examples.{base_unit, bent_unit, cold_unit, mw, dollars}
+use Rattle.uc_model.specs.Schedule.{Schedule}
 use Rattle.uc_model.specs.declared.instance.Renewable.{Renewable}
 use Rattle.uc_model.specs.declared.instance.Point.{Point}
 use Rattle.dual_model.specs.NodeValue.{Instance, Node, Thermal, Table, IsNodeValue}
@@ -134,6 +135,20 @@ two_units = system_of (base_unit ∷ dear_unit ∷ []) [] (mw 30 ∷ []) (mw 0 �
 -- one unit over some hours without demand
 abbrev pub idle : Thermal → ℕ → Instance
 idle unit hours = system_of (unit ∷ []) [] (replicate hours (pos 0)) (replicate hours (pos 0))
+
+-- each unit at its minimum but in the fifth hour, and its start in the sixth of the first category
+abbrev pub restarting : Schedule
+restarting = record {
+  thermal = λ g. record {
+    on = λ t. not (t == 4);
+    category = λ t. if t == 5 then 1 else 0;
+    weight = λ t l. if not (t == 4) && (l == 0) then 1 else 0;
+    reserve = λ t. pos 0;
+  };
+  output = λ w t. pos 0;
+  shed = λ t. pos 0;
+  short = λ t. pos 0;
+}
 
 -- a dollar at the scale of a million
 abbrev pub scaled_dollars : ℕ → ℤ

@@ -11,6 +11,7 @@ use Rattle.dual_model.specs.NodeValue.{IsNodeValue}
 use Rattle.dual_model.specs.Opening.{IsShortageRay, HasRayNumbers}
 use Rattle.dual_model.specs.ExactValue.{UnitSchedule, IsUnitSchedule, unit_schedule_value, IsExactBound, IsExactUnitValue, IsLeastWholeValue, HasNoUnitSchedule, IsExactNodeValue}
 use Rattle.dual_model.specs.ValueKind.{IsValueOf, HasBlockedUnit}
+use Rattle.dual_model.specs.LeastStarts.{cost_by_least_starts}
 use Rattle.dual_model.specs.Tree.{Tree, root, child, agreeing_leaves, EachLeaf}
 use Rattle.dual_model.specs.Cover.{Leaf, Bound, Ray, Empty, Holds, AllExcluded}
 use Rattle.dual_model.specs.Certificate.{Certificate, CertificateHolds}
@@ -31,6 +32,13 @@ WeakDuality exact =
     (instance : Instance) (node : Node) (table : Table) (v : ℤ) (q : ℕ) (x : Schedule) → IsLawfulInstance instance
     → IsBoundTable instance table → IsValueOf exact instance node table v → IsScheduleAt instance node q x
     → (pos q *ℤ v) ≤ℤ (table.k *ℤ cost instance q x)
+
+-- and at most K times that cost with the least start costs in place of the categories'
+abbrev pub WeakDualityOfLeastStarts : Bool → Type 0
+WeakDualityOfLeastStarts exact =
+    (instance : Instance) (node : Node) (table : Table) (v : ℤ) (q : ℕ) (x : Schedule) → IsLawfulInstance instance
+    → IsBoundTable instance table → IsValueOf exact instance node table v → IsScheduleAt instance node q x
+    → (pos q *ℤ v) ≤ℤ (table.k *ℤ cost_by_least_starts instance q x)
 
 -- a ray of positive value leaves no schedule
 abbrev pub RaysExclude : Bool → Type 0
@@ -71,11 +79,11 @@ ChildBound exact =
     → ((w : ℤ) × IsValueOf exact instance (child node g t on) table w × (v ≤ℤ w))
     ⊎ HasBlockedUnit exact instance (child node g t on)
 
--- where both shortages have a price, no opening ray of demand or reserve alone excludes anything
-abbrev pub ShortageRaysExcludeNothing : Type 0
-ShortageRaysExcludeNothing =
+-- where both shortages have a price, no opening ray that asks for demand or reserve of a period alone excludes anything
+abbrev pub ShortageRaysExcludeNothing : Bool → Type 0
+ShortageRaysExcludeNothing exact =
     (instance : Instance) (node : Node) (n : ℕ) (table : Table) (v : ℤ) → IsLawfulInstance instance → 0 < instance.a
-    → 0 < instance.b → IsShortageRay instance.periods n → HasRayNumbers instance n table → IsNodeValue instance node table v
+    → 0 < instance.b → IsShortageRay instance.periods n → HasRayNumbers instance n table → IsValueOf exact instance node table v
     → v ≤ℤ pos 0
 
 -- every schedule agrees with exactly one leaf of a tree

@@ -11,6 +11,7 @@ pub mod Tree
 pub mod Cover
 pub mod Certificate
 pub mod Opening
+pub mod LeastStarts
 pub mod Laws
 pub mod LookUps
 pub mod Examples

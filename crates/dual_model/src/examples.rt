@@ -1,13 +1,15 @@
 //! Worked examples of the definitions, as contracts: the check computes each of them.
 
 ghost use Rattle.std.specs.Prelude.{◌≡◌, [], pos, neg_ℤ, ◌∷◌, true, false};
-ghost use Rattle.uc_model.specs.Examples.{base_unit, two_category_unit, uneven_unit, mw};
+ghost use Rattle.uc_model.specs.Cost.{cost};
+ghost use Rattle.uc_model.specs.Examples.{base_unit, two_category_unit, uneven_unit, mw, dollars};
 ghost use Rattle.dual_model.specs.Fixings.{HasEmptyUnit};
+ghost use Rattle.dual_model.specs.LeastStarts.{cost_by_least_starts};
 ghost use Rattle.dual_model.specs.UnitValue.{IsUnitValue};
 ghost use Rattle.dual_model.specs.ExactValue.{floored_cost, IsExactUnitValue};
 ghost use Rattle.dual_model.specs.Term.{IsTerm};
 ghost use Rattle.dual_model.specs.Tree.{root};
-ghost use Rattle.dual_model.specs.Examples.{alone, windy, idle, two_units, mixed, shedding, lacking, energy, hour, ray, ramp_ray, zero_prices, mixed_prices, decided, IsRootValue, IsExactRootValue, IsValueAt, slow_unit, sinking_unit, concave_unit, stuck_unit, unstartable_unit, three_watts, scaled_dollars, MILLION};
+ghost use Rattle.dual_model.specs.Examples.{alone, windy, idle, restarting, two_units, mixed, shedding, lacking, energy, hour, ray, ramp_ray, zero_prices, mixed_prices, decided, IsRootValue, IsExactRootValue, IsValueAt, slow_unit, sinking_unit, concave_unit, stuck_unit, unstartable_unit, three_watts, scaled_dollars, MILLION};
 
 /// Bounds on cost: a table's value is K times micro-dollars.
 pub fn bounds_are_computed()
@@ -78,6 +80,13 @@ pub fn decided_nodes_are_computed()
 
     // a unit that must run, and may not
     ensures empty { HasEmptyUnit (alone stuck_unit 30 5) root }
+{}
+
+/// What a schedule costs by its category, and by least starts: that is the value of its node, `last_stop` above.
+pub fn least_starts_are_computed()
+    // five hours at 100 dollars, and a start at 50, or at 10 by the last stop alone
+    ensures category { cost (idle uneven_unit 6) 1 restarting ≡ dollars 550 }
+    ensures least { cost_by_least_starts (idle uneven_unit 6) 1 restarting ≡ dollars 510 }
 {}
 
 /// Terms of cells.

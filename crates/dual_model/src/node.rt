@@ -2,12 +2,14 @@
 
 ghost use Rattle.std.specs.Prelude.{◌≡◌, ◌<◌};
 ghost use Rattle.dual_model.specs.Moves.{may_be_off as off_at, may_be_on as on_at};
+ghost use Rattle.dual_model.specs.Tree.{root};
 
+use std::alloc::Global;
 use uc_model::limits::MAX_PERIODS;
 use uc_model::{List, Pattern, Thermal};
 
 /// The decision that thermal unit `g` is on, or off, in period `t`, both counted from 0.
-#[derive(Clone, Copy)]
+#[derive(Clone, Copy, PartialEq, Eq)]
 pub struct Fixing {
     pub g: u32,
     pub t: u32,
@@ -18,6 +20,17 @@ pub struct Fixing {
 #[derive(Drop)]
 pub struct Node {
     pub fixings: List<Fixing>,
+}
+
+impl Node {
+    /// The root, at which nothing is decided. Takes no memory.
+    pub fn root(alloc: Global) -> Node
+        ensures { result ≡ root }
+    {
+        Node {
+            fixings: List::from_vec(Vec::new(alloc)),
+        }
+    }
 }
 
 /// What a node decides of one thermal unit: the periods in which it is decided, and those of them in which
