@@ -8,3 +8,4 @@ pub mod CurveLists
 pub mod FirstSegments
 pub mod HullExists
 pub mod Slopes
+pub mod OneHull
