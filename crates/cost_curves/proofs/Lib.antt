@@ -9,3 +9,4 @@ pub mod FirstSegments
 pub mod HullExists
 pub mod Slopes
 pub mod OneHull
+pub mod LowestTerms
