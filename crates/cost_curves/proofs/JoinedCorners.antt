@@ -8,7 +8,7 @@ use Rattle.uc_model.specs.Points.{point_of}
 use Rattle.uc_model.proofs.Ring.{linear, le_refl, le_trans, le_or_lt, le_antisymm, sub_nonneg, mul-zero, mul_nonneg, mul-le-mul_right}
 use Rattle.uc_model.proofs.Tests.{int_le-true, le-int_le}
 use Rattle.uc_model.proofs.HullSegments.{Rises, outputs_rise}
-use Rattle.cost_curves.specs.LowerHull.{Point, AreLawfulPoints, IsAbove, is_above, HullOfFirst}
+use Rattle.cost_curves.specs.LowerHull.{Point, AreLawfulPoints, IsAbove, is_above, IsBelow, HullOfFirst}
 use Rattle.cost_curves.specs.inside.Corners.{is_over, IsNext, Joins}
 use Rattle.cost_curves.proofs.Lines.{flatter_trans, right_of, above_of, above-flatter_start, flatter_start-above, above-flatter_next, flatter_next-above, above-flatter_end, flatter_end-above, above-flatter_whole, before-flatter, sub_positive, less_le}
 
@@ -144,6 +144,7 @@ joins-none points count corners point covers = record {
   over = λ i h. absurd (omega arith);
   right = λ i h. absurd (omega arith);
   above = λ i h. absurd (omega arith);
+  strict = λ i h. absurd (omega arith);
   alone = covers.alone;
 }
 
@@ -154,6 +155,7 @@ joins-one points count corners point hull covers e = record {
   right = λ i same. subst (λ k. (point_of corners k).mw <ℤ point.mw) (omega arith) (false_lt _ _ e);
   above = λ i same l hl.
       covers.covered i same l hl (subst (λ k. (point_of corners k).mw ≤ℤ (point_of points l).mw) (omega arith) (hull.first l hl));
+  strict = λ i same. absurd (omega arith);
   alone = λ none. absurd (omega arith);
 }
 
@@ -193,6 +195,7 @@ joins-more points count corners point i hull next covers e =
           (λ (before : (point_of points l).mw <ℤ b.mw).
           left_above a b point (point_of points l) rising right (less_le _ _ before) over (hull.above i inside l hl))
           (le_or_lt b.mw (point_of points l).mw));
+      strict = λ j same. subst (λ k. IsBelow (point_of corners k) point (point_of corners (suc k))) (omega arith) below;
       alone = λ none. absurd (omega arith);
     }
   where
@@ -327,6 +330,7 @@ hull_over points count corners result lawful inside hull tested e =
       some = λ h. omega arith;
       place = λ i h. let found = hull.place i h in (found.0, omega (arith, found.1), found.2);
       rising = hull.rising;
+      strict = hull.strict;
       above = λ i h. each_next (λ l. IsAbove (point_of corners i) (point_of corners (suc i)) l) points count (hull.above i h)
           (raise_above (point_of corners i) (point_of corners (suc i)) corner point (less_le _ _ (hull.rising i h)) (corner_above points count corners hull i h last.0 within) level over.1);
       first = each_next (λ l. (point_of corners 0).mw ≤ℤ l.mw) points count hull.first (corner_low points count corners lawful inside hull 0 (omega arith));
@@ -365,6 +369,10 @@ hull_joined points count corners extended kept hull next within joins new =
           (λ (less : suc i < kept). pair_old (λ (a b : Point). a.mw <ℤ b.mw) i less (hull.rising i (omega arith)))
           (λ (last : suc i ≡ kept). pair_new (λ (a b : Point). a.mw <ℤ b.mw) i last (joins.right i last))
           (below_or_last (suc i) kept (subst (λ n. suc i < n) new.count h));
+      strict = λ i h. ⊎_elim
+          (λ (less : suc (suc i) < kept). three_old i less (hull.strict i (omega arith)))
+          (λ (last : suc (suc i) ≡ kept). three_new i last (joins.strict i last))
+          (below_or_last (suc (suc i)) kept (subst (λ n. suc (suc i) < n) new.count h));
       above = λ i h l hl. ⊎_elim
           (λ (less : suc i < kept). pair_old (λ (a b : Point). IsAbove a b (point_of points l)) i less
           (each_next (λ x. IsAbove (point_of corners i) (point_of corners (suc i)) x) points count (hull.above i (omega arith)) (joins.over i less) l hl))
@@ -390,6 +398,18 @@ hull_joined points count corners extended kept hull next within joins new =
 
     end_is : (i : ℕ) → suc i ≡ length extended → point_of extended i ≡ point_of points count
     end_is i same = let last : kept ≡ i = omega (arith, new.count) in subst (λ k. point_of extended k ≡ point_of points count) last new.last_is
+
+    three_old : (i : ℕ) → suc (suc i) < kept → IsBelow (point_of corners i) (point_of corners (suc (suc i))) (point_of corners (suc i))
+        → IsBelow (point_of extended i) (point_of extended (suc (suc i))) (point_of extended (suc i))
+    three_old i less h =
+        pair_old (λ a b. IsBelow a (point_of extended (suc (suc i))) b) i (omega arith)
+        (subst (λ x. IsBelow (point_of corners i) x (point_of corners (suc i))) (sym (new.kept_is (suc (suc i)) less)) h)
+
+    three_new : (i : ℕ) → suc (suc i) ≡ kept → IsBelow (point_of corners i) (point_of points count) (point_of corners (suc i))
+        → IsBelow (point_of extended i) (point_of extended (suc (suc i))) (point_of extended (suc i))
+    three_new i last h =
+        pair_old (λ a b. IsBelow a (point_of extended (suc (suc i))) b) i (omega arith)
+        (subst (λ x. IsBelow (point_of corners i) x (point_of corners (suc i))) (sym (end_is (suc (suc i)) (omega (arith, new.count)))) h)
 
     first_low : 0 < length corners → (point_of corners 0).mw ≤ℤ (point_of points count).mw
     first_low h = corner_right points count corners (point_of points count) hull next 0 h

@@ -8,3 +8,5 @@ pub mod CurveLists
 pub mod FirstSegments
 pub mod HullExists
 pub mod Slopes
+pub mod OneHull
+pub mod LowestTerms

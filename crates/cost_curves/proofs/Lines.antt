@@ -70,6 +70,12 @@ flatter_end-above a b p h = moved _ _ _ _ (sym (turns a.mw a.cost b.mw b.cost p.
 pub above-flatter_whole : (a b p : Point) → IsAbove a p b → Flatter a p a b
 above-flatter_whole a b p h = record { products = h }
 
+-- the slope from b to p is at most that from a to b: b lies above the line from a to p
+pub flatter_bend-above : (a b p : Point) → Flatter b p a b → IsAbove a p b
+flatter_bend-above a b p h =
+    let whole = (products a.mw a.cost b.mw b.cost p.mw p.cost).0 in
+    moved _ _ _ _ (omega (arith, linear, whole)) h.products
+
 -- the whole numbers apart
 pub sub_positive : (a b : ℤ) → a <ℤ b → pos 0 <ℤ (b -ℤ a)
 sub_positive a b h = omega (arith, linear)

@@ -1,4 +1,5 @@
 pub mod LowerHull
 pub mod LeastCost
+pub mod LowestTerms
 pub mod UnitCurves
 pub mod inside

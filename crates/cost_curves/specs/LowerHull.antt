@@ -28,6 +28,10 @@ IsAbove left right point = ((right.cost -ℤ left.cost) *ℤ (point.mw -ℤ left
 abbrev pub is_above : Point → Point → Point → Bool
 is_above left right point = int_le ((right.cost -ℤ left.cost) *ℤ (point.mw -ℤ left.mw)) ((point.cost -ℤ left.cost) *ℤ (right.mw -ℤ left.mw))
 
+-- a point lies below the line from `left` to `right`, a point right of it
+abbrev pub IsBelow : Point → Point → Point → Type 0
+IsBelow left right point = ((point.cost -ℤ left.cost) *ℤ (right.mw -ℤ left.mw)) <ℤ ((right.cost -ℤ left.cost) *ℤ (point.mw -ℤ left.mw))
+
 -- `corners` are the corners of the lower hull of the first `count` points
 pub record HullOfFirst (points : List Point) (count : ℕ) (corners : List Point) : Type 0 where
   -- there is one, if there is a point
@@ -36,6 +40,8 @@ pub record HullOfFirst (points : List Point) (count : ℕ) (corners : List Point
   pub place : (i : ℕ) → i < length corners → (l : ℕ) × (l < count) × (point_of corners i ≡ point_of points l)
   -- their outputs rise
   pub rising : (i : ℕ) → suc i < length corners → (point_of corners i).mw <ℤ (point_of corners (suc i)).mw
+  -- and their slopes: each lies below the line between the ones beside it, so none is in the middle of a straight run
+  pub strict : (i : ℕ) → suc (suc i) < length corners → IsBelow (point_of corners i) (point_of corners (suc (suc i))) (point_of corners (suc i))
   -- no point lies below the line from one to the next
   pub above : (i : ℕ) → suc i < length corners → (l : ℕ) → l < count → IsAbove (point_of corners i) (point_of corners (suc i)) (point_of points l)
   -- no point lies left of the first corner, or right of the last one, or below it

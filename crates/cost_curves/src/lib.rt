@@ -6,6 +6,7 @@
 mod corners;
 mod curve;
 mod inline;
+pub mod laws;
 mod line;
 mod places;
 mod slope;

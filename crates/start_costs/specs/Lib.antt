@@ -1,1 +1,2 @@
 pub mod Cheapest
+pub mod Regular

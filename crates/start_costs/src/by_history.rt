@@ -1,11 +1,12 @@
 //! The cheapest start category that a pattern's history allows.
 
 ghost use Rattle.std.specs.Prelude.{◌≡◌, ℕ, suc, ◌<◌, ◌≤◌, ◌≤ℤ◌, ◌<ℤ◌, IsTrue};
-ghost use Rattle.uc_model.specs.Commitment.{starts, stops as stops_at, was_on as was_on_before};
+ghost use Rattle.uc_model.specs.Commitment.{is_allowed as is_pattern_allowed, starts, stops as stops_at, was_on as was_on_before};
 ghost use Rattle.uc_model.specs.Limits.{IsLawfulThermal};
 ghost use Rattle.uc_model.specs.PatternBits.{commitment_of};
 ghost use Rattle.uc_model.specs.StartCategory.{category_cost, category_count, has_stop_within as has_stop_in, is_category_allowed, last_stop, sigma};
 ghost use Rattle.start_costs.specs.Cheapest.{IsCheapestAbove};
+ghost use Rattle.start_costs.specs.Regular.{AreStartsRegular};
 
 use crate::barred::is_barred;
 use uc_model::limits::MAX_PERIODS;
@@ -13,7 +14,7 @@ use uc_model::{Pattern, Thermal};
 
 /// The cheapest start category, from 1, that the pattern's history allows in period `t` (from 0), and its cost
 /// in micro-dollars; of several that cost the same, the first. At a start it costs no less than `sigma` of the
-/// pattern's last stop.
+/// pattern's last stop, and just that where the start rows are regular and the pattern is allowed.
 pub fn least_allowed(unit: &Thermal, pattern: &Pattern, t: usize) -> (u8, i64)
     requires lawful { IsLawfulThermal unit.now }
     requires period { t < MAX_PERIODS }
@@ -25,6 +26,9 @@ pub fn least_allowed(unit: &Thermal, pattern: &Pattern, t: usize) -> (u8, i64)
         → result.1 <ℤ category_cost unit.now s }
     ensures last_stop { IsTrue (starts unit.now (commitment_of pattern.now) t)
         → sigma unit.now (last_stop unit.now (commitment_of pattern.now) t) t ≤ℤ result.1 }
+    ensures regular { (periods : ℕ) → AreStartsRegular unit.now → IsTrue (is_pattern_allowed periods unit.now (commitment_of pattern.now))
+        → t < periods → IsTrue (starts unit.now (commitment_of pattern.now) t)
+        → result.1 ≡ sigma unit.now (last_stop unit.now (commitment_of pattern.now) t) t }
 {
     let last = unit.startup.as_slice().len() - 1;
     let mut least = category(unit, last);

@@ -5,6 +5,7 @@
 pub mod barred;
 pub mod by_history;
 pub mod by_last_stop;
+pub mod laws;
 
 pub use barred::is_barred;
 pub use by_history::{least_allowed, stops, was_on};

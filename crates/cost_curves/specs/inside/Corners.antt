@@ -1,7 +1,7 @@
 -- How a point joins the corners of the lower hull of the points before it.
 use Rattle.std.specs.Prelude.{◌≡◌, ℕ, suc, ◌<◌, Bool, false, List, ◌≤ℤ◌, ◌<ℤ◌, int_le, if◌then◌else◌}
 use Rattle.uc_model.specs.Points.{point_of}
-use Rattle.cost_curves.specs.LowerHull.{Point, IsAbove}
+use Rattle.cost_curves.specs.LowerHull.{Point, IsAbove, IsBelow}
 
 -- a corner lies no further left than a point, and costs no more
 abbrev pub is_over : Point → Point → Bool
@@ -19,5 +19,7 @@ pub record Joins (points : List Point) (count : ℕ) (corners : List Point) (poi
   -- it lies right of the last corner, and no point lies below the line from there to it
   pub right : (i : ℕ) → suc i ≡ kept → (point_of corners i).mw <ℤ point.mw
   pub above : (i : ℕ) → suc i ≡ kept → (l : ℕ) → l < count → IsAbove (point_of corners i) point (point_of points l)
+  -- and it lies below the line from the corner before it to the point
+  pub strict : (i : ℕ) → suc (suc i) ≡ kept → IsBelow (point_of corners i) point (point_of corners (suc i))
   -- where no corner is kept, all points share its output
   pub alone : kept ≡ 0 → (l : ℕ) → l < count → point.mw ≤ℤ (point_of points l).mw
