@@ -113,19 +113,12 @@ pub(crate) fn path(alloc: Global, places: &[Place], node: u32) -> Result<Vec<Fix
     Ok(path)
 }
 
-// Whether two decisions are the same.
-fn is_same(first: Fixing, second: Fixing) -> bool
-    ensures { IsTrue result ↔ (first ≡ second) }
-{
-    first.g == second.g && first.t == second.t && first.on == second.on
-}
-
 // Whether the last of the first `count` decisions is this one.
 fn ends_with(fixings: &[Fixing], count: usize, last: Fixing) -> bool
     requires { count ≤ length fixings.now }
     ensures { IsTrue result ↔ ((0 < count) × (slice_index_or fixings.now (count - 1) last ≡ last)) }
 {
-    count > 0 && is_same(fixings[count - 1], last)
+    count > 0 && fixings[count - 1] == last
 }
 
 /// Whether these are the decisions on the path from the root to the node of this number.

@@ -610,14 +610,14 @@ fn metrics(alloc: Global, instance: &Instance, ramped: &[u32]) -> Result<Vec<i64
     let units = instance.thermal.as_slice();
     let mut all: i64 = 0;
     for unit in units {
-        all = all.saturating_add(range_of(unit));
+        all = all.saturating_add(unit.range());
     }
     let count = (instance.periods as usize).saturating_mul(2);
     let mut metrics = vec![in alloc; 1_i64; count]?;
     for g in ramped {
         if let Some(unit) = units.get(*g as usize) {
             let end = metrics.len().saturating_add(count);
-            metrics.resize(end, metric(all, range_of(unit)))?;
+            metrics.resize(end, metric(all, unit.range()))?;
         }
     }
     Ok(metrics)
@@ -628,11 +628,6 @@ fn metric(all: i64, own: i64) -> i64 {
     let times = all.saturating_mul(100) / own.max(1);
     let root = times.max(0).isqrt();
     (root.saturating_mul(3).saturating_add(50) / 100).max(1)
-}
-
-// The watts between a unit's least and greatest output.
-fn range_of(unit: &Thermal) -> i64 {
-    unit.pmax.saturating_sub(unit.pmin)
 }
 
 // How often a watt is doubled until a million of it are no less than any period's demand and all units' greatest output.

@@ -1,12 +1,7 @@
 //! The cell that a node is split on.
 
 use dual_model::Node;
-use uc_model::Instance;
-
-/// A share of this size is the whole, and one that is nearer than a hundredth of it to nothing or to the whole counts as such.
-const WHOLE: i64 = 65536;
-
-pub(crate) const NEARLY: i64 = WHOLE / 100;
+use uc_model::{Instance, WHOLE_SHARE};
 
 /// The cell, by its thermal unit and period from 0, round which most watts move to and fro: the least of its share and what that lacks to the
 /// whole, times the sum of this over the periods round it, as many to each side as half of the unit's minimum up time less one, times the
@@ -56,7 +51,7 @@ impl Row<'_> {
     // The least of the share at a place and what that lacks to the whole.
     fn divided(&self, place: usize) -> i64 {
         match self.shares.get(place) {
-            Some(share) => (*share).min(WHOLE.saturating_sub(*share)),
+            Some(share) => (*share).min(WHOLE_SHARE.saturating_sub(*share)),
             None => 0,
         }
     }

@@ -1,9 +1,9 @@
 //! The cell that a node is split on, where its claim doesn't close it.
 
-use crate::branching::{NEARLY, is_decided, most_divided};
+use crate::branching::{is_decided, most_divided};
 use dual_model::Node;
 use search_core::limits::NODE_ENTRIES;
-use uc_model::Instance;
+use uc_model::{Instance, LEAST_DIVIDED_SHARE};
 
 /// What an ascent tells of where to split its node: how often each unit was on in each period, unit by unit, or nothing; and a cell, a unit
 /// and a period from 0, where one was sought.
@@ -57,7 +57,7 @@ fn undecided(path: &Node, cell: Option<(u32, u32)>) -> Option<(u32, u32)> {
 
 // The cell that the shares of the ascent divide most; late it may be one that they divide hardly at all, and then it is the first one.
 fn divided(instance: &Instance, path: &Node, shares: &[i64], late: bool) -> Option<(u32, u32)> {
-    let least = if late { 0 } else { NEARLY };
+    let least = if late { 0 } else { LEAST_DIVIDED_SHARE };
     match most_divided(instance, path, shares, least) {
         Some(cell) => Some(cell),
         None if late => first_undecided(instance, path),

@@ -1,6 +1,6 @@
 //! The drop pass: from the most-on commitment to one of fewer on periods, unit by unit, where the dispatch is better for it.
 
-ghost use Rattle.std.specs.Prelude.{◌≡◌, ℕ, ◌<◌, List, ℤ, IfOk, length, suc};
+ghost use Rattle.std.specs.Prelude.{◌≡◌, ◌<◌, List, ℤ, IfOk, length, suc};
 ghost use Rattle.uc_model.specs.Limits.{IsLawfulInstance};
 ghost use Rattle.uc_model.specs.Schedule.{thermal_count};
 ghost use Rattle.dispatch_repair.specs.MostOn.{AreMostOn};
@@ -14,7 +14,7 @@ ghost use Rattle.decommitment.specs.inside.Turns.{AreAllowed, IsPassed};
 
 use crate::fill::System;
 use crate::merit::merit_of;
-use crate::patterns::{fewest, is_same, most_on_patterns};
+use crate::patterns::{fewest, most_on_patterns};
 use crate::plain::{PlainPass, plain_pass};
 use crate::price::{Changed, price};
 use crate::run::{Origin, Reach, Run, Setting, fill_periods, initial_outputs, no_run};
@@ -187,7 +187,7 @@ fn take_turn(alloc: Global, pass: &mut Pass, setting: &Setting, g: usize) -> Res
 {
     let fewest = fewest(setting.system.instance, g);
     let stood = pass.patterns[g];
-    if is_same(&fewest, &stood) {
+    if fewest == stood {
         return Ok(());
     }
     pass.patterns[g] = fewest;

@@ -1,6 +1,6 @@
 //! The patterns of a drop pass: those with the most on periods, and with the fewest.
 
-ghost use Rattle.std.specs.Prelude.{◌≡◌, ◌<◌, ◌↔◌, IfOk, IsTrue};
+ghost use Rattle.std.specs.Prelude.{◌<◌, IfOk};
 ghost use Rattle.uc_model.specs.Limits.{IsLawfulInstance};
 ghost use Rattle.uc_model.specs.Schedule.{thermal_count};
 ghost use Rattle.dispatch_repair.specs.MostOn.{AreMostOn};
@@ -35,11 +35,4 @@ pub(crate) fn fewest(instance: &Instance, g: usize) -> Pattern
         Some(pattern) => pattern,
         None => unreachable!(),
     }
-}
-
-/// Whether two patterns are on in the same periods.
-pub(crate) fn is_same(first: &Pattern, second: &Pattern) -> bool
-    ensures { IsTrue result ↔ (first.now ≡ second.now) }
-{
-    first.low == second.low && first.high == second.high
 }

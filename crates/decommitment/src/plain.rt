@@ -10,7 +10,7 @@ ghost use Rattle.decommitment.specs.DropCommitment.{IsEndingOf};
 ghost use Rattle.dual_model.specs.Tree.{HasEachPattern};
 ghost use Rattle.decommitment.specs.inside.Turns.{AreAllowed, IsChosen, IsPassed, IsTried, KeepsStuck, ending_of_stand, ending_of_trial};
 
-use crate::patterns::{fewest, is_same, most_on_patterns};
+use crate::patterns::{fewest, most_on_patterns};
 use crate::stand::{Stand, Trial, Turn, is_better, replace};
 use dispatch_repair::{
     Room, Rows, committed, cost as rows_cost, dispatch_rows, recommit, stuck_at,
@@ -118,7 +118,7 @@ fn take_turn(
 {
     let fewest = fewest(instance, g);
     let stood = pass.patterns[g];
-    if is_same(&fewest, &stood) {
+    if fewest == stood {
         return Ok(());
     }
     pass.patterns[g] = fewest;

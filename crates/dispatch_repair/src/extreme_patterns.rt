@@ -58,7 +58,7 @@ fn first_start(unit: &Thermal, periods: u32) -> Option<u32>
     ensures most { MatchOption result (HasNoAllowedPattern periods unit.now) (λ start. IsMostOn periods unit.now (on_during start periods)) }
     ensures within { IfSome result (λ start. start ≤ periods) }
 {
-    let held = unit.dt.saturating_sub(unit.dt0);
+    let held = unit.down_time_left();
     if unit.su < unit.pmin {
         if unit.must_run { None } else { Some(periods) }
     } else if unit.must_run && held > 0 {
@@ -79,7 +79,7 @@ fn first_stop(unit: &Thermal, periods: u32) -> u32
     ensures fewest { IsFewestOn periods unit.now (on_during 0 result) }
     ensures within { result ≤ periods }
 {
-    let held = unit.ut.saturating_sub(unit.ut0);
+    let held = unit.up_time_left();
     if held == 0 && unit.p0 <= unit.sd {
         0
     } else if unit.sd < unit.pmin {

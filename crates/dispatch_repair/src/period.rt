@@ -4,7 +4,7 @@ ghost use Rattle.std.specs.Prelude.{◌≡◌, ℕ, ℤ, ◌*◌, ◌<◌, ◌�
 ghost use Rattle.std.specs.Int.{int_max};
 ghost use Rattle.uc_model.specs.Commitment.{initial_p};
 ghost use Rattle.uc_model.specs.Limits.{IsLawfulInstance, IsPower};
-ghost use Rattle.uc_model.specs.Schedule.{renewable_count, thermal_count, thermal_unit};
+ghost use Rattle.uc_model.specs.Schedule.{thermal_count, thermal_unit};
 ghost use Rattle.dispatch_repair.specs.Dispatch.{period_after};
 ghost use Rattle.dispatch_repair.specs.Period.{Period, demand_of, need_of};
 ghost use Rattle.dispatch_repair.specs.Stuck.{IsFirstObstacle};
@@ -23,7 +23,6 @@ use crate::room::Room;
 use crate::segment::Segment;
 use crate::shortage::{Shortage, shortage_of};
 use crate::totals::totals;
-use schedule_check::limits::initial_output;
 use uc_model::{Instance, Pattern, Why};
 
 /// Makes the amounts those before the first period: what each thermal unit gives initially.
@@ -57,7 +56,7 @@ fn initial_of(instance: &Instance, g: usize) -> i64
     requires unit { g < thermal_count instance.now }
     ensures { result ≡ initial_p (thermal_unit instance.now g) }
 {
-    initial_output(&instance.thermal.as_slice()[g])
+    instance.thermal.as_slice()[g].initial_output()
 }
 
 /// Dispatches period t, from 0: the thermal units' amounts are those of the period before, and become those of this one,

@@ -8,7 +8,7 @@ ghost use Rattle.uc_model.specs.PatternBits.{commitment_of};
 ghost use Rattle.dispatch_repair.specs.Period.{head as head_after, highest, is_off_next as is_off_after, lowest};
 ghost use Rattle.dispatch_repair.specs.Amounts.{IsSizedEnd, IsSizedOutput};
 
-use schedule_check::limits::{range, reduced, start_reduction, stop_reduction, width};
+use schedule_check::limits::width;
 use start_costs::{stops, was_on};
 use uc_model::limits::MAX_PERIODS;
 use uc_model::{Pattern, Thermal};
@@ -164,8 +164,7 @@ fn start_cap(unit: &Thermal, pattern: &Pattern, t: usize) -> i64
     ensures value { result ≡ start_cap_of unit.now (commitment_of pattern.now) t }
     ensures size { IsSizedEnd result }
 {
-    let full = range(unit, pattern.is_on(t as u32));
-    reduced(&full, &start_reduction(unit), starts(unit, pattern, t))
+    unit.start_cap(pattern.is_on(t as u32), starts(unit, pattern, t))
 }
 
 // Whether the unit starts in period t.
@@ -183,6 +182,5 @@ fn stop_cap(unit: &Thermal, pattern: &Pattern, t: usize) -> i64
     ensures value { result ≡ stop_cap_of unit.now (commitment_of pattern.now) t }
     ensures size { IsSizedEnd result }
 {
-    let full = range(unit, pattern.is_on(t as u32));
-    reduced(&full, &stop_reduction(unit), stops(unit, pattern, t + 1))
+    unit.stop_cap(pattern.is_on(t as u32), stops(unit, pattern, t + 1))
 }

@@ -1,15 +1,11 @@
 //! The rows of a schedule while it is dispatched.
 
-ghost use Rattle.std.specs.Prelude.{◌≡◌, ℕ, ◌*◌, ◌^◌, ◌<◌, ◌≤◌, ◌-ℤ◌, false, All, IfOk, IsTrue, OnErr, length, map, slice_set, take, unsigned_abs};
-ghost use Rattle.uc_model.specs.Commitment.{starts};
-ghost use Rattle.uc_model.specs.PatternBits.{commitment_of};
+ghost use Rattle.std.specs.Prelude.{◌≡◌, ℕ, ◌*◌, ◌^◌, ◌<◌, ◌≤◌, ◌-ℤ◌, All, IfOk, OnErr, length, map, slice_set, take, unsigned_abs};
 ghost use Rattle.uc_model.specs.PrintedSchedule.{cell_at, printed_cell_cost, printed_cost};
 ghost use Rattle.uc_model.specs.Schedule.{reserve_at, thermal_count, thermal_unit};
-ghost use Rattle.uc_model.specs.Limits.{IsLawfulInstance, IsLawfulThermal, IsPower};
-ghost use Rattle.uc_model.specs.StartCategory.{category_cost};
+ghost use Rattle.uc_model.specs.Limits.{IsLawfulInstance, IsPower};
 ghost use Rattle.uc_model.specs.Sums.{sum_below};
 ghost use Rattle.schedule_check.specs.WholeWatts.{HasPrice};
-ghost use Rattle.start_costs.specs.Cheapest.{IsCheapestAbove};
 ghost use Rattle.dispatch_repair.specs.Dispatch.{Instance, Pattern, HasPeriods};
 ghost use Rattle.dispatch_repair.specs.Rooms.{ArePowerless, AreRowsBut, AreRowsOf, AreSameBelow, AreSameRowsBut, IsNewCell, IsPowerless, IsRoomOf, printed_of, rows_of};
 ghost use Rattle.dispatch_repair.specs.Amounts.{IsSizedEnd, IsSizedOutput, amount_at, thermal_amount};
@@ -18,7 +14,7 @@ ghost use Rattle.dispatch_repair.specs.inside.Rows.{AreCellsWritten, AreCommitte
 use crate::room::Room;
 use crate::shortage::Shortage;
 use schedule_check::{row_cost, shortages_cost};
-use start_costs::{least_allowed, was_on};
+use start_costs::start_category;
 use std::alloc::Global;
 use uc_model::limits::{MAX_PERIODS, MAX_UNITS};
 use uc_model::{Cell, Instance, List, NoMemory, Pattern, Printed, Thermal, sum};
@@ -126,21 +122,6 @@ pub fn committed_cell(instance: &Instance, patterns: &[Pattern], g: usize, t: us
         p: 0,
         r: 0,
         category,
-    }
-}
-
-// The category of the start in period t, from 1: the cheapest one that the history allows; 0 is no start.
-fn start_category(unit: &Thermal, pattern: &Pattern, t: usize) -> u8
-    requires lawful { IsLawfulThermal unit.now }
-    requires period { t < MAX_PERIODS }
-    ensures start { IsTrue (starts unit.now (commitment_of pattern.now) t)
-        → IsCheapestAbove unit.now (commitment_of pattern.now) t 0 (result, category_cost unit.now result) }
-    ensures none { starts unit.now (commitment_of pattern.now) t ≡ false → result ≡ 0 }
-{
-    if !was_on(unit, pattern, t) && pattern.is_on(t as u32) {
-        least_allowed(unit, pattern, t).0
-    } else {
-        0
     }
 }
 

@@ -12,7 +12,8 @@ use Rattle.uc_model.proofs.Tests.{int_le-true, le-int_le, all_below-at, all_belo
 use Rattle.uc_model.specs.Terms.{period_count, term_at}
 use Rattle.dual_model.specs.UnitTerms.{Terms, Thermal, AreSizedTerms, IsSized}
 use Rattle.dual_model.specs.PatternValue.{IsPattern, is_followed}
-use Rattle.dual_model.specs.Moves.{Fix, holds_initially, initial_limit, has_lasted, hour_cost}
+use Rattle.dual_model.specs.Moves.{Fix, holds_initially, initial_limit, hour_cost}
+use Rattle.uc_model.specs.Switches.{has_lasted}
 use Rattle.dual_model.specs.CostToGo.{since_after}
 use Rattle.dual_model.proofs.Switches.{since}
 use Rattle.dual_model.proofs.Lasting.{enters, leaves, LeavesInTime, window-from_lasting, initial-from_lasting, lasting-from_windows}

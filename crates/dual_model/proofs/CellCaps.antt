@@ -4,10 +4,10 @@ use Rattle.std.proofs.Common.{◌≡◌, ℕ, zero, suc, Bool, true, false, not,
 use Rattle.std.specs.Int.{int_min}
 use Rattle.std.proofs.lemmas.Int.{ints}
 use Rattle.uc_model.specs.Sums.{bit}
-use Rattle.uc_model.specs.Commitment.{Commitment, starts, stops, start_reduction, stop_reduction, cap}
+use Rattle.uc_model.specs.Commitment.{Commitment, starts, stops, start_reduction, stop_reduction, cap, cell_cap}
 use Rattle.uc_model.proofs.Ring.{linear, mul-one, mul-zero, mul_nonneg}
 use Rattle.uc_model.proofs.MinimumTimes.{bit_nonneg}
-use Rattle.dual_model.specs.UnitTerms.{Thermal, cell_cap}
+use Rattle.dual_model.specs.UnitTerms.{Thermal}
 use Rattle.dual_model.specs.PatternValue.{is_followed}
 
 min_of_more : (a b : ℤ) → a ≤ℤ b → int_min a b ≡ a

@@ -8,7 +8,7 @@ use Rattle.uc_model.proofs.Ring.{linear}
 use Rattle.uc_model.proofs.Sums.{sum_below-zero, sum_below-single, term-le-sum_below}
 use Rattle.uc_model.proofs.Tests.{int_le-true, le-int_le, any_below-at, any_below-from}
 use Rattle.uc_model.proofs.MinimumTimes.{bit_nonneg, bit-le-one, two_terms-le-sum_below, one-le-bit}
-use Rattle.dual_model.specs.Moves.{has_lasted}
+use Rattle.uc_model.specs.Switches.{has_lasted}
 use Rattle.dual_model.proofs.Switches.{since, since-zero, since-suc, since_after-same, since_after-other}
 
 -- the state is entered in period t, or left

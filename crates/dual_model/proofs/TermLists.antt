@@ -4,7 +4,8 @@ use Rattle.uc_model.specs.Schedule.{thermal_unit}
 use Rattle.dual_model.specs.Term.{Instance, Point, output_price, reserve_price}
 use Rattle.dual_model.specs.declared.table.Table.{Table}
 use Rattle.uc_model.specs.Terms.{term_at}
-use Rattle.dual_model.specs.UnitTerms.{MAX_PERIODS, MAX_TERM, MAX_UNIT_PRICE, Terms, Thermal, AreSizedTerms, IsSized, cell_cap}
+use Rattle.dual_model.specs.UnitTerms.{MAX_PERIODS, MAX_TERM, MAX_UNIT_PRICE, Terms, Thermal, AreSizedTerms, IsSized}
+use Rattle.uc_model.specs.Commitment.{cell_cap}
 use Rattle.dual_model.specs.TableValue.{row_at, ArePricesOf, AreTermsOfRows, AreTermsFor, AreRowsOf, AreTermsOf, IsCellTerm, IsLawfulRow, IsLawfulScale}
 
 abbrev pub made : ℤ → List ℤ → List (List (Option ℤ)) → Terms

@@ -9,7 +9,8 @@ use Rattle.uc_model.proofs.Ring.{linear}
 use Rattle.uc_model.proofs.Sums.{sum_below-first, sum_below-same}
 use Rattle.uc_model.specs.Terms.{period_count, term_at, price_at}
 use Rattle.dual_model.specs.PatternValue.{Terms, Thermal, is_followed, term_of, period_value, pattern_value}
-use Rattle.dual_model.specs.Moves.{Fix, may_be_on, may_be_off, holds_initially, may_stop, may_start, stop_since, hour_cost, hour_before, move}
+use Rattle.dual_model.specs.Moves.{Fix, may_be_on, may_be_off, holds_initially, stop_since, hour_cost, hour_before, move}
+use Rattle.uc_model.specs.Switches.{may_stop, may_start}
 use Rattle.dual_model.specs.CostToGo.{total_of, end_cost}
 use Rattle.dual_model.proofs.Optimum.{way, total_of-parts}
 use Rattle.dual_model.proofs.Switches.{since, since-start, last_stop-since}

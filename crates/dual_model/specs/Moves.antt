@@ -2,13 +2,14 @@
 -- is on, and since when: 0 stands for a time before the first period, and suc s for the period s in which it
 -- was switched. Source: the rules M1 to M5 and M7 of the reference model by Knueven, Ostrowski and Watson,
 -- each said of the one period in which it decides.
-use Rattle.std.specs.Prelude.{ℕ, zero, suc, ◌+◌, ◌-◌, Bool, true, false, not, ◌&&◌, ◌||◌, ◌==◌, nat_lt, nat_le, ℤ, pos, ◌-ℤ◌, ◌*ℤ◌, int_le, Option, Some, None, if◌then◌else◌}
+use Rattle.std.specs.Prelude.{ℕ, zero, suc, ◌-◌, Bool, true, false, not, ◌&&◌, ◌||◌, ◌==◌, nat_lt, ℤ, pos, ◌-ℤ◌, ◌*ℤ◌, int_le, Option, Some, None, if◌then◌else◌}
 use Rattle.std.specs.Int.{int_min}
 use Rattle.uc_model.specs.PatternBits.{commitment_of}
 use Rattle.uc_model.specs.StartCategory.{sigma}
 pub use Rattle.uc_model.specs.declared.instance.Thermal.{Thermal}
 pub use Rattle.uc_model.specs.declared.terms.Terms.{Terms}
 pub use Rattle.dual_model.specs.declared.node.Fix.{Fix}
+use Rattle.uc_model.specs.Switches.{may_start, may_stop}
 use Rattle.uc_model.specs.Terms.{term_at, price_at}
 
 -- nothing that is decided wants the unit off in period t
@@ -26,19 +27,6 @@ initial_limit unit false = unit.pmax
 
 abbrev pub holds_initially : Thermal → ℕ → Bool → Bool
 holds_initially unit t stop = nat_lt 0 t || int_le unit.p0 (initial_limit unit stop)
-
--- the state has lasted long enough to be left in period t: initially `left` periods remain, and a state that
--- was entered in the horizon lasts `most`
-abbrev pub has_lasted : ℕ → ℕ → ℕ → ℕ → Bool
-has_lasted left most zero t = nat_le left t
-has_lasted left most (suc s) t = nat_le (s + most) t
-
--- M2 and M4, and M3 and M5
-abbrev pub may_stop : Thermal → ℕ → ℕ → Bool
-may_stop unit since t = has_lasted (unit.ut - unit.ut0) unit.ut since t
-
-abbrev pub may_start : Thermal → ℕ → ℕ → Bool
-may_start unit since t = has_lasted (unit.dt - unit.dt0) unit.dt since t
 
 -- the last stop of a unit that is off since then
 abbrev pub stop_since : ℕ → Option ℕ

@@ -7,7 +7,8 @@ use Rattle.dual_model.specs.Fixings.{Node, HasNoPattern}
 use Rattle.dual_model.specs.Term.{Point, IsTerm, output_price, reserve_price}
 use Rattle.dual_model.specs.UnitValue.{Thermal, IsUnitValue}
 use Rattle.uc_model.specs.Terms.{period_count, term_at, price_at, place}
-use Rattle.dual_model.specs.UnitTerms.{MAX_TERM, MAX_UNIT_PRICE, Terms, cell_cap}
+use Rattle.dual_model.specs.UnitTerms.{MAX_TERM, MAX_UNIT_PRICE, Terms}
+use Rattle.uc_model.specs.Commitment.{cell_cap}
 
 -- the term of a cell of this cap, or nothing where the cap is below 0
 abbrev pub IsCellTerm : List Point → ℤ → ℤ → ℤ → ℤ → Option ℤ → Type 0

@@ -3,24 +3,13 @@
 -- whose caps (M9, M10) depend on the starts and stops beside a cell. The limits in size are this project's.
 --
 -- Periods count from 0 here.
-use Rattle.std.specs.Prelude.{◌≡◌, ℕ, suc, ◌<◌, ◌≤◌, Bool, not, ◌&&◌, ◌==◌, nat_lt, ℤ, pos, ◌-ℤ◌, ◌*ℤ◌, ◌≤ℤ◌, ◌<ℤ◌, unsigned_abs, length, Option, MatchOption}
-use Rattle.std.specs.Int.{int_min}
-use Rattle.uc_model.specs.Sums.{bit}
-use Rattle.uc_model.specs.Commitment.{start_reduction, stop_reduction}
+use Rattle.std.specs.Prelude.{◌≡◌, ℕ, ◌<◌, ◌≤◌, Bool, ℤ, pos, ◌≤ℤ◌, ◌<ℤ◌, unsigned_abs, length, Option, MatchOption}
+use Rattle.uc_model.specs.Commitment.{cell_cap}
 pub use Rattle.uc_model.specs.declared.limits.TheConstants.{MAX_PERIODS, MAX_TERM}
 pub use Rattle.uc_model.specs.declared.instance.Thermal.{Thermal}
 use Rattle.uc_model.specs.Terms.{period_count, price_at, term_at}
 pub use Rattle.uc_model.specs.declared.terms.Terms.{Terms}
 pub use Rattle.dual_model.specs.declared.limits.TheConstants.{MAX_SCALE, MAX_UNIT_PRICE}
-
--- the cap of a cell, by whether it is a start and whether a stop follows: a unit that is on initially has no start in the first period, and after the last
--- period there is no stop
-abbrev pub cell_cap : ℕ → Thermal → ℕ → Bool → Bool → ℤ
-cell_cap periods unit t start stop =
-    let full = unit.pmax -ℤ unit.pmin in
-    let started = start && not (unit.on0 && (t == 0)) in
-    let followed = stop && nat_lt (suc t) periods in
-    int_min (full -ℤ start_reduction unit *ℤ bit started) (full -ℤ stop_reduction unit *ℤ bit followed)
 
 -- a term is there exactly where the cap is at least 0, and is within the limit
 abbrev pub IsSized : ℤ → Option ℤ → Type 0

@@ -35,7 +35,7 @@ impl Node {
 
 /// What a node decides of one thermal unit: the periods in which it is decided, and those of them in which
 /// the unit is on.
-#[derive(Clone, Copy)]
+#[derive(Clone, Copy, PartialEq, Eq)]
 pub struct Fix {
     pub known: Pattern,
     pub on: Pattern,

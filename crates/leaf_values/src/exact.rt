@@ -1,6 +1,6 @@
 //! Whether the exact value of a node, with ramps kept in each unit, is enough at the table that was loaded last.
 
-ghost use Rattle.std.specs.Prelude.{◌≡◌, ℕ, ◌+◌, ◌*◌, ◌<◌, ◌≤◌, ◌⊎◌, ◌↔◌, pos, ◌-ℤ◌, ◌<ℤ◌, true, IfOk, IsTrue, MatchOption, length, unsigned_abs};
+ghost use Rattle.std.specs.Prelude.{◌≡◌, ◌*◌, ◌<◌, ◌≤◌, ◌⊎◌, ◌↔◌, pos, ◌-ℤ◌, ◌<ℤ◌, true, IfOk, IsTrue, MatchOption, length, unsigned_abs};
 ghost use Rattle.std.specs.Int.{int_max};
 ghost use Rattle.uc_model.specs.Limits.{IsLawfulInstance};
 ghost use Rattle.uc_model.specs.Schedule.{thermal_count};
@@ -17,7 +17,7 @@ ghost use Rattle.leaf_values.specs.inside.ExactTotals.{AreDecided, MAX_PART, gai
 
 use crate::entries::{ExactEntry, TableEntries};
 use crate::least::Least;
-use crate::node_value::{is_same, part, reckon_each, total};
+use crate::node_value::{part, reckon_each, total};
 use cost_curves::{Curve, curves_of};
 use dual_model::{Fix, Table};
 use state_walk::{ExactWalk, Walk, least_exact};
@@ -92,7 +92,7 @@ impl ExactRoom {
         ensures value { IsExactByFix instance.now table.now g fix.now result }
     {
         if let ExactEntry::Sought { fix: kept, value } = *known {
-            if is_same(&kept, fix) {
+            if kept == *fix {
                 return value;
             }
         }

@@ -1,6 +1,6 @@
 //! The value of a node at the table that was loaded last.
 
-ghost use Rattle.std.specs.Prelude.{◌≡◌, ℕ, ◌+◌, ◌≤◌, IsTrue, ◌↔◌, MatchOption, length, unsigned_abs};
+ghost use Rattle.std.specs.Prelude.{◌≡◌, ◌+◌, ◌≤◌, MatchOption, length, unsigned_abs};
 ghost use Rattle.uc_model.specs.Limits.{IsLawfulInstance, IsLawfulThermal};
 ghost use Rattle.uc_model.specs.Schedule.{thermal_count};
 ghost use Rattle.dual_model.specs.Fixings.{HasEmptyUnit};
@@ -70,23 +70,10 @@ fn reckon(entry: &mut UnitEntry, walk: &mut Walk, unit: &Thermal, fix: &Fix)
     ensures kept { walk.new ≡ walk.old }
     ensures entry { IsReckonedFor walk.old unit.now fix.now entry.old entry.new }
 {
-    if !is_same(&entry.fix, fix) {
+    if entry.fix != *fix {
         entry.value = least(walk, &entry.terms, unit, fix);
         entry.fix = *fix;
     }
-}
-
-/// Whether two fixes decide the same.
-pub(crate) fn is_same(left: &Fix, right: &Fix) -> bool
-    ensures { IsTrue result ↔ (left.now ≡ right.now) }
-{
-    is_same_pattern(&left.known, &right.known) && is_same_pattern(&left.on, &right.on)
-}
-
-fn is_same_pattern(left: &Pattern, right: &Pattern) -> bool
-    ensures { IsTrue result ↔ (left.now ≡ right.now) }
-{
-    left.low == right.low && left.high == right.high
 }
 
 /// The sum of what each unit adds and what doesn't hang on them; `None` exactly where some unit has no value.

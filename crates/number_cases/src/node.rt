@@ -19,21 +19,16 @@ use unit_path::Scratch;
 /// The value of a node, if each unit has a pattern.
 type Evaluation = Result<Valued, ValueFault>;
 
-/// The node that decides nothing.
-pub(crate) fn root(alloc: Global) -> Node
-    ensures { (instance : Instance) → IsNodeOf instance result }
-{
-    Node {
-        fixings: List::from_vec(Vec::new(alloc)),
-    }
-}
-
 /// The total value of the root at the table.
 pub(crate) fn root_total(alloc: Global, instance: &Instance, table: &Table) -> Answer
     requires lawful { IsLawfulInstance instance.now }
     requires table { IsLawfulTable instance.now table.now }
 {
-    evaluation_text(alloc, valued(alloc, instance, &root(alloc), table), false)
+    evaluation_text(
+        alloc,
+        valued(alloc, instance, &Node::root(alloc), table),
+        false,
+    )
 }
 
 // A value, and where they are wanted the parts, or which unit has no pattern.

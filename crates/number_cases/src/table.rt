@@ -9,8 +9,8 @@ ghost use Rattle.dual_model.specs.Prices.{IsLawfulTable};
 
 use crate::Answer;
 use crate::demo::put_each;
-use crate::node::{root, root_total};
-use dual_model::Table;
+use crate::node::root_total;
+use dual_model::{Node, Table};
 use prices::{marginal, opening_ray, step, zero};
 use std::alloc::{AllocError, Global};
 use uc_model::{Instance, NoMemory, Printed};
@@ -93,6 +93,6 @@ fn stepped(alloc: Global, instance: &Instance, table: &Table, had: u32) -> Resul
     requires table { IsLawfulTable instance.now table.now }
     requires count { had ≤ 65535 }
 {
-    let root = root(alloc);
+    let root = Node::root(alloc);
     Ok(step(alloc, instance, &root, table, None, had)?.k())
 }

@@ -23,7 +23,7 @@ use dual_value::{Room, ValueFault, Valued, child, exact_value, value_in};
 use opening_tables::{marginal_in, unpriced};
 use std::alloc::Global;
 use std::marker::Model;
-use uc_model::{Instance, List, NoMemory, Printed};
+use uc_model::{Instance, NoMemory, Printed};
 use unit_path::Scratch;
 
 /// An instance with what the evaluations of its nodes share: the curves of its units, and memory for paths; the same for exact values, once
@@ -205,7 +205,7 @@ impl<'a> Evaluator<'a> {
         ensures value { IfOk result (IsNodeValue self.old root table.now) }
         ensures size { IfOk result (λ value. unsigned_abs value ≤ MAX_VALUE) }
     {
-        match self.valued(alloc, &root_node(alloc), table) {
+        match self.valued(alloc, &Node::root(alloc), table) {
             Ok(valued) => Ok(valued.total),
             Err(ValueFault::Empty(_)) => unreachable!(),
             Err(ValueFault::NoMemory) => Err(NoMemory),
@@ -219,7 +219,7 @@ impl<'a> Evaluator<'a> {
         ensures blocked { IfOk result (λ blocked. MatchOption blocked (HasNoBlockedUnit exact self.old) (IsFirstBlocked exact self.old root)) }
     {
         let table = unpriced(alloc, self.instance(), 0)?;
-        let root = root_node(alloc);
+        let root = Node::root(alloc);
         let total = self.total(alloc, &root, &table, exact);
         drop((root, table));
         match total {
@@ -227,14 +227,5 @@ impl<'a> Evaluator<'a> {
             Err(ValueFault::Empty(g)) => Ok(Some(g)),
             Err(ValueFault::NoMemory) => Err(NoMemory),
         }
-    }
-}
-
-/// The root, at which nothing is decided.
-pub fn root_node(alloc: Global) -> Node
-    ensures { result ≡ root }
-{
-    Node {
-        fixings: List::from_vec(Vec::new(alloc)),
     }
 }

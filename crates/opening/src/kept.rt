@@ -1,7 +1,6 @@
 //! The value of the node that was evaluated last, from which a child of it has the parts of all units but one.
 
-ghost use Rattle.std.specs.Prelude.{◌≡◌, ◌↔◌, ◌∷◌, ◌++◌, [], IsTrue, IfOk, IfSome, ◌≤◌, length};
-ghost use Rattle.dual_model.specs.declared.node.Fixing.{Fixing as Decision};
+ghost use Rattle.std.specs.Prelude.{◌≡◌, ◌∷◌, ◌++◌, [], IfOk, IfSome};
 ghost use Rattle.dual_value.specs.Inheritance.{IsParentOf};
 ghost use Rattle.opening.specs.inside.Kept.{Instance, IsKeptOf};
 
@@ -82,16 +81,9 @@ fn last_behind(path: &[Fixing], parent: &[Fixing]) -> Option<Fixing>
         return None;
     }
     for i in 0..parent.len() {
-        if !is_same(path[i], parent[i]) {
+        if path[i] != parent[i] {
             return None;
         }
     }
     Some(path[parent.len()])
-}
-
-// Whether two decisions are the same.
-fn is_same(first: Fixing, second: Fixing) -> bool
-    ensures { IsTrue result ↔ (first ≡ second) }
-{
-    first.g == second.g && first.t == second.t && first.on == second.on
 }

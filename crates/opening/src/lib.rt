@@ -7,6 +7,6 @@ mod kept;
 mod rays;
 mod root_tables;
 
-pub use evaluator::{Evaluator, root_node};
+pub use evaluator::Evaluator;
 pub use rays::{excluding_ray, is_positive, node_ray};
 pub use root_tables::{Priced, dispatched_root, unpriced_root};

@@ -8,7 +8,7 @@ ghost use Rattle.schedule_check.specs.Accepted.{IsAcceptedIfFound};
 ghost use Rattle.opening.specs.Outcomes.{IsPositive};
 ghost use Rattle.opening.specs.Rays.{HasNoRay, IsFirstRay};
 
-use crate::evaluator::{Evaluator, root_node};
+use crate::evaluator::Evaluator;
 use branch_tree::Outcome;
 use dual_model::{Node, Table};
 use opening_tables::opening_ray;
@@ -43,7 +43,7 @@ fn first_ray(alloc: Global, evaluator: &mut Evaluator, exact: bool) -> Result<Op
     // Invariant: no ray before ray n has a positive value.
     for n in 0..4 * instance.periods + 4 {
         let table = opening_ray(alloc, instance, n)?;
-        let outcome = evaluator.outcome(alloc, &root_node(alloc), &table, exact)?;
+        let outcome = evaluator.outcome(alloc, &Node::root(alloc), &table, exact)?;
         if is_positive(&outcome) {
             return Ok(Some(n));
         }

@@ -1,6 +1,6 @@
 //! The rays with which a search begins.
 
-ghost use Rattle.std.specs.Prelude.{◌≡◌, ◌++◌, ◌*◌, ◌<◌, ◌≤◌, ◌+ℤ◌, ◌-ℤ◌, IfOk, slice_index_or, unsigned_abs};
+ghost use Rattle.std.specs.Prelude.{◌≡◌, ◌++◌, ◌*◌, ◌<◌, ◌≤◌, ◌+ℤ◌, IfOk, slice_index_or};
 ghost use Rattle.uc_model.specs.Sums.{bit};
 ghost use Rattle.uc_model.specs.Commitment.{initial_p};
 ghost use Rattle.uc_model.specs.Limits.{IsLawfulInstance, IsLawfulThermal};
@@ -187,7 +187,7 @@ fn rises_short(unit: &Thermal) -> bool
     requires { IsLawfulThermal unit.now }
     ensures { result ≡ rises_short_at unit.now }
 {
-    unit.on0 && first_reach(unit) < range(unit)
+    unit.on0 && first_reach(unit) < unit.range()
 }
 
 // Whether one that is on initially can't fall to its minimum.
@@ -195,7 +195,7 @@ fn falls_short(unit: &Thermal) -> bool
     requires { IsLawfulThermal unit.now }
     ensures { result ≡ falls_short_at unit.now }
 {
-    unit.on0 && unit.rd < initial_output(unit)
+    unit.on0 && unit.rd < unit.initial_output()
 }
 
 // Whether one that is on initially can't rise to its minimum.
@@ -211,22 +211,5 @@ fn first_reach(unit: &Thermal) -> i64
     requires { IsLawfulThermal unit.now }
     ensures { result ≡ unit.now.ru +ℤ initial_p unit.now }
 {
-    unit.ru + initial_output(unit)
-}
-
-// The greatest output above the minimum.
-fn range(unit: &Thermal) -> i64
-    requires { IsLawfulThermal unit.now }
-    ensures { result ≡ unit.now.pmax -ℤ unit.now.pmin }
-{
-    unit.pmax - unit.pmin
-}
-
-// The output above the minimum before the first period.
-fn initial_output(unit: &Thermal) -> i64
-    requires { IsLawfulThermal unit.now }
-    ensures value { result ≡ initial_p unit.now }
-    ensures size { unsigned_abs result ≤ 2 * MAX_POWER }
-{
-    if unit.on0 { unit.p0 - unit.pmin } else { 0 }
+    unit.ru + unit.initial_output()
 }

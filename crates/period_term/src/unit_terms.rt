@@ -1,15 +1,14 @@
 //! The terms of a unit: a cell's term for each period and each of its four caps.
 
-ghost use Rattle.std.specs.Prelude.{◌≡◌, ℕ, suc, pos, ◌<◌, ◌≤◌, not, ◌&&◌, ◌==◌, nat_lt, Bool, None, ◌-ℤ◌, ◌*ℤ◌, IfOk, length, slice_index_or, unsigned_abs};
-ghost use Rattle.uc_model.specs.Sums.{bit};
-ghost use Rattle.uc_model.specs.Commitment.{start_reduction as start_reduction_of, stop_reduction as stop_reduction_of};
+ghost use Rattle.std.specs.Prelude.{◌≡◌, ℕ, pos, ◌<◌, ◌≤◌, Bool, None, IfOk, length, slice_index_or, unsigned_abs};
+ghost use Rattle.uc_model.specs.Commitment.{cell_cap as cap_of};
 ghost use Rattle.uc_model.specs.Limits.{IsLawfulThermal};
 ghost use Rattle.uc_model.specs.Schedule.{thermal_unit};
 ghost use Rattle.uc_model.specs.declared.instance.Instance.{Instance};
 ghost use Rattle.dual_model.specs.declared.table.Table.{Table};
 ghost use Rattle.cost_curves.specs.LowerHull.{IsLowerHull};
 ghost use Rattle.uc_model.specs.Terms.{place};
-ghost use Rattle.dual_model.specs.UnitTerms.{AreSizedTerms, cell_cap as cap_of};
+ghost use Rattle.dual_model.specs.UnitTerms.{AreSizedTerms};
 ghost use Rattle.dual_model.specs.TableValue.{ArePricesOf, AreRowsOf, AreTermsFor, AreTermsOf, AreTermsOfRows, IsLawfulRow, IsLawfulScale, IsTermOfRow, row_at};
 
 use crate::cell::row_terms;
@@ -108,78 +107,9 @@ fn cell_caps(unit: &Thermal, periods: usize, t: usize) -> [i64; 4]
     ensures size { (i : ℕ) → i < 4 → unsigned_abs (slice_index_or result i (pos 0)) ≤ MAX_CAP }
 {
     [
-        cell_cap(unit, periods, t, false, false),
-        cell_cap(unit, periods, t, true, false),
-        cell_cap(unit, periods, t, false, true),
-        cell_cap(unit, periods, t, true, true),
+        unit.cell_cap(periods, t, false, false),
+        unit.cell_cap(periods, t, true, false),
+        unit.cell_cap(periods, t, false, true),
+        unit.cell_cap(periods, t, true, true),
     ]
-}
-
-// The cap of a cell in period t, by whether the cell is a start and whether a stop follows: a unit that is on
-// initially has no start in the first period, and after the last period there is no stop.
-fn cell_cap(unit: &Thermal, periods: usize, t: usize, start: bool, stop: bool) -> i64
-    requires lawful { IsLawfulThermal unit.now }
-    requires period { t < periods }
-    ensures value { result ≡ cap_of periods unit.now t start stop }
-    ensures size { unsigned_abs result ≤ MAX_CAP }
-{
-    let at_start = reduced(range(unit), start_reduction(unit), is_start(unit, t, start));
-    let at_stop = reduced(
-        range(unit),
-        stop_reduction(unit),
-        is_followed(periods, t, stop),
-    );
-    at_start.min(at_stop)
-}
-
-// The width of the unit's range.
-fn range(unit: &Thermal) -> i64
-    requires { IsLawfulThermal unit.now }
-    ensures value { result ≡ unit.now.pmax -ℤ unit.now.pmin }
-    ensures size { unsigned_abs result ≤ MAX_POWER }
-{
-    unit.pmax - unit.pmin
-}
-
-// Whether a cell that is to be a start can be one.
-fn is_start(unit: &Thermal, t: usize, start: bool) -> bool
-    ensures { result ≡ (start && not (unit.now.on0 && (t == 0))) }
-{
-    start && !(unit.on0 && t == 0)
-}
-
-// Whether a cell that a stop is to follow can have one.
-fn is_followed(periods: usize, t: usize, stop: bool) -> bool
-    requires { t < periods }
-    ensures { result ≡ (stop && nat_lt (suc t) periods) }
-{
-    stop && t + 1 < periods
-}
-
-// A cap with a reduction, where it applies.
-fn reduced(full: i64, reduction: i64, applies: bool) -> i64
-    requires full { unsigned_abs full ≤ MAX_POWER }
-    requires reduction { unsigned_abs reduction ≤ MAX_POWER }
-    ensures value { result ≡ full -ℤ reduction *ℤ bit applies }
-    ensures size { unsigned_abs result ≤ MAX_CAP }
-{
-    if applies { full - reduction } else { full }
-}
-
-// How far the limit of a start lies below the greatest output.
-fn start_reduction(unit: &Thermal) -> i64
-    requires { IsLawfulThermal unit.now }
-    ensures value { result ≡ start_reduction_of unit.now }
-    ensures size { unsigned_abs result ≤ MAX_POWER }
-{
-    (unit.pmax - unit.su).max(0)
-}
-
-// How far the limit of a stop lies below the greatest output.
-fn stop_reduction(unit: &Thermal) -> i64
-    requires { IsLawfulThermal unit.now }
-    ensures value { result ≡ stop_reduction_of unit.now }
-    ensures size { unsigned_abs result ≤ MAX_POWER }
-{
-    (unit.pmax - unit.sd).max(0)
 }

@@ -85,7 +85,7 @@ fn evaluations_of(instance: &Instance, is_root: bool) -> u32 {
 
 // Whether a unit may rise and fall over its whole range within an hour.
 fn is_agile(unit: &Thermal) -> bool {
-    unit.ru.min(unit.rd) >= unit.pmax.saturating_sub(unit.pmin)
+    unit.ru.min(unit.rd) >= unit.range()
 }
 
 /// A table to try next at a node at which `had` tables were tried, of which the last is `table`; `valued` is its value, or `None`

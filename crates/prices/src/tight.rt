@@ -13,9 +13,9 @@ use crate::ascent::{
 };
 use bundle::at;
 use dual_model::Node;
-use quick_value::{Decisions, Evaluator, ON};
+use quick_value::{Decisions, Evaluator};
 use std::alloc::Global;
-use uc_model::{Instance, NoMemory};
+use uc_model::{Instance, LEAST_DIVIDED_SHARE, NoMemory, WHOLE_SHARE};
 
 /// With more cells no such cell is sought, since that takes thousands of evaluations.
 const MOST_CELLS: usize = 150;
@@ -38,9 +38,6 @@ const TRIED: usize = 10;
 
 const CHILD_EVALUATIONS: u32 = 80;
 
-/// A share that is nearer than this to nothing or to the whole counts as such.
-const NEARLY: i64 = ON / 100;
-
 /// A child that has hardly less to spare than its parent counts as having lost this part of it.
 const LEAST_LOSS: i128 = 1000;
 
@@ -58,7 +55,7 @@ impl Near {
     }
 }
 
-// A cell, and the watts of its unit's greatest output that are divided there, in parts of `ON`.
+// A cell, and the watts of its unit's greatest output that are divided there, in parts of `WHOLE_SHARE`.
 #[derive(Clone, Copy)]
 struct Divided {
     g: u32,
@@ -292,8 +289,8 @@ impl<'a> Seeker<'a> {
         for unit in self.instance.thermal.as_slice() {
             for t in 0..self.instance.periods {
                 let share = at(shares, place);
-                let part = share.min(ON.saturating_sub(share));
-                if part > NEARLY && decisions.is_open(g as usize, t as usize) {
+                let part = share.min(WHOLE_SHARE.saturating_sub(share));
+                if part > LEAST_DIVIDED_SHARE && decisions.is_open(g as usize, t as usize) {
                     let watts = i128::from(part).saturating_mul(i128::from(unit.pmax));
                     cells.push(Divided { g, t, watts })?;
                 }

@@ -5,19 +5,16 @@ use crate::caps::Caps;
 use crate::outputs::Output;
 use crate::unit::Unit;
 use std::alloc::Global;
-use uc_model::{Instance, NoMemory, Renewable};
+use uc_model::{Instance, NoMemory, Renewable, WHOLE_SHARE};
 
 /// The value, at the scale `SCALE`; the watts that lack of what each price of the list is of, which is the slope of the value in it; and
-/// how often each unit is on in each period, unit by unit, in parts of `ON`.
+/// how often each unit is on in each period, unit by unit, in parts of `WHOLE_SHARE`.
 #[derive(Debug, Drop)]
 pub struct Evaluation {
     pub value: i128,
     pub lacks: Vec<i64>,
     pub shares: Vec<i64>,
 }
-
-/// The share of a unit that is on.
-pub const ON: i64 = 1 << 16;
 
 /// The least and the most that all renewable units give in a period.
 #[derive(Clone, Copy)]
@@ -116,7 +113,7 @@ impl Evaluation {
     /// Adds a unit that gives so much.
     pub(crate) fn add(&mut self, unit: &Unit, outputs: &[Output]) -> Result<(), NoMemory> {
         for output in outputs {
-            self.shares.push(if output.on { ON } else { 0 })?;
+            self.shares.push(if output.on { WHOLE_SHARE } else { 0 })?;
         }
         take_outputs(&mut self.lacks, unit.minimum, outputs);
         Ok(())

@@ -23,5 +23,5 @@ mod ways;
 pub use amounts::SCALE;
 pub use caps::Caps;
 pub use decisions::Decisions;
-pub use evaluation::{Evaluation, ON};
+pub use evaluation::Evaluation;
 pub use evaluator::Evaluator;

@@ -56,7 +56,7 @@ impl Unit {
         requires { IsLawfulThermal unit.now }
     {
         let curve = Curve::of(alloc, unit.points.as_slice())?;
-        let full = unit.pmax.saturating_sub(unit.pmin);
+        let full = unit.range();
         let start = full.min(unit.su.saturating_sub(unit.pmin));
         let stop = full.min(unit.sd.saturating_sub(unit.pmin));
         let points = curve.corners();
@@ -69,13 +69,13 @@ impl Unit {
             both: cap_of(points, start.min(stop)),
             rise: unit.ru,
             fall: unit.rd,
-            before: initial_power(unit),
+            before: unit.initial_output(),
             is_ramped: can_bind(unit, &curve),
             starts: Starts::of(alloc, unit, periods)?,
             up_time: unit.ut.max(1) as usize,
             down_time: unit.dt.max(1) as usize,
-            first_stop: unit.ut.saturating_sub(unit.ut0) as usize,
-            first_start: unit.dt.saturating_sub(unit.dt0) as usize,
+            first_stop: unit.up_time_left() as usize,
+            first_start: unit.down_time_left() as usize,
             was_on: unit.on0,
             may_stay: unit.p0 <= unit.pmax,
             may_stop_at_once: unit.p0 <= unit.pmax && unit.p0 <= unit.sd,
@@ -114,19 +114,10 @@ impl Cap {
     }
 }
 
-/// What the unit gives initially above its minimum.
-pub(crate) fn initial_power(unit: &Thermal) -> i64 {
-    if unit.on0 {
-        unit.p0.saturating_sub(unit.pmin)
-    } else {
-        0
-    }
-}
-
 // Whether a unit's ramps can bind.
 fn can_bind(unit: &Thermal, curve: &Curve) -> bool {
-    let range = unit.pmax.saturating_sub(unit.pmin);
-    let reach = range.min(curve.width()).max(initial_power(unit));
+    let range = unit.range();
+    let reach = range.min(curve.width()).max(unit.initial_output());
     unit.ru < range || unit.rd < reach
 }
 

@@ -1,6 +1,6 @@
 //! What the ramp rules of a unit add to a node's value, whatever its pattern.
 
-ghost use Rattle.std.specs.Prelude.{◌≡◌, ◌*◌, ◌^◌, ◌≤◌, ◌-ℤ◌, ◌*ℤ◌, neg_ℤ, length, unsigned_abs};
+ghost use Rattle.std.specs.Prelude.{◌≡◌, ◌^◌, ◌≤◌, ◌-ℤ◌, ◌*ℤ◌, neg_ℤ, length, unsigned_abs};
 ghost use Rattle.uc_model.specs.Commitment.{initial_p};
 ghost use Rattle.uc_model.specs.Limits.{IsLawfulThermal};
 ghost use Rattle.dual_model.specs.NodeValue.{unit_constant};
@@ -49,15 +49,5 @@ fn initial_part(unit: &Thermal, first: &Multipliers) -> i128
     ensures value { result ≡ (first.now.down -ℤ first.now.up) *ℤ initial_p unit.now }
     ensures size { unsigned_abs result ≤ 2 ^ 110 }
 {
-    let output = initial_output(unit);
-    product(gap(first.down, first.up), wide(output))
-}
-
-// The initial output above the minimum.
-fn initial_output(unit: &Thermal) -> i64
-    requires { IsLawfulThermal unit.now }
-    ensures value { result ≡ initial_p unit.now }
-    ensures size { unsigned_abs result ≤ 2 * MAX_POWER }
-{
-    if unit.on0 { unit.p0 - unit.pmin } else { 0 }
+    product(gap(first.down, first.up), wide(unit.initial_output()))
 }

@@ -23,7 +23,7 @@ pub use cells::{Cells, Known, SAME, WAYS, cells_of};
 pub use course::Course;
 pub use lists::{at, behind, put, stretch};
 pub use merit::{Market, PART, rate_within};
-pub use patterns::{Decided, is_on, is_same};
+pub use patterns::{Decided, is_on};
 pub use period::{Period, mixed};
 pub use system::{Plant, State, Trial, copy_row, exchange, shift, total};
 pub use trajectory::Trajectory;

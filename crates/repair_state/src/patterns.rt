@@ -36,8 +36,3 @@ impl Decided {
 pub fn is_on(pattern: &Pattern, t: u32) -> bool {
     t < MAX_PERIODS && pattern.is_on(t)
 }
-
-/// Whether two patterns are the same.
-pub fn is_same(first: &Pattern, second: &Pattern) -> bool {
-    first.low == second.low && first.high == second.high
-}

@@ -74,12 +74,12 @@ impl Unit {
             base: 0,
             segments: Vec::new(alloc),
             width: 0,
-            full: unit.pmax.saturating_sub(unit.pmin),
+            full: unit.range(),
             start: unit.su.saturating_sub(unit.pmin),
             stop: unit.sd.saturating_sub(unit.pmin),
             rise: unit.ru,
             fall: unit.rd,
-            before: output_before(unit),
+            before: unit.initial_output(),
             was_on: unit.on0,
             is_ramped: false,
             salt: mixed(SALT, number as u64),
@@ -215,9 +215,9 @@ impl Unit {
 // How long a unit has to stay as it is initially.
 fn time_left(unit: &Thermal) -> u32 {
     if unit.on0 {
-        unit.ut.saturating_sub(unit.ut0)
+        unit.up_time_left()
     } else {
-        unit.dt.saturating_sub(unit.dt0)
+        unit.down_time_left()
     }
 }
 
@@ -233,15 +233,6 @@ fn push_warm_starts(warm: &mut Vec<Warm>, rows: &[StartRow]) -> Result<(), NoMem
         }
     }
     Ok(())
-}
-
-// What a unit gave above its minimum before the first period.
-fn output_before(unit: &Thermal) -> i64 {
-    if unit.on0 {
-        unit.p0.saturating_sub(unit.pmin)
-    } else {
-        0
-    }
 }
 
 /// Thermal unit g of an instance, from 0.

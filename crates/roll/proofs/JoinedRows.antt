@@ -13,7 +13,8 @@ use Rattle.schedule_check.specs.WholeWatts as watts
 use Rattle.schedule_check.proofs.Produced.{holds_from}
 use Rattle.roll.specs.Left.{Thermal, Cell, CarriedUnit, HasLasted, IsLeft, initial_state, is_too_high_to_stop, time_off_so_far, time_on_left, time_on_so_far}
 use Rattle.roll.specs.NextWindow.{continued}
-use Rattle.roll.specs.Stitched.{HasLeastCategory, SameDispatch}
+use Rattle.roll.specs.Stitched.{SameDispatch}
+use Rattle.start_costs.specs.Cheapest.{HasLeastCategory}
 use Rattle.roll.proofs.CarriedRows.{cap_below, reduction_nonneg}
 use Rattle.roll.proofs.JoinedCells.{AreAlike, same_must_run, same_production, same_ramp_down, same_ramp_up, same_start_cap, same_stop_cap}
 use Rattle.roll.proofs.JoinedStates.{HoldsInitially, Joins, before_new, before_old, initial_joined, last_of, lasting_joined, rises}

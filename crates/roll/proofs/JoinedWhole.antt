@@ -15,7 +15,8 @@ use Rattle.roll.specs.FirstPeriods.{first_periods}
 use Rattle.roll.specs.Left.{Instance, Thermal, Cell, Printed, state_of}
 use Rattle.roll.specs.NextWindow.{continued}
 use Rattle.roll.specs.Kept.{IsKept, PrintedObeys}
-use Rattle.roll.specs.Stitched.{HasLeastCategory, IsContinuation, IsStitched, SameDispatch}
+use Rattle.roll.specs.Stitched.{IsContinuation, IsStitched, SameDispatch}
+use Rattle.start_costs.specs.Cheapest.{HasLeastCategory}
 use Rattle.roll.proofs.KeptRules.{IsSolved, rule_in_watts}
 use Rattle.roll.proofs.Parts.{IsPart, first_is_part, first_lawful, window_is_part}
 use Rattle.roll.proofs.JoinedRows.{KeepsRules, category_by, row_keeps, throughout}

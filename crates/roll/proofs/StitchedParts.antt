@@ -16,7 +16,8 @@ use Rattle.schedule_check.proofs.Priced.{allowed-within}
 use Rattle.roll.specs.FirstPeriods.{first_limits, first_periods}
 use Rattle.roll.specs.Left.{Instance, Thermal, Cell, Printed}
 use Rattle.roll.specs.Kept.{IsKept}
-use Rattle.roll.specs.Stitched.{HasLeastCategory, IsContinuation, IsStitched, SameDispatch}
+use Rattle.roll.specs.Stitched.{IsContinuation, IsStitched, SameDispatch}
+use Rattle.start_costs.specs.Cheapest.{HasLeastCategory}
 use Rattle.roll.specs.inside.Joined.{AreEmpty, AreJoined, AreStitchedRows, IsStitchedRow}
 use Rattle.roll.specs.inside.Rows.{row_at, unit_at}
 use Rattle.roll.proofs.CarriedRows.{one_more}

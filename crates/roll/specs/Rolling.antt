@@ -14,7 +14,8 @@ use Rattle.schedule_check.specs.WholeWatts.{commitment, row_of}
 pub use Rattle.roll.specs.Left.{Instance, Printed}
 use Rattle.roll.specs.Kept.{IsKept}
 use Rattle.roll.specs.NextWindow.{IsNextWindow}
-use Rattle.roll.specs.Stitched.{HasLeastCategory, SameDispatch}
+use Rattle.roll.specs.Stitched.{SameDispatch}
+use Rattle.start_costs.specs.Cheapest.{HasLeastCategory}
 pub use Rattle.roll.specs.declared.places.Place.{Place}
 pub use Rattle.roll.specs.declared.rolled.Rolled.{Rolled}
 use Rattle.roll.specs.declared.rolled.Rolled.TheVariants.{Whole, Stopped}

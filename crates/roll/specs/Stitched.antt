@@ -3,13 +3,11 @@
 -- the reference model by Knueven, Ostrowski and Watson.
 --
 -- Periods count from 0.
-use Rattle.std.specs.Prelude.{◌≡◌, ℕ, ◌+◌, ◌<◌, ◌≤◌, ◌++◌, take, false, IsTrue}
-use Rattle.uc_model.specs.Commitment.{Commitment, starts}
-use Rattle.uc_model.specs.StartCategory.{category_cost}
+use Rattle.std.specs.Prelude.{◌≡◌, ℕ, ◌+◌, ◌<◌, ◌≤◌, ◌++◌, take}
 use Rattle.uc_model.specs.Schedule.{thermal_unit, thermal_count, renewable_count}
 use Rattle.uc_model.specs.PrintedSchedule.{HasShapeOf, cell_at}
 use Rattle.uc_model.specs.Limits.{IsLawfulInstance}
-use Rattle.start_costs.specs.Cheapest.{IsCheapestAbove}
+use Rattle.start_costs.specs.Cheapest.{HasLeastCategory}
 use Rattle.schedule_check.specs.SizedNumbers.{output_at}
 use Rattle.schedule_check.specs.PlainNumbers.{HasPlainNumbers}
 use Rattle.schedule_check.specs.WholeWatts.{commitment, row_of}
@@ -23,11 +21,6 @@ pub record SameDispatch (old new : Cell) : Type 0 where
   pub on : new.on ≡ old.on
   pub output : new.p ≡ old.p
   pub reserve : new.r ≡ old.r
-
--- a start has the cheapest category that the commitment allows, the first of several, and no other cell has one
-pub record HasLeastCategory (unit : Thermal) (on : Commitment) (t category : ℕ) : Type 0 where
-  pub start : IsTrue (starts unit on t) → IsCheapestAbove unit on t 0 (category, category_cost unit category)
-  pub none : starts unit on t ≡ false → category ≡ 0
 
 -- the first m periods are what is kept, and the n behind them the first n of the window's schedule
 pub record IsStitched (instance : Instance) (m n : ℕ) (kept shown stitched : Printed) : Type 0 where

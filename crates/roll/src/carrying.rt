@@ -1,7 +1,6 @@
 //! The states in which a schedule of the first periods leaves the thermal units.
 
-ghost use Rattle.std.specs.Prelude.{◌≡◌, ◌-◌, ◌<◌, ◌≤◌, ◌+ℤ◌, ◌-ℤ◌, if◌then◌else◌, IfOk, length};
-ghost use Rattle.uc_model.specs.Commitment.{stop_reduction as stop_reduction_of};
+ghost use Rattle.std.specs.Prelude.{◌≡◌, ◌-◌, ◌<◌, ◌≤◌, ◌+ℤ◌, if◌then◌else◌, IfOk, length};
 ghost use Rattle.uc_model.specs.Limits.{IsLawfulInstance, IsLawfulThermal, IsPower};
 ghost use Rattle.uc_model.specs.declared.limits.TheConstants.{MAX_PERIODS, MAX_TIME};
 ghost use Rattle.schedule_check.specs.WholeWatts.{cell, commitment};
@@ -10,7 +9,6 @@ ghost use Rattle.roll.specs.Left.{HasLasted, HasStates, IsCarried, IsLawfulState
 ghost use Rattle.roll.specs.inside.Rows.{AreInitialStates, AreLawful, AreStatesBehind, HasRows, IsWithinRange};
 
 use crate::state::{Carried, CarriedUnit};
-use schedule_check::limits::stop_reduction;
 use std::alloc::Global;
 use uc_model::limits::MAX_TIME;
 use uc_model::{Cell, Instance, List, NoMemory, Printed, Thermal};
@@ -170,24 +168,7 @@ fn is_too_high(unit: &Thermal, last: &Cell) -> bool
     requires last { IsWithinRange unit.now last.now }
     ensures { result ≡ is_too_high_to_stop unit.now last.now }
 {
-    stop_cap(unit) < head(unit, last)
-}
-
-// What M10 leaves to a unit that stops in the next period, in watts.
-fn stop_cap(unit: &Thermal) -> i64
-    requires { IsLawfulThermal unit.now }
-    ensures { result ≡ unit.now.pmax -ℤ unit.now.pmin -ℤ stop_reduction_of unit.now }
-{
-    range(unit) - stop_reduction(unit)
-}
-
-// The width of the unit's range, in watts.
-fn range(unit: &Thermal) -> i64
-    requires { IsLawfulThermal unit.now }
-    ensures value { result ≡ unit.now.pmax -ℤ unit.now.pmin }
-    ensures size { IsPower result }
-{
-    unit.pmax - unit.pmin
+    unit.stop_cap(true, true) < head(unit, last)
 }
 
 // The output of a cell with its reserve, in watts.

@@ -5,10 +5,11 @@ ghost use Rattle.uc_model.specs.Limits.{IsLawfulThermal};
 ghost use Rattle.uc_model.specs.PatternBits.{commitment_of};
 ghost use Rattle.uc_model.specs.declared.limits.TheConstants.{MAX_PERIODS};
 ghost use Rattle.schedule_check.specs.WholeWatts.{category, cell, commitment};
-ghost use Rattle.roll.specs.Stitched.{HasLeastCategory, SameDispatch};
+ghost use Rattle.roll.specs.Stitched.{SameDispatch};
+ghost use Rattle.start_costs.specs.Cheapest.{HasLeastCategory};
 ghost use Rattle.roll.specs.inside.Joined.{IsStitchedRow};
 
-use start_costs::{least_allowed, was_on};
+use start_costs::start_category;
 use std::alloc::Global;
 use uc_model::limits::MAX_PERIODS;
 use uc_model::{Cell, List, NoMemory, Pattern, Thermal};
@@ -81,19 +82,6 @@ fn set_category(row: &mut [Cell], t: usize, number: u8)
 {
     let cell = &mut row[t];
     cell.category = number;
-}
-
-// The category of a start in period t, from 1: the cheapest one that the history allows; 0 is no start.
-fn start_category(unit: &Thermal, pattern: &Pattern, t: usize) -> u8
-    requires lawful { IsLawfulThermal unit.now }
-    requires period { t < MAX_PERIODS }
-    ensures { HasLeastCategory unit.now (commitment_of pattern.now) t result }
-{
-    if !was_on(unit, pattern, t) && pattern.is_on(t as u32) {
-        least_allowed(unit, pattern, t).0
-    } else {
-        0
-    }
 }
 
 // The pattern of a row.

@@ -6,7 +6,6 @@ ghost use Rattle.uc_model.specs.Limits.{IsLawfulThermal};
 ghost use Rattle.schedule_check.specs.WholeWatts.{commitment};
 
 use crate::dispatch::initial_limit;
-use crate::limits::initial_output;
 use uc_model::{Cell, Thermal};
 
 /// Whether the unit is on in the period before t, which is the initial one before the first.
@@ -46,8 +45,7 @@ pub(crate) fn initial_up(unit: &Thermal, row: &[Cell], t: usize) -> bool
     requires { t < length row.now }
     ensures { result ≡ initial_up_at unit.now (commitment row.now) t }
 {
-    let left = unit.ut.saturating_sub(unit.ut0) as usize;
-    !(unit.on0 && t < left) || row[t].on
+    !(unit.on0 && t < unit.up_time_left() as usize) || row[t].on
 }
 
 /// M3: a unit that is off initially stays off until its minimum down time is over.
@@ -55,8 +53,7 @@ pub(crate) fn initial_down(unit: &Thermal, row: &[Cell], t: usize) -> bool
     requires { t < length row.now }
     ensures { result ≡ initial_down_at unit.now (commitment row.now) t }
 {
-    let left = unit.dt.saturating_sub(unit.dt0) as usize;
-    !(!unit.on0 && t < left) || !row[t].on
+    !(!unit.on0 && t < unit.down_time_left() as usize) || !row[t].on
 }
 
 /// M7: a unit that stops in the first period was low enough initially.
@@ -65,5 +62,5 @@ pub(crate) fn initial_stop(unit: &Thermal, row: &[Cell]) -> bool
     requires some { 0 < length row.now }
     ensures { result ≡ initial_stop_holds unit.now (commitment row.now) }
 {
-    initial_output(unit) <= initial_limit(unit, stops(unit, row, 0))
+    unit.initial_output() <= initial_limit(unit, stops(unit, row, 0))
 }

@@ -8,9 +8,7 @@ ghost use Rattle.schedule_check.specs.SizedNumbers.{IsSizedCell};
 ghost use Rattle.schedule_check.specs.WholeWatts.{IsSizedRow, cell, commitment, output_before_by as before_of, over, production_by, start_cap_by, stop_cap_by, ramp_up_by, ramp_down_by, width as width_of};
 
 use crate::commitment::{starts, stops};
-use crate::limits::{
-    initial_output, is_at_most, numerator, range, reduced, start_reduction, stop_reduction, width,
-};
+use crate::limits::{is_at_most, numerator, width};
 use uc_model::{Cell, Thermal};
 
 /// M8: an on cell's output lies on the hull of the unit's points and its reserve isn't below 0; an off cell has
@@ -35,8 +33,7 @@ pub(crate) fn start_cap(denominator: u8, unit: &Thermal, row: &[Cell], t: usize)
     requires period { t < length row.now }
     ensures { result ≡ start_cap_by (over denominator) unit.now row.now t }
 {
-    let full = range(unit, row[t].on);
-    let cap = reduced(&full, &start_reduction(unit), starts(unit, row, t));
+    let cap = unit.start_cap(row[t].on, starts(unit, row, t));
     is_at_most(denominator, head(&row[t]), cap)
 }
 
@@ -97,8 +94,7 @@ fn is_below_stop_cap(denominator: u8, unit: &Thermal, row: &[Cell], t: usize) ->
     requires period { suc t < length row.now }
     ensures { result ≡ int_le ((cell row.now t).p +ℤ (cell row.now t).r) (over denominator (stop_cap_of unit.now (commitment row.now) t)) }
 {
-    let full = range(unit, row[t].on);
-    let cap = reduced(&full, &stop_reduction(unit), stops(unit, row, t + 1));
+    let cap = unit.stop_cap(row[t].on, stops(unit, row, t + 1));
     is_at_most(denominator, head(&row[t]), cap)
 }
 
@@ -127,7 +123,7 @@ fn output_before(denominator: u8, unit: &Thermal, row: &[Cell], t: usize) -> i12
     ensures size { unsigned_abs result ≤ 2 ^ 71 }
 {
     if t == 0 {
-        numerator(denominator, initial_output(unit))
+        numerator(denominator, unit.initial_output())
     } else {
         wide(row[t - 1].p)
     }
@@ -138,6 +134,5 @@ pub(crate) fn initial_limit(unit: &Thermal, stop: bool) -> i64
     requires { IsLawfulThermal unit.now }
     ensures { result ≡ bit unit.now.on0 *ℤ (unit.now.pmax -ℤ unit.now.pmin) -ℤ stop_reduction_of unit.now *ℤ bit stop }
 {
-    let full = range(unit, unit.on0);
-    reduced(&full, &stop_reduction(unit), stop)
+    unit.stop_cap(unit.on0, stop)
 }

@@ -4,7 +4,7 @@ ghost use Rattle.uc_model.specs.Limits.{IsLawfulInstance, IsLawfulThermal};
 
 use repair_state::{
     Beside, Cells, Decided, Known, Market, Period, Plant, State, Trial, Unit, WAYS, Window,
-    cells_of, copy_row, exchange, is_on, is_same, keep_ramps, narrow, open, shift, total, unit_at,
+    cells_of, copy_row, exchange, is_on, keep_ramps, narrow, open, shift, total, unit_at,
 };
 use start_costs::least_allowed;
 use uc_model::limits::MAX_PERIODS;
@@ -186,7 +186,7 @@ fn put_on(
         return Ok(false);
     }
     let before = state.patterns[g];
-    let is_other = !is_same(&before, &aim.pattern);
+    let is_other = before != aim.pattern;
     if !unit.is_ramped {
         if is_other {
             state.patterns[g] = aim.pattern;

@@ -5,7 +5,7 @@ ghost use Rattle.uc_model.specs.Commitment.{is_allowed as is_pattern_allowed, st
 ghost use Rattle.uc_model.specs.Limits.{IsLawfulThermal};
 ghost use Rattle.uc_model.specs.PatternBits.{commitment_of};
 ghost use Rattle.uc_model.specs.StartCategory.{category_cost, category_count, has_stop_within as has_stop_in, is_category_allowed, last_stop, sigma};
-ghost use Rattle.start_costs.specs.Cheapest.{IsCheapestAbove};
+ghost use Rattle.start_costs.specs.Cheapest.{HasLeastCategory, IsCheapestAbove};
 ghost use Rattle.start_costs.specs.Regular.{AreStartsRegular};
 
 use crate::barred::is_barred;
@@ -36,6 +36,20 @@ pub fn least_allowed(unit: &Thermal, pattern: &Pattern, t: usize) -> (u8, i64)
         least = cheaper(unit, pattern, t, s, least);
     }
     least
+}
+
+/// The category of the start in period `t` (from 0), from 1: the cheapest one that the pattern's history allows, and of several that
+/// cost the same the first; 0 is no start.
+pub fn start_category(unit: &Thermal, pattern: &Pattern, t: usize) -> u8
+    requires lawful { IsLawfulThermal unit.now }
+    requires period { t < MAX_PERIODS }
+    ensures { HasLeastCategory unit.now (commitment_of pattern.now) t result }
+{
+    if !was_on(unit, pattern, t) && pattern.is_on(t as u32) {
+        least_allowed(unit, pattern, t).0
+    } else {
+        0
+    }
 }
 
 // The cheapest category above s, from the cheapest one above s + 1.

@@ -8,5 +8,5 @@ pub mod by_last_stop;
 pub mod laws;
 
 pub use barred::is_barred;
-pub use by_history::{least_allowed, stops, was_on};
+pub use by_history::{least_allowed, start_category, stops, was_on};
 pub use by_last_stop::sigma;

@@ -10,7 +10,7 @@ use Rattle.uc_model.proofs.Sizes.{abs_mul}
 use Rattle.uc_model.proofs.Tests.{int_min_left, int_min_right}
 use Rattle.dual_model.specs.CostToGo.{total_of}
 use Rattle.dual_model.specs.ExactValue.{greatest_output}
-use Rattle.dual_model.specs.UnitTerms.{cell_cap}
+use Rattle.uc_model.specs.Commitment.{cell_cap}
 use Rattle.dual_model.proofs.Optimum.{AtMost}
 use Rattle.step_functions.specs.Functions.{Steps, IsPlace, value_at}
 use Rattle.hull_function.specs.Hulls.{IsBounded}

@@ -7,7 +7,7 @@ use Rattle.uc_model.proofs.Ring.{linear}
 use Rattle.uc_model.proofs.Tests.{int_le-true, le-int_le, int_eq-true, eq-int_eq}
 use Rattle.dual_model.specs.CostToGo.{total_of}
 use Rattle.dual_model.specs.ExactValue.{greatest_output}
-use Rattle.dual_model.specs.UnitTerms.{cell_cap}
+use Rattle.uc_model.specs.Commitment.{cell_cap}
 use Rattle.dual_model.proofs.Optimum.{AtMost, total_of-parts}
 use Rattle.unit_runs.specs.CostThrough.{cost_through, hour_after, is_output, least_between, output_cost, reserve_cost, run_cost}
 use Rattle.unit_runs.specs.Runs.{entry_output, hour_cap}

@@ -16,7 +16,8 @@ use crate::problem::Problem;
 use crate::rest::{Rest, may_end};
 use std::alloc::Global;
 use step_functions::ConvexFunction;
-use uc_model::{NoMemory, Thermal};
+use uc_model::NoMemory;
+use unit_runs::entry_output;
 
 /// The memory for the runs that end before a period: what is left of them, and a function to cut.
 #[derive(Drop)]
@@ -122,19 +123,5 @@ fn earliest(costs: &[Option<i128>], problem: &Problem, t: usize) -> Option<i128>
         Some(0)
     } else {
         None
-    }
-}
-
-// The output before a run that begins in period `t`: a start comes from none, and before the first period it is given.
-fn entry_output(unit: &Thermal, t: usize) -> i64
-    requires minimum { unsigned_abs unit.now.pmin ≤ MAX_POWER }
-    requires initial { unsigned_abs unit.now.p0 ≤ MAX_POWER }
-    ensures value { result ≡ output_at_entry unit.now t }
-    ensures size { unsigned_abs result ≤ 2 * MAX_POWER }
-{
-    if t == 0 && unit.on0 {
-        unit.p0 - unit.pmin
-    } else {
-        0
     }
 }

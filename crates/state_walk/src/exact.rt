@@ -21,7 +21,6 @@ ghost use Rattle.state_walk.specs.inside.WalkTable.{entry_at};
 use crate::endings::Endings;
 use crate::moves::stop_since;
 use crate::problem::Problem;
-use crate::rules::may_switch;
 use crate::walk::{CostToGo, lesser, total};
 use cost_curves::Curve;
 use dual_model::moves::holds_initially;
@@ -258,7 +257,7 @@ fn stop_cost(problem: &Problem, t: usize, since: usize, run: Option<i128>) -> Op
     let unit = problem.unit;
     if problem.fix.may_be_off(unit, t)
         && holds_initially(unit, t, true)
-        && may_switch(unit, true, since, t)
+        && unit.may_switch(true, since, t)
     {
         run
     } else {
@@ -275,7 +274,7 @@ fn start_cost(problem: &Problem, t: usize, since: usize) -> Option<i128>
     ensures { result ≡ switch_cost problem.now.periods problem.now.table.now problem.now.unit.now problem.now.fix.now t false since }
 {
     let unit = problem.unit;
-    if problem.fix.may_be_on(t) && may_switch(unit, false, since, t) {
+    if problem.fix.may_be_on(t) && unit.may_switch(false, since, t) {
         Some(scaled(problem.table.k(), sigma(unit, stop_since(since), t)))
     } else {
         None

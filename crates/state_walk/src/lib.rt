@@ -9,7 +9,6 @@ mod hour;
 mod moves;
 mod problem;
 mod rest;
-mod rules;
 pub mod walk;
 
 pub use exact::{ExactWalk, least_exact};

@@ -2,15 +2,13 @@
 
 ghost use Rattle.std.specs.Prelude.{◌≡◌, ◌<◌, ◌≤◌};
 ghost use Rattle.uc_model.specs.Limits.{IsLawfulThermal};
-ghost use Rattle.uc_model.specs.Terms.{period_count, term_at as term_of};
+ghost use Rattle.uc_model.specs.Terms.{period_count};
 ghost use Rattle.dual_model.specs.UnitTerms.{AreSizedTerms};
-ghost use Rattle.dual_model.specs.Moves.{hour_before as hour_of, move, stop_since as stop_of};
+ghost use Rattle.dual_model.specs.Moves.{move, stop_since as stop_of};
 
-use crate::rules::may_switch;
 use dual_model::Fix;
-use dual_model::moves::{holds_initially, hour_cost};
+use dual_model::moves::{holds_initially, hour_before};
 use start_costs::sigma;
-use uc_model::terms::place;
 use uc_model::{Terms, Thermal, scaled};
 
 /// What it costs to go on from a state before period `t`, the unit being on in the period or not.
@@ -40,7 +38,7 @@ pub(crate) fn move_cost(
         (true, false) => {
             if fix.may_be_off(unit, t)
                 && holds_initially(unit, t, true)
-                && may_switch(unit, true, since, t)
+                && unit.may_switch(true, since, t)
             {
                 hour_before(terms, unit, t, since == t, true)
             } else {
@@ -48,7 +46,7 @@ pub(crate) fn move_cost(
             }
         }
         (false, true) => {
-            if fix.may_be_on(t) && may_switch(unit, false, since, t) {
+            if fix.may_be_on(t) && unit.may_switch(false, since, t) {
                 Some(scaled(terms.k, sigma(unit, stop_since(since), t)))
             } else {
                 None
@@ -69,35 +67,4 @@ pub(crate) fn stop_since(since: usize) -> Option<usize>
     ensures { result ≡ stop_of since }
 {
     if since == 0 { None } else { Some(since - 1) }
-}
-
-/// What the hour before period `t` costs a unit that was on in it, without the start.
-pub(crate) fn hour_before(
-    terms: &Terms,
-    unit: &Thermal,
-    t: usize,
-    start: bool,
-    stop: bool,
-) -> Option<i128>
-    requires lawful { IsLawfulThermal unit.now }
-    requires sized { AreSizedTerms unit.now terms.now }
-    requires period { t ≤ period_count terms.now }
-    ensures { result ≡ hour_of terms.now unit.now t start stop }
-{
-    if t == 0 {
-        return Some(0);
-    }
-    let price = terms.pi.as_slice()[t - 1];
-    match term_at(terms, t - 1, start, stop) {
-        None => None,
-        Some(term) => Some(hour_cost(term, price, unit.pmin)),
-    }
-}
-
-// The term of a cell of period t, by whether it is a start and whether a stop follows.
-fn term_at(terms: &Terms, t: usize, start: bool, stop: bool) -> Option<i128>
-    requires { t < period_count terms.now }
-    ensures { result ≡ term_of terms.now t start stop }
-{
-    terms.terms.as_slice()[t][place(start, stop)]
 }

@@ -1,6 +1,6 @@
 //! The walk: the least value of one unit's patterns, period by period from the last to the first.
 
-ghost use Rattle.std.specs.Prelude.{◌≡◌, ℕ, zero, suc, ◌+◌, ◌-◌, ◌<◌, ◌≤◌, IfSome, IfOk, IfNone, length};
+ghost use Rattle.std.specs.Prelude.{◌≡◌, ℕ, suc, ◌+◌, ◌-◌, ◌<◌, ◌≤◌, IfSome, IfOk, IfNone, length};
 ghost use Rattle.uc_model.specs.Limits.{IsLawfulThermal};
 ghost use Rattle.uc_model.specs.Schedule.{thermal_unit};
 ghost use Rattle.uc_model.specs.declared.instance.Instance.{Instance};
@@ -14,8 +14,9 @@ ghost use Rattle.dual_model.specs.TableValue.{AreTermsOf, IsUnitValueOf};
 ghost use Rattle.dual_model.specs.CostToGo.{total_of, lesser_of, cost_to_go, IsWithin, MAX_COST_TO_GO};
 ghost use Rattle.state_walk.specs.inside.WalkTable.{entry, IsTable};
 
-use crate::moves::{hour_before, move_cost};
+use crate::moves::move_cost;
 use dual_model::Fix;
+use dual_model::moves::hour_before;
 use std::alloc::Global;
 use std::marker::Model;
 use uc_model::{NoMemory, Terms, Thermal};

@@ -136,9 +136,7 @@ fn bound(alloc: Global, instance: &Instance, table: &Table) -> Result<i128, Fail
     requires scale { pos 0 <ℤ table.now.k }
     ensures { IfOk result (IsTableBound false instance.now root table.now) }
 {
-    let root = Node {
-        fixings: List::from_vec(Vec::new(alloc)),
-    };
+    let root = Node::root(alloc);
     let mut scratch = Scratch::new(alloc, instance.periods as usize).map_err(|_| "no memory")?;
     match value(alloc, &mut scratch, instance, &root, table) {
         Ok(valued) => {
@@ -424,15 +422,6 @@ fn children_come_and_go(rt: HostRuntime) -> Result<(), Fail> {
     tell(&rt, 5, &calls)
 }
 
-// The root.
-fn root_node(alloc: Global) -> Node
-    ensures { (instance : Instance) → IsNodeOf instance result }
-{
-    Node {
-        fixings: List::from_vec(Vec::new(alloc)),
-    }
-}
-
 // More turns than a worker needs until the other one has spent the budget.
 const TURNS: u32 = 1_000_000;
 
@@ -448,7 +437,7 @@ fn evaluate<C: Case>(
     requires lawful { IsLawfulInstance instance.now }
     requires same { instance.now ≡ C.opening.instance }
 {
-    let root = root_node(alloc);
+    let root = Node::root(alloc);
     let table = table(alloc, instance, u16::try_from(unit).unwrap_or(0))?;
     let outcome = outcome(alloc, instance, &root, &table)?;
     desk.lock(rt)

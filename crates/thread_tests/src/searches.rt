@@ -92,7 +92,7 @@ fn meetings<R: Threads + Wait + Sync>(
         budget: 3,
         workers: 2,
         gap: 0,
-        exact: false,
+        exact_units: false,
     };
     let meeting = Meeting::new();
     match search(rt, alloc, instance, &options, &meeting) {

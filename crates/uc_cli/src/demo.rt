@@ -37,7 +37,7 @@ fn find<R: Threads + Wait + Sync, G: Gate + Sync>(
         budget: BUDGET,
         workers: 1,
         gap: DEMO_GAP,
-        exact: false,
+        exact_units: false,
     };
     let found = search(rt, alloc, &instance, &options, gate)?;
     Ok(found)

@@ -1,6 +1,6 @@
 //! A run of `roll`.
 
-ghost use Rattle.std.specs.Prelude.{◌≡◌, ◌≤◌, IfOk, IfErr, OnOk, OnErr};
+ghost use Rattle.std.specs.Prelude.{◌≡◌, IfOk, IfErr, OnOk, OnErr};
 ghost use Rattle.outside.specs.declared.slot.Slot.TheVariants as slot;
 ghost use Rattle.outside.specs.declared.slot.Stage.TheVariants.{Unopened};
 ghost use Rattle.outside.specs.Slots.{AllUnopened, SameBut};
@@ -66,7 +66,7 @@ fn find<R: Threads + Wait + Sync, F: Files, G: Gate + Sync>(
         budget: asked.units,
         workers: asked.workers,
         gap: asked.gap,
-        exact: false,
+        exact_units: false,
     };
     let rolled = roll(
         rt,

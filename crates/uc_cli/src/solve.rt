@@ -65,7 +65,7 @@ fn find<R: Threads + Wait + Sync, F: Files, G: Gate + Sync>(
         budget: asked.units,
         workers: asked.workers,
         gap: asked.gap,
-        exact: asked.exact_units,
+        exact_units: asked.exact_units,
     };
     let found = search(rt, alloc, &instance, &options, gate)?;
     Ok(Answer {

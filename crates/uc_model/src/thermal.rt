@@ -4,7 +4,7 @@ ghost use Rattle.std.specs.Prelude.{◌≡◌, ℕ, suc, ◌+◌, ◌*◌, ◌-�
 ghost use Rattle.uc_model.specs.Commitment.{cell_cap as cap_of, initial_p, start_reduction as start_reduction_of, stop_reduction as stop_reduction_of};
 ghost use Rattle.uc_model.specs.Limits.{IsLawfulThermal, IsLimit, IsPower};
 ghost use Rattle.uc_model.specs.Sums.{bit};
-ghost use Rattle.uc_model.specs.Switches.{has_lasted, may_switch};
+ghost use Rattle.uc_model.specs.Switches.{has_lasted, may_switch as may_switch_in};
 
 use crate::instance::Thermal;
 use crate::limits::{MAX_PERIODS, MAX_POWER, MAX_TIME};
@@ -101,7 +101,7 @@ impl Thermal {
     /// since before the first period, and s + 1 since period s, in which it was switched.
     pub fn first_switch(&self, on: bool, since: usize) -> usize
         requires past { since ≤ MAX_PERIODS }
-        ensures first { (t : ℕ) → may_switch self.now on since t ≡ nat_le result t }
+        ensures first { (t : ℕ) → may_switch_in self.now on since t ≡ nat_le result t }
         ensures size { IsLawfulThermal self.now → result ≤ MAX_PERIODS + MAX_TIME }
     {
         if on {
@@ -109,6 +109,14 @@ impl Thermal {
         } else {
             first_left(self.dt, self.down_time_left(), since)
         }
+    }
+
+    /// Whether the minimum times let such a unit be switched in period `t`, from 0.
+    pub fn may_switch(&self, on: bool, since: usize, t: usize) -> bool
+        requires past { since ≤ MAX_PERIODS }
+        ensures { result ≡ may_switch_in self.now on since t }
+    {
+        self.first_switch(on, since) <= t
     }
 }
 

@@ -3,7 +3,7 @@ use Rattle.std.proofs.Common.{◌≡◌, ℕ, zero, suc, ◌*◌, ◌<◌, ◌�
 use Rattle.std.specs.Int.{int_max}
 use Rattle.std.proofs.lemmas.Int.{ints, clamps}
 use Rattle.std.proofs.lemmas.Bool.{cases_Bool, cond-true, cond-false}
-use Rattle.uc_model.specs.Commitment.{Commitment, starts, cap, start_cap, stop_cap, initial_p}
+use Rattle.uc_model.specs.Commitment.{Commitment, starts, cap, start_cap, stop_cap, initial_p, cell_cap}
 use Rattle.uc_model.specs.Limits.{IsLawfulThermal}
 use Rattle.uc_model.specs.Schedule.{thermal_unit}
 use Rattle.uc_model.specs.StartCategory.{last_stop, sigma}
@@ -18,7 +18,6 @@ use Rattle.dual_model.specs.PatternValue.{is_followed}
 use Rattle.dual_model.specs.Prices.{pi_at, mu_at}
 use Rattle.dual_model.specs.TableValue.{AreTermsOf, IsCellTerm}
 use Rattle.dual_model.specs.Term.{IsTerm, output_price, reserve_price}
-use Rattle.dual_model.specs.UnitTerms.{cell_cap}
 use Rattle.dual_model.specs.UnitValue.{period_value}
 use Rattle.dual_model.proofs.CellCaps.{cell_cap-cap}
 use Rattle.step_functions.specs.Functions.{value_at}

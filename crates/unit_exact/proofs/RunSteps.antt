@@ -2,7 +2,7 @@
 use Rattle.std.proofs.Common.{◌≡◌, ℕ, zero, suc, ◌+◌, ◌-◌, ◌*◌, ◌<◌, ◌≤◌, ◌==◌, Bool, true, false, refl, sym, ap, subst, ◌∙◌, arith, ℤ, unsigned_abs, Option, Some}
 use Rattle.std.proofs.lemmas.Bool.{eq-eqb, eqb-true, eqb-false, ne_eqb}
 use Rattle.std.proofs.lemmas.Nat.{mul-le}
-use Rattle.dual_model.specs.UnitTerms.{cell_cap}
+use Rattle.uc_model.specs.Commitment.{cell_cap}
 use Rattle.step_functions.specs.Functions.{Steps, run_count, value_at}
 use Rattle.unit_runs.specs.CostThrough.{cost_through, hour_after, run_cost}
 use Rattle.unit_runs.specs.Runs.{hour_cap}

@@ -7,7 +7,8 @@ use Rattle.uc_model.specs.Sums.{sum_below}
 use Rattle.uc_model.proofs.Ring.{linear, le_antisymm, le_of_eq}
 use Rattle.uc_model.proofs.Tests.{int_eq-true}
 use Rattle.dual_model.specs.CostToGo.{total_of}
-use Rattle.dual_model.specs.Moves.{holds_initially, may_be_off, may_stop}
+use Rattle.dual_model.specs.Moves.{holds_initially, may_be_off}
+use Rattle.uc_model.specs.Switches.{may_stop}
 use Rattle.step_functions.specs.Functions.{Steps, IsLeastBetween, IsPlace, last_place, value_at}
 use Rattle.step_functions.specs.Runs.{slope_at}
 use Rattle.unit_runs.specs.CostThrough.{least_between, run_cost}

@@ -3,7 +3,8 @@
 use Rattle.std.proofs.Common.{◌≡◌, ℕ, suc, ◌-◌, ◌<◌, ◌≢◌, ⊎_elim, Bool, true, false, not, ◌&&◌, ◌==◌, refl, sym, ap, subst, ◌∙◌, arith, ℤ, ◌+ℤ◌, ◌*ℤ◌, IsTrue, Option, Some, None, IfSome, if◌then◌else◌}
 use Rattle.std.proofs.lemmas.Bool.{cases_Bool, cond-true, eq-eqb, eqb-true, eqb-false, and_parts}
 use Rattle.dual_model.specs.CostToGo.{total_of}
-use Rattle.dual_model.specs.Moves.{may_be_off, may_be_on, holds_initially, may_start, may_stop, stop_since}
+use Rattle.dual_model.specs.Moves.{may_be_off, may_be_on, holds_initially, stop_since}
+use Rattle.uc_model.specs.Switches.{may_start, may_stop}
 use Rattle.uc_model.specs.StartCategory.{sigma}
 use Rattle.dual_model.proofs.Optimum.{Parts, total_of-parts}
 use Rattle.unit_runs.specs.Patterns.{Commitment}

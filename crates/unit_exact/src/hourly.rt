@@ -1,13 +1,12 @@
 //! A pattern's hours, each at what is best in it by itself.
 
-ghost use Rattle.std.specs.Prelude.{◌≡◌, ◌*◌, ◌<◌, ◌≤◌, true, pos, ◌+ℤ◌, ◌-ℤ◌, ◌*ℤ◌, ◌≤ℤ◌, ◌<ℤ◌, IfSome, IsTrue, unsigned_abs};
+ghost use Rattle.std.specs.Prelude.{◌≡◌, ◌*◌, ◌<◌, ◌≤◌, true, pos, ◌+ℤ◌, ◌≤ℤ◌, ◌<ℤ◌, IfSome, IsTrue, unsigned_abs};
 ghost use Rattle.uc_model.specs.Commitment.{was_on as on_before};
 ghost use Rattle.uc_model.specs.Limits.{IsLawfulThermal};
 ghost use Rattle.uc_model.specs.PatternBits.{commitment_of};
 ghost use Rattle.uc_model.specs.Terms.{period_count, term_at as term_of};
 ghost use Rattle.dual_model.specs.PatternValue.{is_followed as followed};
 ghost use Rattle.dual_model.specs.UnitTerms.{AreSizedTerms, MAX_TERM};
-ghost use Rattle.step_functions.specs.Functions.{IsPlace, value_at};
 ghost use Rattle.unit_runs.specs.Runs.{KeepsRamps};
 ghost use Rattle.unit_exact.specs.inside.Hourly.{IsBestIn, IsGivenAt, IsHourly};
 ghost use Rattle.unit_exact.specs.inside.OutputCosts.{IsHullFunction, IsSizedHour, MAX_POWER};
@@ -17,12 +16,12 @@ ghost use Rattle.unit_exact.specs.inside.Running.{HasHull};
 use crate::hour::Hour;
 use crate::output_costs::cost;
 use crate::problem::Problem;
-use crate::runs::entry_output;
 use dual_model::Fix;
 use step_functions::ConvexFunction;
 use uc_model::limits::MAX_PERIODS;
 use uc_model::terms::place;
 use uc_model::{Pattern, Terms, Thermal};
+use unit_runs::entry_output;
 
 /// What a plain evaluation knows of a unit: what is decided of it, its terms at the table, and a pattern.
 #[derive(Clone, Copy)]

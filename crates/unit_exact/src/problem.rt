@@ -4,7 +4,8 @@
 //! which the unit was switched.
 
 ghost use Rattle.std.specs.Prelude.{◌≡◌, ◌&&◌, ◌<◌, ◌≤◌, true, false};
-ghost use Rattle.dual_model.specs.Moves.{has_lasted as lasted, holds_initially as initially, may_be_off, may_be_on, may_start as starts, may_stop as stops};
+ghost use Rattle.dual_model.specs.Moves.{holds_initially as initially, may_be_off, may_be_on};
+ghost use Rattle.uc_model.specs.Switches.{may_start as starts, may_stop as stops};
 ghost use Rattle.unit_runs.specs.RunsToGo.{may_stay};
 ghost use Rattle.unit_exact.specs.inside.Problems.{IsLawful};
 
@@ -12,7 +13,7 @@ use dual_model::moves::holds_initially;
 use dual_model::{Fix, Table};
 use step_functions::ConvexFunction;
 use uc_model::Thermal;
-use uc_model::limits::{MAX_PERIODS, MAX_TIME};
+use uc_model::limits::MAX_PERIODS;
 
 /// One unit over so many periods, the prices, what a node decides of the unit, and L on the unit's points.
 #[derive(Clone, Copy)]
@@ -32,10 +33,9 @@ impl Problem<'_> {
         requires period { t < self.now.periods }
         ensures { result ≡ (may_be_off self.now.unit.now self.now.fix.now t && initially self.now.unit.now t true && stops self.now.unit.now since t) }
     {
-        let left = self.unit.ut.saturating_sub(self.unit.ut0);
         self.fix.may_be_off(self.unit, t)
             && holds_initially(self.unit, t, true)
-            && has_lasted(left as usize, self.unit.ut as usize, since, t)
+            && self.unit.may_switch(true, since, t)
     }
 
     /// Whether a unit that is off since `since` may start in period `t`.
@@ -45,8 +45,7 @@ impl Problem<'_> {
         requires period { t < self.now.periods }
         ensures { result ≡ (may_be_on self.now.fix.now t && starts self.now.unit.now since t) }
     {
-        let left = self.unit.dt.saturating_sub(self.unit.dt0);
-        self.fix.may_be_on(t) && has_lasted(left as usize, self.unit.dt as usize, since, t)
+        self.fix.may_be_on(t) && self.unit.may_switch(false, since, t)
     }
 
     /// Whether a unit that is on may stay on in period `t`.
@@ -65,19 +64,5 @@ impl Problem<'_> {
         ensures { result ≡ may_stay self.now.unit.now self.now.fix.now t false }
     {
         self.fix.may_be_off(self.unit, t)
-    }
-}
-
-// Whether a state has lasted long enough to be left in period `t`: initially `left` periods remain, and a state that was
-// entered in the horizon lasts `most`.
-fn has_lasted(left: usize, most: usize, since: usize, t: usize) -> bool
-    requires most { most ≤ MAX_TIME }
-    requires past { since ≤ MAX_PERIODS }
-    ensures { result ≡ lasted left most since t }
-{
-    if since == 0 {
-        left <= t
-    } else {
-        since - 1 + most <= t
     }
 }

@@ -1,11 +1,10 @@
 //! What the runs of one unit cost, hour by hour.
 
-ghost use Rattle.std.specs.Prelude.{◌≡◌, ℕ, ℤ, ◌-◌, ◌*◌, ◌<◌, ◌≤◌, ◌≤ℤ◌, suc, true, Option, Some, IfOk, IfSome, unsigned_abs};
+ghost use Rattle.std.specs.Prelude.{◌≡◌, ℕ, ℤ, ◌-◌, ◌<◌, ◌≤◌, ◌≤ℤ◌, suc, true, Option, Some, IfOk, IfSome, unsigned_abs};
 ghost use Rattle.step_functions.specs.Functions.{run_count};
 ghost use Rattle.unit_runs.specs.CostThrough.{run_cost};
-ghost use Rattle.unit_runs.specs.Runs.{entry_output as output_at_entry};
 ghost use Rattle.unit_exact.specs.inside.Choices.{IsCostBelow, IsReached};
-ghost use Rattle.unit_exact.specs.inside.OutputCosts.{IsBounded, IsCostsOf, MAX_POWER, least_ending};
+ghost use Rattle.unit_exact.specs.inside.OutputCosts.{IsBounded, IsCostsOf, least_ending};
 ghost use Rattle.unit_exact.specs.inside.Problems.{IsLawful, MAX_SWITCH};
 ghost use Rattle.unit_exact.specs.inside.Running.{HasHull, HasRoom, IsRunning};
 
@@ -13,7 +12,8 @@ use crate::hour::Hour;
 use crate::output_costs::{OutputCosts, cost};
 use crate::problem::Problem;
 use std::alloc::Global;
-use uc_model::{NoMemory, Thermal};
+use uc_model::NoMemory;
+use unit_runs::entry_output;
 
 /// The costs of the hours of a run that goes on, and those of one that ends.
 #[derive(Drop)]
@@ -160,19 +160,5 @@ fn least_at_end(costs: &mut OutputCosts, problem: &Problem, t: usize) -> Option<
         costs.least_between(-unit.ru, unit.rd)
     } else {
         costs.least_between(0, problem.hull.last())
-    }
-}
-
-/// The output before a run that begins in the period: a start comes from none, and before the first period it is given.
-pub(crate) fn entry_output(unit: &Thermal, from: usize) -> i64
-    requires minimum { unsigned_abs unit.now.pmin ≤ MAX_POWER }
-    requires initial { unsigned_abs unit.now.p0 ≤ MAX_POWER }
-    ensures value { result ≡ output_at_entry unit.now from }
-    ensures size { unsigned_abs result ≤ 2 * MAX_POWER }
-{
-    if from == 0 && unit.on0 {
-        unit.p0 - unit.pmin
-    } else {
-        0
     }
 }

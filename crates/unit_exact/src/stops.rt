@@ -9,7 +9,8 @@ ghost use Rattle.unit_exact.specs.inside.Switches.{AreSwitches, IsBestTo, IsLeas
 
 use crate::choices::{Choice, Switches, better, cost_of, limit_before, with_choice};
 use crate::problem::Problem;
-use crate::runs::{Runs, entry_output};
+use crate::runs::Runs;
+use unit_runs::entry_output;
 
 /// The least way of a unit that starts in period `from`: in which period it stops next.
 pub(crate) fn after_start(

@@ -2,7 +2,8 @@
 use Rattle.std.proofs.Common.{◌≡◌, ℕ, ◌<◌, ◌≤◌, ⊎_elim, true, Bool, List, sym, ap, subst, ◌∙◌, arith}
 use Rattle.std.proofs.lemmas.Bool.{cases_lt}
 use Rattle.uc_model.specs.Terms.{period_count}
-use Rattle.dual_model.specs.Moves.{may_be_off, may_be_on, may_start, may_stop}
+use Rattle.dual_model.specs.Moves.{may_be_off, may_be_on}
+use Rattle.uc_model.specs.Switches.{may_start, may_stop}
 use Rattle.unit_path.specs.inside.Choices.{Fix, Terms, Thermal, IsLeastStart, IsLeastStop}
 use Rattle.unit_path.specs.inside.Hours.{Hour, hour_in, IsCold, IsTableFrom, IsUntil}
 

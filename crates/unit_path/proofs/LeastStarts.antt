@@ -5,7 +5,8 @@ use Rattle.uc_model.specs.Limits.{IsLawfulThermal}
 use Rattle.uc_model.specs.StartCategory.{sigma}
 use Rattle.uc_model.specs.Terms.{period_count}
 use Rattle.dual_model.specs.UnitTerms.{AreSizedTerms}
-use Rattle.dual_model.specs.Moves.{may_be_off, may_start, stop_since}
+use Rattle.dual_model.specs.Moves.{may_be_off, stop_since}
+use Rattle.uc_model.specs.Switches.{may_start}
 use Rattle.dual_model.specs.CostToGo.{lesser_of, total_of, IsWithin, MAX_COST_TO_GO}
 use Rattle.unit_path.specs.inside.Choices.{Fix, Terms, Thermal, Choice, choice_cost, rests, start_total, IsLeastStart, IsOneOf, IsStart}
 use Rattle.unit_path.specs.inside.Hours.{IsCold, IsColdStart, IsStartIn}

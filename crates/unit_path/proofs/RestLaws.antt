@@ -3,7 +3,8 @@ use Rattle.std.proofs.Common.{◌≡◌, ℕ, zero, suc, ◌+◌, ◌-◌, ◌<�
 use mathlib.Core.Bool.{and-false}
 use Rattle.std.proofs.lemmas.Bool.{cond-true, cond-false, le-leb, leb-true}
 use Rattle.uc_model.specs.Terms.{period_count}
-use Rattle.dual_model.specs.Moves.{has_lasted, may_be_off, may_be_on, may_start, move}
+use Rattle.dual_model.specs.Moves.{may_be_off, may_be_on, move}
+use Rattle.uc_model.specs.Switches.{has_lasted, may_start}
 use Rattle.dual_model.specs.CostToGo.{lesser_of, total_of}
 use Rattle.unit_path.specs.inside.Choices.{Fix, Terms, Thermal, rests, start_total}
 use Rattle.unit_path.proofs.Costs.{lesser-none, total-assoc, total-none, total-zero, zero-total}

@@ -7,7 +7,8 @@ use Rattle.std.proofs.lemmas.Bool.{and_from, cond-true, cond-false, lt-ltb, ne_e
 use Rattle.uc_model.specs.declared.limits.TheConstants.{MAX_PERIODS}
 use Rattle.uc_model.proofs.Sizes.{abs_add, wide}
 use Rattle.uc_model.specs.Terms.{period_count}
-use Rattle.dual_model.specs.Moves.{holds_initially, hour_before, may_be_off, may_be_on, may_stop, move}
+use Rattle.dual_model.specs.Moves.{holds_initially, hour_before, may_be_off, may_be_on, move}
+use Rattle.uc_model.specs.Switches.{may_stop}
 use Rattle.dual_model.specs.CostToGo.{lesser_of, total_of, MAX_MOVE}
 use Rattle.unit_path.specs.inside.Choices.{Fix, Terms, Thermal, stays, stop_cost}
 use Rattle.unit_path.specs.inside.Hours.{leave_cost, stay_cost}

@@ -4,7 +4,8 @@ use Rattle.std.proofs.lemmas.Bool.{cases_Bool, cond-false}
 use Rattle.uc_model.specs.Commitment.{Commitment}
 use Rattle.uc_model.specs.PatternBits.{commitment_of}
 use Rattle.uc_model.specs.Terms.{period_count}
-use Rattle.dual_model.specs.Moves.{holds_initially, may_be_off, may_be_on, may_start, may_stop, move}
+use Rattle.dual_model.specs.Moves.{holds_initially, may_be_off, may_be_on, move}
+use Rattle.uc_model.specs.Switches.{may_start, may_stop}
 use Rattle.dual_model.specs.CostToGo.{end_cost, total_of}
 use Rattle.dual_model.proofs.Optimum.{total_of-parts}
 use Rattle.unit_path.specs.inside.Choices.{Fix, Terms, Thermal, Choice, choice_cost, rests, start_total, stays, stop_cost, switch_after, IsStart, IsStop, IsSwitch}

@@ -7,7 +7,6 @@ mod hour;
 mod hour_costs;
 pub mod path;
 mod rests;
-mod rules;
 mod runs;
 mod scratch;
 mod start_table;

@@ -60,7 +60,7 @@ pub fn least(
     scratch.intervals.fill(terms);
     let hours = scratch.hours.as_mut_slice();
     fill(hours, &scratch.intervals, terms, unit, fix);
-    match first_switch(hours, &scratch.intervals, terms, unit, fix) {
+    match first_switch(hours, terms, unit, fix) {
         None => None,
         Some(first) => Some((first.cost, pattern_of(hours, terms, unit, fix, &first))),
     }
@@ -84,22 +84,15 @@ fn fill(hours: &mut [Hour], intervals: &Intervals, terms: &Terms, unit: &Thermal
 }
 
 // The least way from the initial state on, and where the unit is switched first on it.
-fn first_switch(
-    hours: &[Hour],
-    intervals: &Intervals,
-    terms: &Terms,
-    unit: &Thermal,
-    fix: &Fix,
-) -> Option<Choice>
+fn first_switch(hours: &[Hour], terms: &Terms, unit: &Thermal, fix: &Fix) -> Option<Choice>
     requires lawful { IsLawfulThermal unit.now }
     requires sized { AreSizedTerms unit.now terms.now }
-    requires filled { intervals.now ≡ terms.now.terms }
     requires table { IsTableFrom terms.now unit.now fix.now 0 hours.now }
     ensures cost { choice_cost result ≡ cost_to_go terms.now unit.now fix.now (period_count terms.now) 0 unit.now.on0 0 }
     ensures first { IfSome result (IsFirst terms.now unit.now fix.now) }
 {
     if unit.on0 {
-        next_stop(hours, intervals, terms, unit, fix, 0)
+        next_stop(hours, terms, unit, fix, 0)
     } else {
         next_start(hours, terms, unit, fix, 0)
     }
@@ -142,10 +135,10 @@ fn hour(
     let next = &hours[t + 1];
     let (on_until, onward_later) = on_after(next, fix, t);
     let (off_until, cold_later) = off_after(next, unit, fix, t);
-    let start = start_in(hours, intervals, terms, unit, fix, t);
+    let start = start_in(hours, terms, unit, fix, t);
     let start_cost = sigma(unit, None, t);
     let stop = stop_in(hours, terms, unit, fix, t);
-    let exit = exit(hour_to(intervals, terms, unit, fix, t, false, true), &stop);
+    let exit = exit(hour_to(terms, unit, fix, t, false, true), &stop);
     let stay = full_hour_before(intervals, terms, unit, t);
     Hour {
         stay,
@@ -213,23 +206,15 @@ fn stop_in(hours: &[Hour], terms: &Terms, unit: &Thermal, fix: &Fix, t: usize) -
 }
 
 // The least way from a start in period t on, without the cost of that start, where the unit may be on in it.
-fn start_in(
-    hours: &[Hour],
-    intervals: &Intervals,
-    terms: &Terms,
-    unit: &Thermal,
-    fix: &Fix,
-    t: usize,
-) -> Option<Choice>
+fn start_in(hours: &[Hour], terms: &Terms, unit: &Thermal, fix: &Fix, t: usize) -> Option<Choice>
     requires lawful { IsLawfulThermal unit.now }
     requires sized { AreSizedTerms unit.now terms.now }
-    requires filled { intervals.now ≡ terms.now.terms }
     requires period { t < period_count terms.now }
     requires later { IsTableFrom terms.now unit.now fix.now (suc t) hours.now }
     ensures { IsStartIn terms.now unit.now fix.now t result }
 {
     if fix.may_be_on(t) {
-        next_stop(hours, intervals, terms, unit, fix, t + 1)
+        next_stop(hours, terms, unit, fix, t + 1)
     } else {
         None
     }

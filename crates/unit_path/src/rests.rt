@@ -7,13 +7,13 @@ ghost use Rattle.dual_model.specs.TableValue.{IsLawfulScale};
 ghost use Rattle.uc_model.specs.Terms.{period_count};
 ghost use Rattle.dual_model.specs.UnitTerms.{AreSizedTerms};
 ghost use Rattle.dual_model.specs.CostToGo.{cost_to_go, lesser_of, total_of, IsWithin, MAX_COST_TO_GO};
-ghost use Rattle.dual_model.specs.Moves.{may_be_off, may_start, stop_since};
+ghost use Rattle.dual_model.specs.Moves.{may_be_off, stop_since};
+ghost use Rattle.uc_model.specs.Switches.{may_start};
 ghost use Rattle.unit_path.specs.inside.Choices.{choice_cost, IsLeastStart, IsOneOf, IsStart};
 ghost use Rattle.unit_path.specs.inside.Hours.{IsTableFrom};
 
 use crate::choices::{better, better_of};
 use crate::hour::{Choice, Hour};
-use crate::rules::first_switch;
 use crate::start_table::{first_cold, start_cost};
 use dual_model::Fix;
 use uc_model::{Terms, Thermal, scaled, sum};
@@ -33,7 +33,7 @@ pub(crate) fn next_start(
     ensures { IsLeastStart terms.now unit.now fix.now since since result }
 {
     let end = hours.len() - 1;
-    let from = first_switch(unit, false, since).max(since).min(end);
+    let from = unit.first_switch(false, since).max(since).min(end);
     let until = hours[since].off_until;
     if from > until {
         return None;

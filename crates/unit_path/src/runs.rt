@@ -11,16 +11,14 @@ ghost use Rattle.unit_path.specs.inside.Hours.{IsHour, IsTableFrom};
 
 use crate::choices::{better, better_of, cost_of, joined, longer_by};
 use crate::hour::{Choice, Hour};
-use crate::hour_costs::{hour_before, hour_to};
-use crate::rules::first_switch;
+use crate::hour_costs::hour_to;
 use dual_model::Fix;
-use interval_graph::Intervals;
+use dual_model::moves::hour_before;
 use uc_model::{Terms, Thermal};
 
 /// The least way of a unit that is on since `since`, before period `since`: in which period it stops next.
 pub(crate) fn next_stop(
     hours: &[Hour],
-    intervals: &Intervals,
     terms: &Terms,
     unit: &Thermal,
     fix: &Fix,
@@ -28,44 +26,35 @@ pub(crate) fn next_stop(
 ) -> Option<Choice>
     requires lawful { IsLawfulThermal unit.now }
     requires sized { AreSizedTerms unit.now terms.now }
-    requires filled { intervals.now ≡ terms.now.terms }
     requires past { since ≤ period_count terms.now }
     requires later { IsTableFrom terms.now unit.now fix.now since hours.now }
     ensures { IsLeastStop terms.now unit.now fix.now since since result }
 {
     let end = hours.len() - 1;
     if since == end {
-        let last = hour_before(intervals, terms, unit, end, true, false);
+        let last = hour_before(terms, unit, end, true, false);
         return better(None, last, end);
     }
-    let at_once = at_once(&hours[since], intervals, terms, unit, fix, since);
+    let at_once = at_once(&hours[since], terms, unit, fix, since);
     let known = better(None, at_once, since);
-    match hour_to(intervals, terms, unit, fix, since, true, false) {
+    match hour_to(terms, unit, fix, since, true, false) {
         None => known,
         Some(spent) => later_stop(hours, terms, unit, fix, known, spent, since),
     }
 }
 
 // What a stop in period `since` itself costs, with all that follows.
-fn at_once(
-    hour: &Hour,
-    intervals: &Intervals,
-    terms: &Terms,
-    unit: &Thermal,
-    fix: &Fix,
-    since: usize,
-) -> Option<i128>
+fn at_once(hour: &Hour, terms: &Terms, unit: &Thermal, fix: &Fix, since: usize) -> Option<i128>
     requires lawful { IsLawfulThermal unit.now }
     requires sized { AreSizedTerms unit.now terms.now }
-    requires filled { intervals.now ≡ terms.now.terms }
     requires period { since < period_count terms.now }
     requires hour { IsHour terms.now unit.now fix.now since hour.now }
     ensures { result ≡ stop_cost terms.now unit.now fix.now since since }
 {
-    if first_switch(unit, true, since) > since {
+    if unit.first_switch(true, since) > since {
         return None;
     }
-    match hour_to(intervals, terms, unit, fix, since, true, true) {
+    match hour_to(terms, unit, fix, since, true, true) {
         None => None,
         Some(cost) => joined(cost, cost_of(&hour.stop)),
     }
@@ -90,7 +79,7 @@ fn later_stop(
     ensures { IsLeastStop terms.now unit.now fix.now since since result }
 {
     let end = hours.len() - 1;
-    let from = first_switch(unit, true, since).max(since + 1).min(end);
+    let from = unit.first_switch(true, since).max(since + 1).min(end);
     if from > hours[since + 1].on_until {
         return known;
     }

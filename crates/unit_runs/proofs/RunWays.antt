@@ -6,7 +6,8 @@ use Rattle.uc_model.specs.Commitment.{was_on}
 use Rattle.uc_model.specs.StartCategory.{last_stop, sigma}
 use Rattle.uc_model.specs.Limits.{IsLawfulThermal}
 use Rattle.uc_model.proofs.Ring.{linear}
-use Rattle.dual_model.specs.Moves.{holds_initially, may_be_off, may_be_on, may_start, may_stop, stop_since}
+use Rattle.dual_model.specs.Moves.{holds_initially, may_be_off, may_be_on, stop_since}
+use Rattle.uc_model.specs.Switches.{may_start, may_stop}
 use Rattle.dual_model.specs.CostToGo.{total_of, lesser_of}
 use Rattle.dual_model.specs.PatternValue.{IsPattern}
 use Rattle.dual_model.specs.UnitTerms.{MAX_PERIODS}

@@ -7,7 +7,8 @@
 -- Periods count from 0 here.
 use Rattle.std.specs.Prelude.{ℕ, zero, suc, ◌-◌, Bool, true, false, not, ◌&&◌, ℤ, pos, ◌*ℤ◌, ◌≤ℤ◌, Option, Some, None, if◌then◌else◌}
 use Rattle.uc_model.specs.StartCategory.{sigma}
-use Rattle.dual_model.specs.Moves.{holds_initially, may_be_off, may_be_on, may_start, may_stop, stop_since}
+use Rattle.dual_model.specs.Moves.{holds_initially, may_be_off, may_be_on, stop_since}
+use Rattle.uc_model.specs.Switches.{may_start, may_stop}
 use Rattle.dual_model.specs.CostToGo.{total_of, lesser_of}
 use Rattle.dual_model.specs.PatternValue.{IsPattern}
 pub use Rattle.dual_model.specs.declared.node.Fix.{Fix}

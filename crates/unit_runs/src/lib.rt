@@ -5,5 +5,8 @@
 //! the runs of a pattern. The definitions stand in `specs/`, and the laws are the contracts of the module `laws`.
 #![tactic(auto)]
 
+pub mod entry;
 pub mod examples;
 pub mod laws;
+
+pub use entry::entry_output;

@@ -88,18 +88,9 @@ fn root_value(
     ensures sizes { IfOk result HasSizes }
 {
     let mut scratch = Scratch::new(alloc, instance.periods as usize)?;
-    match value(alloc, &mut scratch, instance, &root_node(alloc), table) {
+    match value(alloc, &mut scratch, instance, &Node::root(alloc), table) {
         Ok(valued) => Ok(valued),
         Err(ValueFault::Empty(_)) => unreachable!(),
         Err(ValueFault::NoMemory) => Err(NoMemory),
-    }
-}
-
-// The root, at which nothing is decided.
-fn root_node(alloc: Global) -> Node
-    ensures { result ≡ root }
-{
-    Node {
-        fixings: List::from_vec(Vec::new(alloc)),
     }
 }

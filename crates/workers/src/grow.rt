@@ -67,7 +67,7 @@ pub(crate) fn search_tree<R: Threads + Wait + Sync, G: Gate + Sync>(
     requires opening { IsPricedOf worker start.opening }
     requires accepted { IsAcceptedIfFound worker start.best }
     requires next { IsNextAt worker 1 start.next }
-    ensures grown { IfOk result (IsGrown options.now.exact worker.entry start.opening options.now.budget options.now.gap) }
+    ensures grown { IfOk result (IsGrown options.now.exact_units worker.entry start.opening options.now.budget options.now.gap) }
     ensures no_worse { IfOk result (λ grown. IsNoWorse start.best grown.best) }
     ensures quiet { is_schedule_within start.best (Some (bound_of start.opening.value start.opening.table.k)) options.now.gap ≡ true
         → IfOk result (λ grown. grown.log ≡ []) }
@@ -94,12 +94,12 @@ fn grow<C: Run + Send + Sync, R: Threads + Wait + Sync, G: Gate + Sync>(
     requires options { AreOptions options.now }
     requires lawful { IsLawfulInstance begun.worker }
     requires opening { C.opening ≡ opening_by begun.worker begun.start.opening options.now.budget options.now.gap }
-    requires kind { C.exact ≡ options.now.exact }
+    requires kind { C.exact ≡ options.now.exact_units }
     requires priced { IsPricedOf begun.worker begun.start.opening }
     requires accepted { IsAcceptedIfFound begun.worker begun.start.best }
     requires next { IsNextAt begun.worker 1 begun.start.next }
     requires whole { IsWholeOf C.incumbent (options.now.workers + 2) begun.best begun.pass }
-    ensures grown { IfOk result (IsGrown options.now.exact begun.entry.worker begun.entry.start.opening options.now.budget options.now.gap) }
+    ensures grown { IfOk result (IsGrown options.now.exact_units begun.entry.worker begun.entry.start.opening options.now.budget options.now.gap) }
     ensures no_worse { IfOk result (λ grown. IsNoWorse begun.entry.start.best grown.best) }
     ensures quiet { is_schedule_within begun.entry.start.best (Some (bound_of begun.entry.start.opening.value begun.entry.start.opening.table.k)) options.now.gap ≡ true
         → IfOk result (λ grown. grown.log ≡ []) }
@@ -144,7 +144,7 @@ fn ended<C: Run + Send + Sync, R: Threads + Wait + Sync, G: Gate + Sync>(
     requires options { AreOptions options.now }
     requires gap { options.now.gap ≡ C.opening.gap }
     requires budget { options.now.budget ≡ C.opening.budget }
-    requires kind { options.now.exact ≡ C.exact }
+    requires kind { options.now.exact_units ≡ C.exact }
     requires begun { IsTrueOpening C.opening }
     requires scaled { IsScaledWithin C.opening.budget C.opening.table }
     requires book { book ≡ opened C.opening }
@@ -163,7 +163,7 @@ fn ended<C: Run + Send + Sync, R: Threads + Wait + Sync, G: Gate + Sync>(
         best: &schedule,
         gap: options.gap,
         budget: options.budget,
-        exact: options.exact,
+        exact: options.exact_units,
     };
     let closed = close(rt, alloc, instance, &mut book, closing, gate);
     let (both, ()) = beside((book, schedule), closed)?;
@@ -182,7 +182,7 @@ fn crowded<C: Run + Send + Sync, R: Threads + Wait + Sync, G: Gate + Sync>(
     requires options { AreOptions options.now }
     requires gap { options.now.gap ≡ C.opening.gap }
     requires budget { options.now.budget ≡ C.opening.budget }
-    requires kind { options.now.exact ≡ C.exact }
+    requires kind { options.now.exact_units ≡ C.exact }
     requires begun { IsTrueOpening C.opening }
     requires scaled { IsScaledWithin C.opening.budget C.opening.table }
     requires book { book ≡ opened C.opening }
@@ -204,10 +204,14 @@ fn crowded<C: Run + Send + Sync, R: Threads + Wait + Sync, G: Gate + Sync>(
     let aim = Aim {
         gap: options.gap,
         shared: options.workers > 1,
-        exact: options.exact,
+        exact: options.exact_units,
     };
     let pass = own.split(&best, 1);
-    let shared = Shared::new(Desk::new(book, pass, options.gap, options.exact), best, aim);
+    let shared = Shared::new(
+        Desk::new(book, pass, options.gap, options.exact_units),
+        best,
+        aim,
+    );
     let members = members(alloc, &shared.best, &mut own, worker, options);
     let ((shared, own, mut next), mut members) = beside((shared, own, next), members)?;
     let opened = open(rt, alloc, &shared, &mut members, &mut next, gate);

@@ -59,7 +59,7 @@ pub fn roll<R: Threads + Wait + Sync, G: Gate + Sync>(
     requires options { AreOptions options.now }
     requires window { (1 ≤ window) × (window ≤ MAX_PERIODS) }
     requires step { (1 ≤ step) × (step ≤ MAX_PERIODS) }
-    ensures { IfOk result (IsRolled options.now.exact instance.now options.now.budget options.now.gap window step) }
+    ensures { IfOk result (IsRolled options.now.exact_units instance.now options.now.budget options.now.gap window step) }
 {
     let plan = Plan {
         instance,
@@ -94,7 +94,7 @@ fn whole(plan: Plan, kept: Kept) -> Rolled
     requires plan { IsPlan plan }
     requires kept { IsKeptSoFar plan kept }
     requires all { plan.instance.now.periods ≤ kept.done }
-    ensures { IsRolled plan.entry.options.now.exact plan.entry.instance.now plan.entry.options.now.budget plan.entry.options.now.gap plan.entry.window plan.entry.step result }
+    ensures { IsRolled plan.entry.options.now.exact_units plan.entry.instance.now plan.entry.options.now.budget plan.entry.options.now.gap plan.entry.window plan.entry.step result }
 {
     Rolled::Whole {
         cost: whole_cost(plan.instance, &kept.schedule),
@@ -208,7 +208,7 @@ fn stopped(plan: Plan, kept: Kept, place: Place, found: Found) -> Rolled
     requires place { IsNextPlace plan.instance.now.periods plan.window plan.step kept.done place }
     requires found { IsFoundAhead plan kept place found }
     requires none { found.schedule ≡ None }
-    ensures { IsRolled plan.entry.options.now.exact plan.entry.instance.now plan.entry.options.now.budget plan.entry.options.now.gap plan.entry.window plan.entry.step result }
+    ensures { IsRolled plan.entry.options.now.exact_units plan.entry.instance.now plan.entry.options.now.budget plan.entry.options.now.gap plan.entry.window plan.entry.step result }
 {
     Rolled::Stopped {
         window: kept.windows + 1,

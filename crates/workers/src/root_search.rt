@@ -28,14 +28,14 @@ use uc_model::{Instance, NoMemory};
 pub const MAX_WORKERS: u8 = 64;
 
 /// How a search goes on: at most `budget` evaluations after the opening, by so many workers, and only while the cost is above the bound by
-/// more than `gap` parts per million of its size. Where `exact`, the rays of the opening and each claim are by exact values VE, which keep
+/// more than `gap` parts per million of its size. Where `exact_units`, the rays of the opening and each claim are by exact values VE, which keep
 /// ramps in each unit; else by values V.
 #[derive(Clone, Copy, Debug)]
 pub struct Options {
     pub budget: u32,
     pub workers: u8,
     pub gap: u32,
-    pub exact: bool,
+    pub exact_units: bool,
 }
 
 /// What the search finds: a leaf for the first unit without an allowed pattern, by exact values else for the first without a schedule of its
@@ -51,12 +51,12 @@ pub fn search<R: Threads + Wait + Sync, G: Gate + Sync>(
 ) -> Result<Found, NoMemory>
     requires lawful { IsLawfulInstance instance.now }
     requires options { AreOptions options.now }
-    ensures result { IfOk result (IsSearchResult options.now.exact instance.now options.now.budget options.now.gap) }
+    ensures result { IfOk result (IsSearchResult options.now.exact_units instance.now options.now.budget options.now.gap) }
     ensures writable { IfOk result (IsWritable instance.now) }
 {
     let values = Values {
         instance,
-        exact: options.exact,
+        exact: options.exact_units,
     };
     let worker = Worker::new(alloc, values)?;
     answered(rt, alloc, worker, options, gate)
@@ -71,7 +71,7 @@ fn answered<R: Threads + Wait + Sync, G: Gate + Sync>(
     gate: &G,
 ) -> Result<Found, NoMemory>
     requires options { AreOptions options.now }
-    ensures { IfOk result (IsAnswerOf options.now.exact worker.entry options.now.budget options.now.gap) }
+    ensures { IfOk result (IsAnswerOf options.now.exact_units worker.entry options.now.budget options.now.gap) }
 {
     let mut worker = worker;
     let empty = worker.first_empty(alloc);
@@ -96,16 +96,16 @@ fn patterned<R: Threads + Wait + Sync, G: Gate + Sync>(
 ) -> Result<Found, NoMemory>
     requires patterns { HasEachPattern worker }
     requires options { AreOptions options.now }
-    ensures { IfOk result (IsAnswerOf options.now.exact worker.entry options.now.budget options.now.gap) }
+    ensures { IfOk result (IsAnswerOf options.now.exact_units worker.entry options.now.budget options.now.gap) }
 {
     let mut worker = worker;
-    let unscheduled = worker.first_unscheduled(alloc, options.exact);
+    let unscheduled = worker.first_unscheduled(alloc, options.exact_units);
     let (worker, unscheduled) = beside(worker, unscheduled)?;
     match unscheduled {
         Some(g) => {
             let instance = worker.instance();
             drop(worker);
-            without_unit(alloc, instance, g, options.exact)
+            without_unit(alloc, instance, g, options.exact_units)
         }
         None => searched(rt, alloc, worker, options, gate),
     }
@@ -120,14 +120,14 @@ fn searched<R: Threads + Wait + Sync, G: Gate + Sync>(
     gate: &G,
 ) -> Result<Found, NoMemory>
     requires patterns { HasEachPattern worker }
-    requires unblocked { HasNoBlockedUnit options.now.exact worker }
+    requires unblocked { HasNoBlockedUnit options.now.exact_units worker }
     requires options { AreOptions options.now }
-    ensures { IfOk result (IsAnswerOf options.now.exact worker.entry options.now.budget options.now.gap) }
+    ensures { IfOk result (IsAnswerOf options.now.exact_units worker.entry options.now.budget options.now.gap) }
 {
     let mut worker = worker;
     let opened = started(alloc, &mut worker, options.gap);
     let (mut worker, opened) = beside(worker, opened)?;
-    match excluded(alloc, &mut worker, &opened.start.best, options.exact) {
+    match excluded(alloc, &mut worker, &opened.start.best, options.exact_units) {
         Some(answer) => {
             drop((worker, opened));
             answer
@@ -146,11 +146,11 @@ fn claimed<R: Threads + Wait + Sync, G: Gate + Sync>(
     gate: &G,
 ) -> Result<Found, NoMemory>
     requires patterns { HasEachPattern worker }
-    requires unblocked { HasNoBlockedUnit options.now.exact worker }
-    requires rays { HasNoRay options.now.exact worker }
+    requires unblocked { HasNoBlockedUnit options.now.exact_units worker }
+    requires rays { HasNoRay options.now.exact_units worker }
     requires options { AreOptions options.now }
     requires opened { IsOpened worker opened }
-    ensures { IfOk result (IsAnswerOf options.now.exact worker.entry options.now.budget options.now.gap) }
+    ensures { IfOk result (IsAnswerOf options.now.exact_units worker.entry options.now.budget options.now.gap) }
 {
     let instance = worker.instance();
     let Opened { start, most_on } = opened;

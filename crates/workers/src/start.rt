@@ -14,7 +14,8 @@ ghost use Rattle.workers.specs.inside.Trials.{IsAscentFor};
 use crate::best::{enough, moves};
 use crate::worker::{Effort, Worker};
 use decommitment::{Standing, drop_pass};
-use opening::{Priced, dispatched_root, root_node, unpriced_root};
+use dual_model::Node;
+use opening::{Priced, dispatched_root, unpriced_root};
 use prices::{Ascent, Values, next_ascent, zero};
 use std::alloc::Global;
 use uc_model::{Instance, NoMemory, Printed, Stuck};
@@ -146,5 +147,5 @@ pub(crate) fn first_ascent(alloc: Global, values: Values) -> Result<Ascent, NoMe
     ensures { IfOk result (IsAscentFor values.entry.instance.now 1) }
 {
     let none = zero(alloc, values.instance)?;
-    next_ascent(alloc, values, &root_node(alloc), &none, 1, i128::MAX)
+    next_ascent(alloc, values, &Node::root(alloc), &none, 1, i128::MAX)
 }

@@ -14,7 +14,7 @@ use crate::start::first_ascent;
 use crate::worker::Worker;
 use claims::{Branching, Hints, split_cell};
 use dual_model::{Node, Table};
-use opening::{is_positive, node_ray, root_node};
+use opening::{is_positive, node_ray};
 use prices::{Ascent, Values, next_ascent, with_cell, with_ray};
 use schedule_repair::is_small;
 use std::alloc::Global;
@@ -309,7 +309,7 @@ fn root_step(alloc: Global, values: Values, table: &Table) -> Result<Ascent, NoM
     requires { IsLawfulInstance values.instance.now }
     ensures { IfOk result (IsAscentFor values.entry.instance.now 1) }
 {
-    next_ascent(alloc, values, &root_node(alloc), table, 1, i128::MAX)
+    next_ascent(alloc, values, &Node::root(alloc), table, 1, i128::MAX)
 }
 
 // The ascent from what the node stores, with a ray or a cell that is looked for where no schedule is known.

@@ -2,7 +2,8 @@
 use Rattle.std.specs.Prelude.{◌≡◌, ℕ, ◌+◌, ◌<◌, ◌≤◌, ◌++◌, List, [], length, take}
 use Rattle.schedule_check.specs.WholeWatts.{category, cell, commitment}
 use Rattle.roll.specs.Left.{Thermal, Cell}
-use Rattle.roll.specs.Stitched.{HasLeastCategory, SameDispatch}
+use Rattle.roll.specs.Stitched.{SameDispatch}
+use Rattle.start_costs.specs.Cheapest.{HasLeastCategory}
 use Rattle.roll.specs.inside.Rows.{row_at, unit_at}
 
 -- the row of a unit: what is kept, and the first cells of what is new, with the start categories chosen anew

@@ -7,7 +7,7 @@
 use Rattle.std.specs.Prelude.{ℕ, zero, suc, Bool, false, ◌&&◌, ◌==◌, nat_lt, ℤ, pos, ◌+ℤ◌, ◌-ℤ◌, neg_ℤ, int_le, Option, Some, None, if◌then◌else◌}
 use Rattle.dual_model.specs.CostToGo.{total_of}
 use Rattle.dual_model.specs.ExactValue.{greatest_output}
-use Rattle.dual_model.specs.UnitTerms.{cell_cap}
+use Rattle.uc_model.specs.Commitment.{cell_cap}
 use Rattle.unit_runs.specs.CostThrough.{is_output, least_between, output_cost, reserve_cost}
 pub use Rattle.unit_runs.specs.Runs.{Table, Thermal}
 

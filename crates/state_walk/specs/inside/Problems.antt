@@ -5,7 +5,7 @@ use Rattle.uc_model.specs.Limits.{IsLawfulThermal}
 pub use Rattle.uc_model.specs.declared.limits.TheConstants.{MAX_PERIODS, MAX_POWER}
 pub use Rattle.dual_model.specs.declared.limits.TheConstants.{MAX_PRICE}
 use Rattle.dual_model.specs.Prices.{pi_at, mu_at}
-use Rattle.dual_model.specs.UnitTerms.{cell_cap}
+use Rattle.uc_model.specs.Commitment.{cell_cap}
 pub use Rattle.step_functions.specs.Functions.{Steps}
 use Rattle.step_functions.specs.Functions.{run_count}
 use Rattle.hull_function.specs.Hulls.{IsHull, IsScale}

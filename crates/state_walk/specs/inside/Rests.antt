@@ -1,6 +1,6 @@
 -- What is left of a run, by the output before it, as a convex function.
 use Rattle.std.specs.Prelude.{◌≡◌, ℕ, suc, ◌+◌, ◌*◌, ◌^◌, ◌≤◌, Bool, true, false, ◌==◌, ℤ, unsigned_abs, Option, Some}
-use Rattle.dual_model.specs.UnitTerms.{cell_cap}
+use Rattle.uc_model.specs.Commitment.{cell_cap}
 use Rattle.step_functions.specs.Functions.{IsPlace, run_count, value_at}
 use Rattle.state_walk.specs.inside.CostToEnd.{cost_to_end, hours_from}
 use Rattle.state_walk.specs.inside.Problems.{Steps, Table, Thermal, MAX_POWER}

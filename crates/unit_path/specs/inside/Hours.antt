@@ -3,7 +3,8 @@
 use Rattle.std.specs.Prelude.{◌≡◌, ℕ, suc, ◌+◌, ◌-◌, ◌*◌, ◌<◌, ◌≤◌, Bool, true, false, ◌&&◌, List, ℤ, pos, unsigned_abs, length, slice_index_or, Option, Some, None, if◌then◌else◌}
 use Rattle.uc_model.specs.StartCategory.{sigma}
 use Rattle.uc_model.specs.Terms.{period_count}
-use Rattle.dual_model.specs.Moves.{holds_initially, hour_before, may_be_off, may_be_on, may_start, may_stop, stop_since}
+use Rattle.dual_model.specs.Moves.{holds_initially, hour_before, may_be_off, may_be_on, stop_since}
+use Rattle.uc_model.specs.Switches.{may_start, may_stop}
 use Rattle.dual_model.specs.CostToGo.{IsWithin, MAX_MOVE}
 use Rattle.unit_path.specs.inside.Choices.{Fix, Terms, Thermal, Choice, choice_cost, IsLeastStart, IsLeastStop}
 pub use Rattle.unit_path.specs.declared.hour.Hour.{Hour}

@@ -16,7 +16,7 @@ use Rattle.workers.specs.declared.rolling.Step.TheVariants.{Further, Ended}
 
 -- what the search of a window may find
 abbrev pub MayFind : Plan → Instance → Found → Type 0
-MayFind plan ahead found = IsSearchResult plan.options.now.exact ahead plan.options.now.budget plan.options.now.gap found
+MayFind plan ahead found = IsSearchResult plan.options.now.exact_units ahead plan.options.now.budget plan.options.now.gap found
 
 -- a lawful instance, lawful options, and windows of at least one period, of which at least one is kept
 pub record IsPlan (plan : Plan) : Type 0 where
@@ -50,4 +50,4 @@ pub record IsShownAhead (plan : Plan) (kept : Kept) (place : Place) (shown : Pri
 abbrev pub IsStep : Plan → ℕ → Step → Type 0
 IsStep plan done (Further kept) = IsKeptSoFar plan kept × (done < kept.done)
 IsStep plan done (Ended rolled) =
-    IsRolled plan.options.now.exact plan.instance.now plan.options.now.budget plan.options.now.gap plan.window plan.step rolled
+    IsRolled plan.options.now.exact_units plan.instance.now plan.options.now.budget plan.options.now.gap plan.window plan.step rolled

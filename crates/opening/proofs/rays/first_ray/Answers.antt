@@ -25,9 +25,9 @@ loop-n-preserved c =
     let instance = c.args.evaluator.now in
     let n = c.loop-n.n in
     let outcome = c.in_ok-outcome.outcome in
-    let own = subst (λ (own : Instance). IsOutcome exact own c.root_node.result c.in_ok-table.table outcome) c.loop-n.invariant.0 c.in_ok-outcome.ensures.outcome.told in
-    let told = of_ray exact c.instance-instance.result.now instance n c.root_node.result c.in_ok-table.table outcome c.instance-instance.ensures.is
-    c.root_node.ensures c.in_ok-table.ensures.table own in (
+    let own = subst (λ (own : Instance). IsOutcome exact own c.root.result c.in_ok-table.table outcome) c.loop-n.invariant.0 c.in_ok-outcome.ensures.outcome.told in
+    let told = of_ray exact c.instance-instance.result.now instance n c.root.result c.in_ok-table.table outcome c.instance-instance.ensures.is
+    c.root.ensures c.in_ok-table.ensures.table own in (
       c.in_ok-outcome.ensures.kept ∙ c.loop-n.invariant.0,
       none_more exact instance n c.loop-n.invariant.1
           (not_positive exact instance n outcome told (λ above. absurd (false≢true (sym c.if-is_positive.false ∙ c.is_positive.ensures.1 above)))),
@@ -39,9 +39,9 @@ returns-then-is_positive-clause-ray c =
     let instance = c.args.evaluator.now in
     let n = c.loop-n.n in
     let outcome = c.in_ok-outcome.outcome in
-    let own = subst (λ (own : Instance). IsOutcome exact own c.root_node.result c.in_ok-table.table outcome) c.loop-n.invariant.0 c.in_ok-outcome.ensures.outcome.told in
-    let told = of_ray exact c.instance-instance.result.now instance n c.root_node.result c.in_ok-table.table outcome c.instance-instance.ensures.is
-    c.root_node.ensures c.in_ok-table.ensures.table own in
+    let own = subst (λ (own : Instance). IsOutcome exact own c.root.result c.in_ok-table.table outcome) c.loop-n.invariant.0 c.in_ok-outcome.ensures.outcome.told in
+    let told = of_ray exact c.instance-instance.result.now instance n c.root.result c.in_ok-table.table outcome c.instance-instance.ensures.is
+    c.root.ensures c.in_ok-table.ensures.table own in
     record {
       within = subst (λ (own : Instance). n < ray_count own.periods) c.instance-instance.ensures.is c.loop-n-test.true;
       positive = positive exact instance n outcome told (c.is_positive.ensures.0 c.if-is_positive.true);

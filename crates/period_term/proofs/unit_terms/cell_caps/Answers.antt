@@ -1,10 +1,11 @@
 -- Each place holds its cell's cap.
 use Rattle.std.proofs.Common.{◌≡◌, ℕ, ◌<◌, ◌≤◌, Bool, true, false, [], ◌∷◌, lit<, ℤ, pos, zero, suc, arith, subst, sym, ◌∙◌, to_z, of_z, slice_index_or, unsigned_abs}
 use Rattle.std.specs.Int.{w64}
-use Rattle.uc_model.proofs.Sizes.{narrow}
+use Rattle.uc_model.proofs.Sizes.{abs_narrow, narrow}
+use Rattle.uc_model.specs.declared.limits.TheConstants.{MAX_POWER}
 use Rattle.dual_model.specs.declared.limits.TheConstants.{MAX_CAP}
 use Rattle.uc_model.specs.Terms.{place}
-use Rattle.dual_model.specs.UnitTerms.{cell_cap}
+use Rattle.uc_model.specs.Commitment.{cell_cap}
 use Rattle.period_term.proofs.unit_terms.cell_caps.Goals as goal
 
 in_places : (cap : Bool → Bool → ℤ) (neither start stop both : ℤ) → neither ≡ cap false false → start ≡ cap true false
@@ -24,20 +25,20 @@ each_within neither start stop both a b c d (suc (suc (suc zero))) h = d
 each_within neither start stop both a b c d (suc (suc (suc (suc i)))) h = omega arith
 
 -- a cap is the same once it is written in 64 bits
-same : (cap value : ℤ) → cap ≡ value → unsigned_abs cap ≤ MAX_CAP → to_z w64 (of_z w64 cap) ≡ value
-same cap value is size = narrow cap MAX_CAP size (lit< tt) ∙ is
+same : (cap value : ℤ) → cap ≡ value → unsigned_abs cap ≤ MAX_POWER → to_z w64 (of_z w64 cap) ≡ value
+same cap value is size = narrow cap MAX_POWER size (lit< tt) ∙ is
 
-within : (cap : ℤ) → unsigned_abs cap ≤ MAX_CAP → unsigned_abs (to_z w64 (of_z w64 cap)) ≤ MAX_CAP
-within cap size = subst (λ z. unsigned_abs z ≤ MAX_CAP) (sym (narrow cap MAX_CAP size (lit< tt))) size
+within : (cap : ℤ) → unsigned_abs cap ≤ MAX_POWER → unsigned_abs (to_z w64 (of_z w64 cap)) ≤ MAX_CAP
+within cap size = omega (arith, abs_narrow cap, size)
 
 pub returns-clause-value : goal.returns-clause-value
 returns-clause-value c =
     in_places (cell_cap c.args.periods c.args.unit.now c.args.t) _ _ _ _
-    (same _ _ c.cell_cap.ensures.value c.cell_cap.ensures.size) (same _ _ c.cell_cap-2.ensures.value c.cell_cap-2.ensures.size)
-    (same _ _ c.cell_cap-3.ensures.value c.cell_cap-3.ensures.size) (same _ _ c.cell_cap-4.ensures.value c.cell_cap-4.ensures.size)
+    (same _ _ (c.cell_cap.ensures.value c.requires.lawful) (c.cell_cap.ensures.size c.requires.lawful)) (same _ _ (c.cell_cap-2.ensures.value c.requires.lawful) (c.cell_cap-2.ensures.size c.requires.lawful))
+    (same _ _ (c.cell_cap-3.ensures.value c.requires.lawful) (c.cell_cap-3.ensures.size c.requires.lawful)) (same _ _ (c.cell_cap-4.ensures.value c.requires.lawful) (c.cell_cap-4.ensures.size c.requires.lawful))
 
 pub returns-clause-size : goal.returns-clause-size
 returns-clause-size c =
     each_within _ _ _ _
-    (within c.cell_cap.result c.cell_cap.ensures.size) (within c.cell_cap-2.result c.cell_cap-2.ensures.size)
-    (within c.cell_cap-3.result c.cell_cap-3.ensures.size) (within c.cell_cap-4.result c.cell_cap-4.ensures.size)
+    (within c.cell_cap.result (c.cell_cap.ensures.size c.requires.lawful)) (within c.cell_cap-2.result (c.cell_cap-2.ensures.size c.requires.lawful))
+    (within c.cell_cap-3.result (c.cell_cap-3.ensures.size c.requires.lawful)) (within c.cell_cap-4.result (c.cell_cap-4.ensures.size c.requires.lawful))

@@ -8,7 +8,7 @@ use Rattle.uc_model.proofs.Sizes.{wide}
 use Rattle.uc_model.specs.declared.limits.TheConstants.{MAX_TERM}
 use Rattle.dual_model.specs.declared.limits.TheConstants.{MAX_UNIT_PRICE}
 use Rattle.uc_model.specs.Terms.{place}
-use Rattle.dual_model.specs.UnitTerms.{cell_cap}
+use Rattle.uc_model.specs.Commitment.{cell_cap}
 use Rattle.dual_model.specs.TableValue.{IsCellTerm, IsTermOfRow}
 use Rattle.period_term.proofs.unit_terms.period_terms.Goals as goal
 

@@ -4,7 +4,7 @@ use Rattle.std.proofs.lemmas.Bool.{cases_lt}
 use Rattle.uc_model.specs.Commitment.{Commitment}
 use Rattle.uc_model.specs.PatternBits.{commitment_of}
 use Rattle.schedule_check.specs.WholeWatts.{category, commitment}
-use Rattle.roll.specs.Stitched.{HasLeastCategory}
+use Rattle.start_costs.specs.Cheapest.{HasLeastCategory}
 use Rattle.roll.proofs.rows.choose_categories.Goals as goal
 
 pub loop-t-preserved : goal.loop-t-preserved

@@ -3,7 +3,8 @@ use Rattle.std.proofs.Common.{◌≡◌, lit<, false, ◌&&◌, suc, ◌-◌, sy
 use Rattle.std.proofs.lemmas.Bool.{and_parts, cond-true}
 use Rattle.uc_model.proofs.Sizes.{abs_wide, wide}
 use Rattle.dual_model.specs.CostToGo.{total_of}
-use Rattle.dual_model.specs.Moves.{may_be_on, may_start}
+use Rattle.dual_model.specs.Moves.{may_be_on}
+use Rattle.uc_model.specs.Switches.{may_start}
 use Rattle.unit_exact.specs.inside.Choices.{choice_cost}
 use Rattle.unit_exact.specs.inside.Problems.{MAX_SWITCH}
 use Rattle.unit_exact.specs.inside.Switches.{IsWithinSwitches}

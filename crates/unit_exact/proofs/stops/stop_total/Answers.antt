@@ -2,7 +2,8 @@
 use Rattle.std.proofs.Common.{◌≡◌, add-one, lit<, inl, refl, suc, ◌-◌, ◌≤◌, ◌&&◌, true, sym, ap, subst, ◌∙◌, arith, IsTrue, Some, None, IfSome, unsigned_abs}
 use Rattle.uc_model.proofs.Sizes.{abs_wide, wide}
 use Rattle.dual_model.specs.CostToGo.{total_of}
-use Rattle.dual_model.specs.Moves.{holds_initially, may_be_off, may_stop}
+use Rattle.dual_model.specs.Moves.{holds_initially, may_be_off}
+use Rattle.uc_model.specs.Switches.{may_stop}
 use Rattle.unit_runs.specs.CostThrough.{run_cost}
 use Rattle.unit_exact.specs.inside.Choices.{choice_cost, IsCostBelow}
 use Rattle.unit_exact.specs.inside.Problems.{MAX_SWITCH, MAX_WAY}

@@ -3,7 +3,7 @@ use Rattle.std.proofs.Common.{◌≡◌, ◌<◌, ℕ, suc, true, false, refl, s
 use Rattle.std.proofs.lemmas.Bool.{eq-eqb, le-leb, lt-leb}
 use Rattle.uc_model.proofs.Sizes.{wide}
 use Rattle.uc_model.specs.Terms.{period_count}
-use Rattle.dual_model.specs.Moves.{may_stop}
+use Rattle.uc_model.specs.Switches.{may_stop}
 use Rattle.dual_model.specs.CostToGo.{total_of, MAX_MOVE}
 use Rattle.unit_path.specs.inside.Choices.{Fix, Terms, Thermal, Choice, choice_cost, stop_cost}
 use Rattle.unit_path.specs.inside.Hours.{leave_cost, IsStopIn}

@@ -14,7 +14,7 @@ unreachable-requires c =
     let q = printed_denominator instance c.args.printed.now in
     let x = printed_schedule instance c.args.printed.now q in
     let g = c.in-Err-Empty.field-0-0 in
-    let fault = subst (λ (node : Node). IsFaultOf instance node c.in-Err-Empty.field-0) c.root_node.ensures c.in-Err-Empty.ensures.fault in
+    let fault = subst (λ (node : Node). IsFaultOf instance node c.in-Err-Empty.field-0) c.root.ensures c.in-Err-Empty.ensures.fault in
     let empty : IsFirstEmpty instance root g = subst (IsFaultOf instance root) c.in-Err-Empty.field-0-is fault in
     empty.empty (x.thermal g).on
     (pattern-obeying instance root q x g c.requires.lawful.periods.0 c.requires.obeys refl empty.within (c.requires.lawful.thermal g empty.within))

@@ -14,7 +14,7 @@ searched-requires-clause-patterns g c = λ lifetimes within.
 
 pub returns-in-Some : goal.returns-in-Some
 returns-in-Some g c =
-    let exact = c.args.options.now.exact in
+    let exact = c.args.options.now.exact_units in
     let budget = c.args.options.now.budget in
     let gap = c.args.options.now.gap in
     let own = c.instance-instance.ensures.is ∙ c.in_ok-worker.ensures.value ∙ c.first_unscheduled-unscheduled.ensures.kept in

@@ -11,7 +11,7 @@ returns-clause-result g c =
     let instance = c.args.instance.now in
     let budget = c.args.options.now.budget in
     let gap = c.args.options.now.gap in
-    let exact = c.args.options.now.exact in
+    let exact = c.args.options.now.exact_units in
     IfOk-weaker c.answered.result (IsAnswerOf exact instance budget gap) (IsSearchResult exact instance budget gap) (λ found a. a.result)
     (subst (λ (i : Instance). IfOk c.answered.result (IsAnswerOf exact i budget gap)) c.in_ok-worker.ensures c.answered.ensures)
 
@@ -20,6 +20,6 @@ returns-clause-writable g c =
     let instance = c.args.instance.now in
     let budget = c.args.options.now.budget in
     let gap = c.args.options.now.gap in
-    let exact = c.args.options.now.exact in
+    let exact = c.args.options.now.exact_units in
     IfOk-weaker c.answered.result (IsAnswerOf exact instance budget gap) (IsWritable instance) (λ found a. a.writable)
     (subst (λ (i : Instance). IfOk c.answered.result (IsAnswerOf exact i budget gap)) c.in_ok-worker.ensures c.answered.ensures)

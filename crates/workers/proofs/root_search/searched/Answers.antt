@@ -13,11 +13,11 @@ excluded-requires-clause-patterns g c =
 
 pub excluded-requires-clause-unblocked : goal.excluded-requires-clause-unblocked
 excluded-requires-clause-unblocked g c =
-    subst (HasNoBlockedUnit c.args.options.now.exact) (sym (c.in_ok-worker.ensures.value ∙ c.started-opened.ensures.kept)) c.requires.unblocked
+    subst (HasNoBlockedUnit c.args.options.now.exact_units) (sym (c.in_ok-worker.ensures.value ∙ c.started-opened.ensures.kept)) c.requires.unblocked
 
 pub claimed-requires-clause-unblocked : goal.claimed-requires-clause-unblocked
 claimed-requires-clause-unblocked g c = λ lifetimes within.
-    subst (HasNoBlockedUnit c.args.options.now.exact) (sym (c.excluded.ensures.kept ∙ c.in_ok-worker.ensures.value ∙ c.started-opened.ensures.kept))
+    subst (HasNoBlockedUnit c.args.options.now.exact_units) (sym (c.excluded.ensures.kept ∙ c.in_ok-worker.ensures.value ∙ c.started-opened.ensures.kept))
     c.requires.unblocked
 
 pub claimed-requires-clause-patterns : goal.claimed-requires-clause-patterns
@@ -31,5 +31,5 @@ returns-in-Some g c =
     let own = c.in_ok-worker.ensures.value ∙ c.started-opened.ensures.kept in
     let opened = subst (λ made. IfOk made (IsOpened c.args.worker)) c.in_ok-worker.ensures.made c.started-opened.ensures.opened in
     let dropped = subst (λ (instance : Instance). IsDropped instance opened.standing) (sym own) opened.dropped in
-    subst (λ (instance : Instance). IfOk c.in-Some.answer (IsAnswerOf c.args.options.now.exact instance budget gap)) own
+    subst (λ (instance : Instance). IfOk c.in-Some.answer (IsAnswerOf c.args.options.now.exact_units instance budget gap)) own
     (c.in-Some.ensures.answer budget gap opened.standing dropped)

@@ -12,4 +12,4 @@ returns-in-Ok-clause-blocked c =
     let table = c.in_ok-table.table in
     let total = c.in-Ok.field-0 in
     not_blocked c.args.exact instance root table total
-    (subst (λ (node : Node). IsValueOf c.args.exact instance node table total) c.root_node-root.ensures c.in-Ok.ensures.value)
+    (subst (λ (node : Node). IsValueOf c.args.exact instance node table total) c.root-root.ensures c.in-Ok.ensures.value)

@@ -10,6 +10,6 @@ use Rattle.opening.proofs.evaluator.Evaluator.root_value.Goals as goal
 pub unreachable-requires : goal.unreachable-requires
 unreachable-requires c =
     let instance = c.args.self.now in
-    let fault = subst (λ (node : Node). IsFaultOf instance node c.in-Err-Empty.field-0) c.root_node.ensures c.in-Err-Empty.ensures.fault in
+    let fault = subst (λ (node : Node). IsFaultOf instance node c.in-Err-Empty.field-0) c.root.ensures c.in-Err-Empty.ensures.fault in
     let empty : IsFirstEmpty instance root c.in-Err-Empty.field-0-0 = subst (IsFaultOf instance root) c.in-Err-Empty.field-0-is fault in
     not_first false instance c.in-Err-Empty.field-0-0 c.requires.patterns empty

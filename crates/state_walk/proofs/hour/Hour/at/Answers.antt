@@ -24,13 +24,13 @@ returns-clause-at c =
     let p = c.args.problem.now in
     let is = priced-at p.periods p.table.now p.unit.now.pmin c.args.t c.requires.lawful.prices c.requires.lawful.unit_is.minimum c.requires.period c.pi.result.now
     c.mu.result.now c.max-worth.result c.scaled.result c.pi.ensures c.mu.ensures c.max-worth.ensures.value c.scaled.ensures in
-    let cap = narrow c.cell_cap.result MAX_POWER c.cell_cap.ensures.size (lit< tt) in
-    record { cap = cap ∙ c.cell_cap.ensures.value; worth = is.worth_is; price = is.price_is; fixed = is.fixed_is }
+    let cap = narrow c.cell_cap.result MAX_POWER (c.cell_cap.ensures.size c.requires.lawful.unit_is) (lit< tt) in
+    record { cap = cap ∙ (c.cell_cap.ensures.value c.requires.lawful.unit_is); worth = is.worth_is; price = is.price_is; fixed = is.fixed_is }
 
 pub returns-clause-sized : goal.returns-clause-sized
 returns-clause-sized c =
     let p = c.args.problem.now in
     let is = priced-at p.periods p.table.now p.unit.now.pmin c.args.t c.requires.lawful.prices c.requires.lawful.unit_is.minimum c.requires.period c.pi.result.now
     c.mu.result.now c.max-worth.result c.scaled.result c.pi.ensures c.mu.ensures c.max-worth.ensures.value c.scaled.ensures in
-    let cap = c.cell_cap.ensures.size in
+    let cap = (c.cell_cap.ensures.size c.requires.lawful.unit_is) in
     record { cap = omega (arith, abs_narrow c.cell_cap.result, cap); worth = is.worth_size; price = is.price_size; fixed = is.fixed_size }

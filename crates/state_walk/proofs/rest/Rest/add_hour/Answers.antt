@@ -1,6 +1,6 @@
 -- An hour more where there are costs, and none where there are none.
 use Rattle.std.proofs.Common.{suc, ◌+◌, ◌*◌, ◌≤◌, false, ◌==◌, sym, subst, arith}
-use Rattle.dual_model.specs.UnitTerms.{cell_cap}
+use Rattle.uc_model.specs.Commitment.{cell_cap}
 use Rattle.hull_function.proofs.HullFunction.{hull-function}
 use Rattle.state_walk.specs.inside.CostToEnd.{cost_to_end, hours_from}
 use Rattle.state_walk.specs.inside.Rests.{IsCostsOf}

@@ -1,6 +1,6 @@
 -- Back to the output before where there are costs, and none where there are none.
 use Rattle.std.proofs.Common.{suc, ◌+◌, ◌*◌, ◌≤◌, true, false, ◌==◌, sym, subst, arith}
-use Rattle.dual_model.specs.UnitTerms.{cell_cap}
+use Rattle.uc_model.specs.Commitment.{cell_cap}
 use Rattle.state_walk.specs.inside.CostToEnd.{cost_to_end, hours_after, hours_from}
 use Rattle.state_walk.specs.inside.Rests.{IsCostsOf}
 use Rattle.state_walk.proofs.Rests.{hours-bounded, hours-near, none-after-dead}

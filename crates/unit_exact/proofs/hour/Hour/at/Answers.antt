@@ -46,6 +46,11 @@ returns-clause-at c =
       down = narrow unit.rd MAX_POWER lawful.ramp_down.power (lit< tt);
     }
 
+pub returns-clause-cap : goal.returns-clause-cap
+returns-clause-cap c =
+    let lawful = c.requires.lawful.unit_is in
+    narrow c.cell_cap.result MAX_POWER (c.cell_cap.ensures.size lawful) (lit< tt) ∙ c.cell_cap.ensures.value lawful
+
 pub returns-clause-sized : goal.returns-clause-sized
 returns-clause-sized c =
     let p = c.args.problem.now in
@@ -64,5 +69,5 @@ returns-clause-sized c =
       fixed = subst (λ z. unsigned_abs z ≤ MAX_PRICE * MAX_POWER) (sym (turned c.scaled.result size)) (omega (arith, ints, size));
       up = subst (IsBetween MAX_POWER) (sym up) (between MAX_POWER unit.ru lawful.ramp_up.low lawful.ramp_up.power);
       down = subst (IsBetween MAX_POWER) (sym down) (between MAX_POWER unit.rd lawful.ramp_down.low lawful.ramp_down.power);
-      cap = let cap = c.cap.ensures.size in omega (arith, abs_narrow c.cap.result, cap);
+      cap = let cap = c.cell_cap.ensures.size lawful in omega (arith, abs_narrow c.cell_cap.result, cap);
     }
