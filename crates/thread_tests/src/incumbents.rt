@@ -104,7 +104,7 @@ fn a_new_pass_has_seen_the_same(rt: HostRuntime) -> Result<(), Fail> {
 #[test]
 fn costs_of_both_signs(rt: HostRuntime) -> Result<(), Fail> {
     let (best, mut pass) = Best::new(rt.alloc(), 1).map_err(|_| "no memory")?;
-    let most = 6_881_280_000_000_000_000;
+    let most = 8_881_280_000_000_000_000;
     assert_eq!(rt; best.publish(&mut pass, most), true);
     assert_eq!(rt; best.publish(&mut pass, -most), true);
     assert_eq!(rt; best.close(pass), Some(-most));
