@@ -7,7 +7,7 @@ ghost use Rattle.uc_model.specs.PatternBits.{commitment_of};
 ghost use Rattle.uc_model.specs.Schedule.{thermal_count, thermal_unit};
 ghost use Rattle.dual_model.specs.Fixings.{IsFixOf};
 ghost use Rattle.dual_model.specs.NodeValue.{constant_at};
-ghost use Rattle.dual_model.specs.Prices.{IsLawfulTable};
+ghost use Rattle.dual_model.specs.Prices.{HasSizeOf, IsWithinLimits};
 ghost use Rattle.dual_model.specs.TableValue.{AreTermsOf};
 ghost use Rattle.dual_model.specs.UnitTerms.{AreSizedTerms};
 ghost use Rattle.dual_model.specs.UnitValue.{IsBestPattern};
@@ -53,7 +53,8 @@ pub(crate) fn part_with_ramps(
     requires lawful { IsLawfulInstance instance.now }
     requires unit { g < thermal_count instance.now }
     requires curve { IsLowerHull (thermal_unit instance.now g).points curve.now }
-    requires table { IsLawfulTable instance.now table.now }
+    requires table { HasSizeOf instance.now table.now }
+    requires limits { IsWithinLimits table.now }
     requires periods { exact.old.periods ≡ instance.now.periods }
     requires points { length (thermal_unit instance.now g).points ≤ exact.old.points }
     requires terms { AreTermsOf instance.now table.now g priced.now.plain.terms.now }

@@ -1,9 +1,9 @@
 //! The value of a node at a table.
 
-ghost use Rattle.std.specs.Prelude.{◌≡◌, true, IfOk, IfErr, length};
+ghost use Rattle.std.specs.Prelude.{◌≡◌, IfOk, IfErr, length};
 ghost use Rattle.uc_model.specs.Limits.{IsLawfulInstance};
 ghost use Rattle.dual_model.specs.Fixings.{IsNodeOf};
-ghost use Rattle.dual_model.specs.Prices.{HasLawfulSigns, HasSizeOf, IsLawfulTable, IsWithinLimits};
+ghost use Rattle.dual_model.specs.Prices.{HasSizeOf, IsWithinLimits};
 ghost use Rattle.dual_value.specs.NodeAnswer.{HasSizes, IsExactFaultOf, IsExactValued, IsFaultOf, IsFaultOfKind, IsValued, IsValuedOf};
 ghost use Rattle.dual_value.specs.Rooms.{IsExactRoomOf, IsRoomFor, IsRoomOf, keeps_ramps};
 
@@ -80,7 +80,8 @@ pub fn exact_value(
 ) -> Result<Valued, ValueFault>
     requires lawful { IsLawfulInstance instance.now }
     requires node { IsNodeOf instance.now node.now }
-    requires table { IsLawfulTable instance.now table.now }
+    requires size { HasSizeOf instance.now table.now }
+    requires limits { IsWithinLimits table.now }
     requires memory { scratch.old ≡ instance.now.periods }
     requires room { IsExactRoomOf instance.now room.old }
     ensures kept { scratch.new ≡ scratch.old }
@@ -106,7 +107,6 @@ fn valued(
     requires node { IsNodeOf instance.now node.now }
     requires size { HasSizeOf instance.now table.now }
     requires limits { IsWithinLimits table.now }
-    requires signs { keeps_ramps room.old ≡ true → HasLawfulSigns table.now }
     requires memory { scratch.old ≡ instance.now.periods }
     requires room { IsRoomFor (keeps_ramps room.old) instance.now room.old }
     ensures kept { scratch.new ≡ scratch.old }

@@ -1,10 +1,10 @@
 //! What one thermal unit adds to a node's value.
 
-ghost use Rattle.std.specs.Prelude.{◌≡◌, ◌<◌, ◌≤◌, true, IfOk, IfErr, length, unsigned_abs};
+ghost use Rattle.std.specs.Prelude.{◌≡◌, ◌<◌, ◌≤◌, IfOk, IfErr, length, unsigned_abs};
 ghost use Rattle.uc_model.specs.Limits.{IsLawfulInstance, IsLawfulThermal};
 ghost use Rattle.uc_model.specs.Schedule.{thermal_count, thermal_unit};
 ghost use Rattle.dual_model.specs.Fixings.{IsNodeOf};
-ghost use Rattle.dual_model.specs.Prices.{HasLawfulSigns, HasSizeOf, IsWithinLimits};
+ghost use Rattle.dual_model.specs.Prices.{HasSizeOf, IsWithinLimits};
 ghost use Rattle.dual_model.specs.TableValue.{AreTermsOf};
 ghost use Rattle.uc_model.specs.Terms.{period_count};
 ghost use Rattle.dual_model.specs.UnitTerms.{AreSizedTerms};
@@ -39,7 +39,6 @@ pub(crate) fn unit_part(
     requires node { IsNodeOf instance.now node.now }
     requires size { HasSizeOf instance.now table.now }
     requires limits { IsWithinLimits table.now }
-    requires signs { keeps_ramps room.old ≡ true → HasLawfulSigns table.now }
     requires memory { scratch.old ≡ instance.now.periods }
     requires room { IsRoomFor (keeps_ramps room.old) instance.now room.old }
     ensures kept { scratch.new ≡ scratch.old }

@@ -6,7 +6,7 @@ use Rattle.uc_model.specs.PatternBits.{commitment_of}
 use Rattle.uc_model.specs.Schedule.{no_unit, thermal_count, thermal_unit}
 use Rattle.dual_model.specs.ExactValue.{HasNoUnitSchedule, IsExactUnitValue}
 use Rattle.dual_model.specs.Fixings.{IsFixOf, IsPatternAt}
-use Rattle.dual_model.specs.Prices.{IsLawfulTable}
+use Rattle.dual_model.specs.Prices.{HasSizeOf, IsWithinLimits}
 use Rattle.unit_runs.specs.Patterns.{Instance, Node, IsValueByRuns}
 use Rattle.unit_runs.specs.RunsToGo.{Fix, HasNoRunsByFix, IsLeastByFix, least_runs, whole_way}
 use Rattle.unit_runs.proofs.ByFix.{least_by_fix_is_exact, no_runs_by_fix_means_unscheduled}
@@ -64,17 +64,17 @@ module _ (instance : Instance) (table : Table) (g : ℕ) (fix : Fix) (result : O
   pub found-attained : IfSome result (λ best. IsValueByRuns instance.periods table unit (commitment_of best.1) best.0)
   found-attained = attained_by result found.way
 
--- a unit of a lawful instance at a lawful table
+-- a unit of a lawful instance at a table of its size within the limits
 pub lawful-problem : (instance : Instance) (table : Table) (g : ℕ) → IsLawfulInstance instance → g < thermal_count instance
-    → IsLawfulTable instance table → IsLawful instance.periods table (thermal_unit instance g)
-lawful-problem instance table g lawful known prices = record {
+    → HasSizeOf instance table → IsWithinLimits table → IsLawful instance.periods table (thermal_unit instance g)
+lawful-problem instance table g lawful known size limits = record {
   periods_are = lawful.periods;
   unit_is = lawful.thermal g known;
-  scale = (prices.size.form.scale, prices.limits.scale);
-  demand = prices.size.periods;
-  reserve = prices.size.form.lengths ∙ prices.size.periods;
-  demand_price = λ t l. prices.limits.pi t (pos 0) (let count = prices.size.periods in omega (arith, l, count));
-  reserve_price = λ t l. prices.limits.mu t (pos 0) (let count = prices.size.form.lengths ∙ prices.size.periods in omega (arith, l, count));
+  scale = (size.form.scale, limits.scale);
+  demand = size.periods;
+  reserve = size.form.lengths ∙ size.periods;
+  demand_price = λ t l. limits.pi t (pos 0) (let count = size.periods in omega (arith, l, count));
+  reserve_price = λ t l. limits.mu t (pos 0) (let count = size.form.lengths ∙ size.periods in omega (arith, l, count));
 }
 
 -- the unit that is read is that of the instance

@@ -9,7 +9,7 @@ ghost use Rattle.dual_model.specs.ExactValue.{HasNoUnitSchedule, IsExactUnitValu
 ghost use Rattle.dual_model.specs.Fixings.{IsFixOf, IsPatternAt};
 ghost use Rattle.dual_model.specs.declared.node.Node.{Node};
 ghost use Rattle.dual_model.specs.Moves.{may_be_on};
-ghost use Rattle.dual_model.specs.Prices.{IsLawfulTable};
+ghost use Rattle.dual_model.specs.Prices.{HasSizeOf, IsWithinLimits};
 ghost use Rattle.dual_model.specs.TableValue.{AreTermsOf};
 ghost use Rattle.dual_model.specs.UnitTerms.{AreSizedTerms};
 ghost use Rattle.unit_runs.specs.Patterns.{IsValueByRuns};
@@ -90,7 +90,8 @@ pub fn least(
     requires lawful { IsLawfulInstance instance.now }
     requires unit { g < thermal_count instance.now }
     requires curve { IsLowerHull (thermal_unit instance.now g).points curve.now }
-    requires table { IsLawfulTable instance.now table.now }
+    requires table { HasSizeOf instance.now table.now }
+    requires limits { IsWithinLimits table.now }
     requires periods { exact.old.periods ≡ instance.now.periods }
     requires points { length (thermal_unit instance.now g).points ≤ exact.old.points }
     ensures kept { exact.new ≡ exact.old }
@@ -129,7 +130,8 @@ pub fn keeps_ramps(
     requires lawful { IsLawfulInstance instance.now }
     requires unit { g < thermal_count instance.now }
     requires curve { IsLowerHull (thermal_unit instance.now g).points curve.now }
-    requires table { IsLawfulTable instance.now table.now }
+    requires table { HasSizeOf instance.now table.now }
+    requires limits { IsWithinLimits table.now }
     requires periods { exact.old.periods ≡ instance.now.periods }
     requires points { length (thermal_unit instance.now g).points ≤ exact.old.points }
     requires terms { AreTermsOf instance.now table.now g plain.now.terms.now }

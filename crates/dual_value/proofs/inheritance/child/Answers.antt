@@ -1,5 +1,5 @@
 -- The unit's new part in place of the old one, or that the unit has no pattern.
-use Rattle.std.proofs.Common.{◌+◌, false, true≢false, length, sym, ap, subst, ◌∙◌, lit<, arith, ◌+ℤ◌, to_z, of_z, slice_set}
+use Rattle.std.proofs.Common.{◌+◌, false, length, sym, ap, subst, ◌∙◌, lit<, arith, ◌+ℤ◌, to_z, of_z, slice_set}
 use Rattle.std.specs.Int.{w128}
 use Rattle.uc_model.specs.Schedule.{thermal_count}
 use Rattle.uc_model.proofs.Sizes.{sum-size, wide, wide-size}
@@ -12,9 +12,6 @@ use Rattle.dual_value.proofs.inheritance.child.Goals as goal
 pub unit_part-requires-clause-unit : goal.unit_part-requires-clause-unit
 unit_part-requires-clause-unit c =
     unit-within c.args.instance.now c.args.node.now c.args.inherited.now.table.now c.args.inherited.now.g c.args.inherited.now.parent.now c.requires.node c.requires.parent
-
-pub unit_part-requires-clause-signs : goal.unit_part-requires-clause-signs
-unit_part-requires-clause-signs c = λ e. absurd (true≢false (sym e ∙ c.requires.room.kind))
 
 pub unit_part-requires-clause-room : goal.unit_part-requires-clause-room
 unit_part-requires-clause-room c = subst (λ b. IsRoomFor b c.args.instance.now c.args.room.now) (sym c.requires.room.kind) c.requires.room

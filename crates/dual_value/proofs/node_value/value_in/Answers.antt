@@ -1,11 +1,8 @@
 -- The kind of value is that of the room.
-use Rattle.std.proofs.Common.{true, false, true≢false, IfOk, IfErr, sym, subst, ◌∙◌}
+use Rattle.std.proofs.Common.{IfOk, IfErr, sym, subst}
 use Rattle.dual_value.specs.NodeAnswer.{IsFaultOfKind, IsValuedOf}
 use Rattle.dual_value.specs.Rooms.{IsRoomFor}
 use Rattle.dual_value.proofs.node_value.value_in.Goals as goal
-
-pub valued-requires-clause-signs : goal.valued-requires-clause-signs
-valued-requires-clause-signs c = λ e. absurd (true≢false (sym e ∙ c.requires.room.kind))
 
 pub valued-requires-clause-room : goal.valued-requires-clause-room
 valued-requires-clause-room c = subst (λ b. IsRoomFor b c.args.instance.now c.args.room.now) (sym c.requires.room.kind) c.requires.room

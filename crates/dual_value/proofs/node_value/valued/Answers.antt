@@ -1,9 +1,8 @@
 -- One unit more, the first one that is blocked, or the whole.
-use Rattle.std.proofs.Common.{◌≡◌, ◌+◌, ◌*◌, ◌<◌, ◌≤◌, true, length, refl, sym, ap, subst, ◌∙◌, lit<, arith, ◌+ℤ◌, to_z, of_z, unsigned_abs}
+use Rattle.std.proofs.Common.{◌≡◌, ◌+◌, ◌*◌, ◌<◌, ◌≤◌, length, refl, sym, ap, subst, ◌∙◌, lit<, arith, ◌+ℤ◌, to_z, of_z, unsigned_abs}
 use Rattle.std.specs.Int.{w128}
 use Rattle.uc_model.specs.Schedule.{thermal_count}
 use Rattle.uc_model.proofs.Sizes.{abs_add, sum-fits, sum-is, sum-size, wide, wide-size}
-use Rattle.dual_model.specs.Prices.{HasLawfulSigns}
 use Rattle.dual_value.specs.NodeAnswer.{HasSizes, IsFaultOfKind, IsPartFault, IsPartOfKind, IsValuedOf, MAX_PART}
 use Rattle.dual_value.specs.Rooms.{IsRoomFor, keeps_ramps}
 use Rattle.system_value.specs.Sizes.{MAX_RENEWABLES, MAX_SYSTEM}
@@ -34,10 +33,6 @@ loop-g-init c =
 
 pub unit_part-requires-clause-unit : goal.unit_part-requires-clause-unit
 unit_part-requires-clause-unit c = omega (arith, c.loop-g-test.true, ap length c.as_slice-units.ensures)
-
-pub unit_part-requires-clause-signs : goal.unit_part-requires-clause-signs
-unit_part-requires-clause-signs c =
-    subst (λ room. keeps_ramps room ≡ true → HasLawfulSigns c.args.table.now) (sym c.loop-g.invariant.room) c.requires.signs
 
 pub unit_part-requires-clause-room : goal.unit_part-requires-clause-room
 unit_part-requires-clause-room c =

@@ -105,12 +105,6 @@ part_with_ramps-requires-clause-curve c =
     let read = get_or_read c.room.inside.curves.items c.args.g c.index.result.now (omega (arith, c.requires.unit, count, ap length curves)) c.index.ensures [] in
     subst (IsLowerHull (thermal_unit instance c.args.g).points) (sym (read ∙ ap (λ xs. curve_in xs c.args.g) curves)) (c.requires.room.curves.curve c.args.g c.requires.unit)
 
-pub part_with_ramps-requires-clause-table : goal.part_with_ramps-requires-clause-table
-part_with_ramps-requires-clause-table c =
-    let exact : keeps_ramps c.args.room.now ≡ true =
-    sym (ap keeps_ramps (c.room.view_is ∙ c.in_ok-terms.ensures.kept)) ∙ ap is_some c.in-Some-exact.is in
-    record { size = c.requires.size; signs = c.requires.signs exact; limits = c.requires.limits }
-
 pub part_with_ramps-requires-clause-points : goal.part_with_ramps-requires-clause-points
 part_with_ramps-requires-clause-points c =
     let there = sym (ap (λ (r : RoomOf). r.exact) (c.room.view_is ∙ c.in_ok-terms.ensures.kept)) ∙ c.in-Some-exact.is in

@@ -1,11 +1,14 @@
 -- The factors stand in another order.
-use Rattle.std.proofs.Common.{◌∙◌, ◌-ℤ◌, rules}
+use Rattle.std.proofs.Common.{◌∙◌, ap, ◌-ℤ◌, ◌*ℤ◌}
+use Rattle.uc_model.specs.Commitment.{stop_reduction}
 use Rattle.uc_model.specs.Sums.{bit}
+use Rattle.uc_model.proofs.Caps.{is_in_bits}
 use Rattle.uc_model.proofs.Ring.{mul_comm}
 use Rattle.schedule_check.proofs.dispatch.initial_limit.Goals as goal
 
 pub returns : goal.returns
 returns c =
     let unit = c.args.unit.now in
-    let full = c.range-full.ensures.value ∙ mul_comm (unit.pmax -ℤ unit.pmin) (bit unit.on0) in
-    search (rules, full)
+    let turned = mul_comm (unit.pmax -ℤ unit.pmin) (bit unit.on0) in
+    is_in_bits c.stop_cap.result _ (c.stop_cap.ensures.size c.requires)
+    (c.stop_cap.ensures.value c.requires ∙ ap (λ z. z -ℤ stop_reduction unit *ℤ bit c.args.stop) turned)

@@ -14,7 +14,7 @@ is_hourly-requires-clause-lawful c =
     let instance = c.args.instance.now in
     let table = c.args.table.now in
     let unit = unit-read instance c.as_slice.result.now c.args.g c.index-as_slice-g.result c.as_slice.ensures c.requires.unit c.index-as_slice-g.is in
-    subst (λ (u : Thermal). IsLawful instance.periods table u) (sym unit) (lawful-problem instance table c.args.g c.requires.lawful c.requires.unit c.requires.table)
+    subst (λ (u : Thermal). IsLawful instance.periods table u) (sym unit) (lawful-problem instance table c.args.g c.requires.lawful c.requires.unit c.requires.table c.requires.limits)
 
 pub returns-clause-within : goal.returns-clause-within
 returns-clause-within c = λ node pattern kept.

@@ -16,7 +16,7 @@ least_way-requires-clause-lawful c =
     let instance = c.args.instance.now in
     let table = c.args.table.now in
     let unit = unit-read instance c.as_slice.result.now c.args.g c.index-as_slice-g.result c.as_slice.ensures c.requires.unit c.index-as_slice-g.is in
-    subst (λ (u : Thermal). IsLawful instance.periods table u) (sym unit) (lawful-problem instance table c.args.g c.requires.lawful c.requires.unit c.requires.table)
+    subst (λ (u : Thermal). IsLawful instance.periods table u) (sym unit) (lawful-problem instance table c.args.g c.requires.lawful c.requires.unit c.requires.table c.requires.limits)
 
 pub returns-clause-value : goal.returns-clause-value
 returns-clause-value c =
@@ -66,6 +66,6 @@ returns-clause-size c =
     let points : c.as_slice-2.result.now ≡ (thermal_unit instance c.args.g).points = c.as_slice-2.ensures ∙ ap (λ (u : Thermal). u.points) unit in
     let hull = subst (λ k. IsHull (thermal_unit instance c.args.g).points k c.fill.new.function) scale
     (subst (λ ps. IsHull ps (to_z w64 (of_z w64 c.k.result)) c.fill.new.function) points c.fill.ensures.hull) in
-    let lawful = lawful-problem instance table c.args.g c.requires.lawful c.requires.unit c.requires.table in
+    let lawful = lawful-problem instance table c.args.g c.requires.lawful c.requires.unit c.requires.table c.requires.limits in
     IfSome_then c.least_way.result attained (λ best is.
     value-small instance.periods table (thermal_unit instance c.args.g) lawful c.fill.new.function hull (commitment_of best.1) best.0 is)
