@@ -3,13 +3,13 @@
 use Rattle.std.proofs.Common.{◌≡◌, ◌≢◌, ℕ, ◌<◌, ⊎_elim, sym, ap, subst, ◌∙◌, arith, List, length, map, ℤ, pos, ◌*ℤ◌, ◌<ℤ◌, int_lt, neg_ℤ}
 use Rattle.std.proofs.lemmas.Int.{by_lt_z}
 use Rattle.std.proofs.lemmas.Bool.{cases_eq, cond_both}
-use Rattle.std.proofs.lemmas.List.{get_or-map, get_or-set_same, get_or-set_other, length-set}
+use Rattle.std.proofs.lemmas.List.{get_or-map, get_or-set_same, get_or-set_other}
 use Rattle.pivot_run.specs.Rows.{entry, reduced, upright, cleared, divisor_of}
 use Rattle.pivot_run.specs.Pivots.{pivot_row, row_at}
 use Rattle.pivot_run.specs.Tables.{IsTable, IsBasic, Table, basic, number, pivoted_table}
 use Rattle.uc_model.proofs.Ring.{linear, mul-zero, zero-mul, mul-le-mul_left, mul-lt-mul_left}
 use Rattle.pivot_run.proofs.Clearing.{entry-combined, length-combined}
-use Rattle.pivot_run.proofs.Solutions.{no_factor, positive_divisor, length-upright, length-pivoted, row-pivoted_at, row-pivoted_other, upright_positive}
+use Rattle.pivot_run.proofs.Solutions.{by_eliminated, no_factor, positive_divisor, length-upright, length-pivoted, row-pivoted_at, row-pivoted_other, upright_positive}
 use Rattle.pivot_run.proofs.RightSides.{entry-reduced}
 
 -- a positive factor keeps the sign
@@ -46,12 +46,12 @@ cleared_there pivot j row same =
 pub record IsPivot (t : Table) (i j : ℕ) : Type 0 where
   pub table : IsTable t
   pub basis : IsBasic t
-  pub row : i < length t.basis
+  pub row : i < length t.rows
   pub column : j < t.columns
   pub apart : number t i j ≢ pos 0
 
 pub inside : (t : Table) (i j : ℕ) → IsPivot t i j → i < length t.rows
-inside t i j is = omega (arith, is.row, is.table.few)
+inside t i j is = is.row
 
 pub long : (t : Table) (i j : ℕ) → IsPivot t i j → length (pivot_row t.rows i j) ≡ t.columns
 long t i j is = length-upright j (row_at t.rows i) ∙ is.table.lengths i (inside t i j is)
@@ -74,26 +74,28 @@ enters_own t i j is =
 enters_others : (t : Table) (i j l : ℕ) → IsPivot t i j → l < length t.rows → l ≢ i → number (pivoted_table t i j) l j ≡ pos 0
 enters_others t i j l is h other =
     ap (λ r. entry r j) (row-pivoted_other t.rows i j l h other)
-    ∙ reduced_zero _ j (subst (λ m. j < m) (sym (size t i j l is h)) is.column) (cleared_there (pivot_row t.rows i j) j (row_at t.rows l) (equal t i j l is h))
+    ∙ by_eliminated (pivot_row t.rows i j) j (row_at t.rows l) (λ r. entry r j ≡ pos 0) (λ none. none)
+    (reduced_zero _ j (subst (λ m. j < m) (sym (size t i j l is h)) is.column) (cleared_there (pivot_row t.rows i j) j (row_at t.rows l) (equal t i j l is h)))
 
 -- a column c of another row k of the basis
-none_there : (t : Table) (i j k : ℕ) → IsPivot t i j → k < length t.basis → k ≢ i → entry (pivot_row t.rows i j) (basic t k) ≡ pos 0
+none_there : (t : Table) (i j k : ℕ) → IsPivot t i j → k < length t.rows → k ≢ i → entry (pivot_row t.rows i j) (basic t k) ≡ pos 0
 none_there t i j k is h other =
     let at_row = inside t i j is in
     upright_zero j (row_at t.rows i) (basic t k) (subst (λ m. basic t k < m) (sym (is.table.lengths i at_row)) (is.basis.columns k h))
     (is.basis.others k i h at_row (λ e. other (sym e)))
 
-stays_own : (t : Table) (i j k : ℕ) → IsPivot t i j → k < length t.basis → k ≢ i → pos 0 <ℤ number (pivoted_table t i j) k (basic t k)
+stays_own : (t : Table) (i j k : ℕ) → IsPivot t i j → k < length t.rows → k ≢ i → pos 0 <ℤ number (pivoted_table t i j) k (basic t k)
 stays_own t i j k is h other =
-    let within : k < length t.rows = omega (arith, h, is.table.few) in
+    let within = h in
     let value = cleared_at (pivot_row t.rows i j) j (row_at t.rows k) (basic t k) (equal t i j k is within) (none_there t i j k is h other) in
     let own = is.basis.own k h in
     let none = mul-zero (number t k (basic t k)) in
     let more = mul-lt-mul_left (number t k (basic t k)) (pos 0) (entry (pivot_row t.rows i j) j) own (positive t i j is) in
     subst (λ r. pos 0 <ℤ entry r (basic t k)) (sym (row-pivoted_other t.rows i j k within other))
-    (reduced_positive _ (basic t k) (subst (λ m. basic t k < m) (sym (size t i j k is within)) (is.basis.columns k h)) (omega (arith, linear)))
+    (by_eliminated (pivot_row t.rows i j) j (row_at t.rows k) (λ r. pos 0 <ℤ entry r (basic t k)) (λ none. own)
+    (reduced_positive _ (basic t k) (subst (λ m. basic t k < m) (sym (size t i j k is within)) (is.basis.columns k h)) (omega (arith, linear))))
 
-stays_others : (t : Table) (i j k l : ℕ) → IsPivot t i j → k < length t.basis → k ≢ i → l < length t.rows → l ≢ k → number (pivoted_table t i j) l (basic t k) ≡ pos 0
+stays_others : (t : Table) (i j k l : ℕ) → IsPivot t i j → k < length t.rows → k ≢ i → l < length t.rows → l ≢ k → number (pivoted_table t i j) l (basic t k) ≡ pos 0
 stays_others t i j k l is h other within apart =
     let c = basic t k in
     let none = none_there t i j k is h other in
@@ -103,37 +105,38 @@ stays_others t i j k l is h other within apart =
     ∙ reduced_zero (pivot_row t.rows i j) c (subst (λ m. c < m) (sym (long t i j is)) (is.basis.columns k h)) none)
     (λ (there : l ≢ i).
     ap (λ r. entry r c) (row-pivoted_other t.rows i j l within there)
-    ∙ reduced_zero _ c (subst (λ m. c < m) (sym (size t i j l is within)) (is.basis.columns k h))
+    ∙ by_eliminated (pivot_row t.rows i j) j (row_at t.rows l) (λ r. entry r c ≡ pos 0) (λ stays. is.basis.others k l h within apart)
+    (reduced_zero _ c (subst (λ m. c < m) (sym (size t i j l is within)) (is.basis.columns k h))
     (cleared_at (pivot_row t.rows i j) j (row_at t.rows l) c (equal t i j l is within) none
-    ∙ ap (λ x. x *ℤ entry (pivot_row t.rows i j) j) (is.basis.others k l h within apart) ∙ zero-mul (entry (pivot_row t.rows i j) j)))
+    ∙ ap (λ x. x *ℤ entry (pivot_row t.rows i j) j) (is.basis.others k l h within apart) ∙ zero-mul (entry (pivot_row t.rows i j) j))))
     (cases_eq l i)
 
 -- ---- the basis of a pivot
-basic_at : (t : Table) (i j : ℕ) → i < length t.basis → basic (pivoted_table t i j) i ≡ j
-basic_at t i j h = get_or-set_same t.basis i j 0 h
+basic_at : (t : Table) (i j : ℕ) → IsPivot t i j → basic (pivoted_table t i j) i ≡ j
+basic_at t i j is = get_or-set_same t.basis i j 0 (subst (λ m. i < m) (sym is.table.each) is.row)
 
-basic_other : (t : Table) (i j k : ℕ) → k ≢ i → basic (pivoted_table t i j) k ≡ basic t k
+pub basic_other : (t : Table) (i j k : ℕ) → k ≢ i → basic (pivoted_table t i j) k ≡ basic t k
 basic_other t i j k other = get_or-set_other t.basis i k j 0 other
 
 kept : (t : Table) (i j : ℕ) → IsPivot t i j → IsBasic (pivoted_table t i j)
 kept t i j is = record {
   columns = λ k h. ⊎_elim
-      (λ (here : k ≡ i). subst (λ m. m < t.columns) (sym (ap (basic (pivoted_table t i j)) here ∙ basic_at t i j is.row)) is.column)
-      (λ (other : k ≢ i). subst (λ m. m < t.columns) (sym (basic_other t i j k other)) (is.basis.columns k (subst (λ m. k < m) (length-set t.basis i j) h)))
+      (λ (here : k ≡ i). subst (λ m. m < t.columns) (sym (ap (basic (pivoted_table t i j)) here ∙ basic_at t i j is)) is.column)
+      (λ (other : k ≢ i). subst (λ m. m < t.columns) (sym (basic_other t i j k other)) (is.basis.columns k (subst (λ m. k < m) (length-pivoted t.rows i j) h)))
       (cases_eq k i);
   own = λ k h. ⊎_elim
       (λ (here : k ≡ i). subst (λ m. pos 0 <ℤ number (pivoted_table t i j) m (basic (pivoted_table t i j) m)) (sym here)
-      (subst (λ c. pos 0 <ℤ number (pivoted_table t i j) i c) (sym (basic_at t i j is.row)) (enters_own t i j is)))
+      (subst (λ c. pos 0 <ℤ number (pivoted_table t i j) i c) (sym (basic_at t i j is)) (enters_own t i j is)))
       (λ (other : k ≢ i). subst (λ c. pos 0 <ℤ number (pivoted_table t i j) k c) (sym (basic_other t i j k other))
-      (stays_own t i j k is (subst (λ m. k < m) (length-set t.basis i j) h) other))
+      (stays_own t i j k is (subst (λ m. k < m) (length-pivoted t.rows i j) h) other))
       (cases_eq k i);
   others = λ k l h within apart. ⊎_elim
-      (λ (here : k ≡ i). ap (number (pivoted_table t i j) l) (ap (basic (pivoted_table t i j)) here ∙ basic_at t i j is.row)
+      (λ (here : k ≡ i). ap (number (pivoted_table t i j) l) (ap (basic (pivoted_table t i j)) here ∙ basic_at t i j is)
       ∙ enters_others t i j l is (subst (λ m. l < m) (length-pivoted t.rows i j) within) (λ e. apart (e ∙ sym here)))
       (λ (other : k ≢ i). ap (number (pivoted_table t i j) l) (basic_other t i j k other)
-      ∙ stays_others t i j k l is (subst (λ m. k < m) (length-set t.basis i j) h) other (subst (λ m. l < m) (length-pivoted t.rows i j) within) apart)
+      ∙ stays_others t i j k l is (subst (λ m. k < m) (length-pivoted t.rows i j) h) other (subst (λ m. l < m) (length-pivoted t.rows i j) within) apart)
       (cases_eq k i);
 }
 
-pub basis_kept : (t : Table) (i j : ℕ) → IsTable t → IsBasic t → i < length t.basis → j < t.columns → number t i j ≢ pos 0 → IsBasic (pivoted_table t i j)
+pub basis_kept : (t : Table) (i j : ℕ) → IsTable t → IsBasic t → i < length t.rows → j < t.columns → number t i j ≢ pos 0 → IsBasic (pivoted_table t i j)
 basis_kept t i j table basis row column apart = kept t i j (record { table = table; basis = basis; row = row; column = column; apart = apart })

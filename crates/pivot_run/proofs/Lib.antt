@@ -8,8 +8,8 @@ pub mod RightSides
 pub mod Basis
 pub mod Values
 pub mod RowChoice
+pub mod PivotKeeps
+pub mod ZeroSides
 pub mod RunSteps
 pub mod RunKeeps
-pub mod WholeSteps
-pub mod ZeroSides
-pub mod WholeKeeps
+pub mod Sizes

@@ -11,7 +11,7 @@ use Rattle.uc_model.proofs.Ring.{linear, mul-zero, mul_comm, mul_nonneg, mul-le-
 use Rattle.pivot_run.proofs.Orders.{lt-int_lt_false}
 use Rattle.pivot_run.proofs.Clearing.{entry-combined, length-combined}
 use Rattle.pivot_run.proofs.Divisors.{divisor_of-positive, divisor_of-divides}
-use Rattle.pivot_run.proofs.Solutions.{exact, positive_divisor, length-upright, row-pivoted_at, row-pivoted_other}
+use Rattle.pivot_run.proofs.Solutions.{exact, positive_divisor, by_eliminated, length-upright, row-pivoted_at, row-pivoted_other}
 use Rattle.pivot_run.proofs.Ratios.{IsLeast, IsLeaving, leaving_is}
 
 pub entry-reduced : (row : List ℤ) (c : ℕ) → c < length row → pos (divisor_of row) *ℤ entry (reduced row) c ≡ entry row c
@@ -38,11 +38,11 @@ upright_same j row h = cond-false (int_lt (entry row j) (pos 0)) (map neg_ℤ ro
 at_least : (t : Table) (j n i : ℕ) (found : Option ℕ) → found ≡ Some i → IsLeaving t j n found → IsLeast t j n i
 at_least t j n i found e is = subst (λ o. IsLeaving t j n o) e is
 
-pub right_sides_kept : (t : Table) (i j : ℕ) → IsTable t → j < t.columns → leaving t j (length t.basis) ≡ Some i
-    → ((k : ℕ) → k < length t.basis → pos 0 ≤ℤ right_side t k)
-    → (k : ℕ) → k < length t.basis → pos 0 ≤ℤ right_side (pivoted_table t i j) k
+pub right_sides_kept : (t : Table) (i j : ℕ) → IsTable t → j < t.columns → leaving t j t.constraints ≡ Some i
+    → ((k : ℕ) → k < t.constraints → pos 0 ≤ℤ right_side t k)
+    → (k : ℕ) → k < t.constraints → pos 0 ≤ℤ right_side (pivoted_table t i j) k
 right_sides_kept t i j is column found sides k within =
-    let least = at_least t j (length t.basis) i (leaving t j (length t.basis)) found (leaving_is t j (length t.basis)) in
+    let least = at_least t j t.constraints i (leaving t j t.constraints) found (leaving_is t j t.constraints) in
     let row : i < length t.rows = omega (arith, least.within, is.few) in
     let inside : k < length t.rows = omega (arith, within, is.few) in
     let pivot = pivot_row t.rows i j in
@@ -62,8 +62,9 @@ right_sides_kept t i j is column found sides k within =
     let value = entry-combined (entry pivot j) (entry own j) own pivot last equal in
     let size : length (cleared pivot j own) ≡ t.columns = length-combined (entry pivot j) (entry own j) own pivot ∙ is.lengths k inside in
     subst (λ r. pos 0 ≤ℤ entry r last) (sym (row-pivoted_other t.rows i j k inside other))
+    (by_eliminated pivot j own (λ r. pos 0 ≤ℤ entry r last) (λ none. sides k within)
     (reduced_nonneg (cleared pivot j own) last (subst (λ m. last < m) (sym size) end)
     (subst (λ x. pos 0 ≤ℤ x) (sym value)
     (subst (λ r. pos 0 ≤ℤ (entry own last *ℤ entry r j -ℤ entry own j *ℤ entry r last)) (sym same)
-    (side_nonneg (right_side t i) (number t i j) (right_side t k) (number t k j) least.positive (sides i least.within) (sides k within) (least.least k within))))))
+    (side_nonneg (right_side t i) (number t i j) (right_side t k) (number t k j) least.positive (sides i least.within) (sides k within) (least.least k within)))))))
     (cases_eq k i)

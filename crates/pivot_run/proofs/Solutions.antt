@@ -4,9 +4,11 @@ use Rattle.std.proofs.Common.{◌≡◌, ◌≢◌, ℕ, suc, ◌*◌, ◌/◌, 
 use Rattle.std.specs.Int.{◌∣◌}
 use Rattle.std.proofs.lemmas.Int.{ints, by_lt_z}
 use Rattle.std.proofs.lemmas.Nat.Gcd.{mod-eq-zero_of_dvd}
+use Rattle.std.specs.Ordering.{int_eq}
 use Rattle.std.proofs.lemmas.Bool.{cases_eq, cond_both}
+use Rattle.std.proofs.lemmas.Bool.Decides.{Decides-int_eq}
 use Rattle.std.proofs.lemmas.List.{length-map, get_or-map, get_or-set_same, get_or-set_other, length-set}
-use Rattle.pivot_run.specs.Rows.{entry, reduced, upright, combined, cleared, divisor_of}
+use Rattle.pivot_run.specs.Rows.{entry, reduced, upright, combined, cleared, divisor_of, eliminated}
 use Rattle.pivot_run.specs.Pivots.{AreAsLong, pivot_row, pivoted, row_at}
 use Rattle.pivot_run.specs.Solutions.{dot, Solves}
 use Rattle.uc_model.proofs.Ring.{linear, mul_comm, mul_assoc, mul-add, mul-zero, sub-mul, neg-mul, mul-neg, le_from_mul, le_antisymm}
@@ -109,20 +111,37 @@ cleared_solved pivot j row v same positive h k =
     let second : e *ℤ dot pivot v ≡ pos 0 = ap (λ x. e *ℤ x) h ∙ mul-zero e in
     no_factor p (dot row v) positive (omega (arith, linear))
 
+-- a row after a pivot: one that is 0 in the column stays, and any other is cleared
+pub by_eliminated : (pivot : List ℤ) (j : ℕ) (row : List ℤ) (P : List ℤ → Type 0) → (entry row j ≡ pos 0 → P row) → P (reduced (cleared pivot j row))
+    → P (eliminated pivot j row)
+by_eliminated pivot j row P stays clears =
+    cond_both (int_eq (entry row j) (pos 0)) row (reduced (cleared pivot j row)) P (λ e. stays ((Decides-int_eq (entry row j) (pos 0)).0 e)) (λ e. clears)
+
+eliminated_solves : (pivot : List ℤ) (j : ℕ) (row : List ℤ) (v : ℕ → ℤ) → length row ≡ length pivot → dot pivot v ≡ pos 0 → dot row v ≡ pos 0
+    → dot (eliminated pivot j row) v ≡ pos 0
+eliminated_solves pivot j row v same h k =
+    by_eliminated pivot j row (λ r. dot r v ≡ pos 0) (λ none. k) (reduced_solves (cleared pivot j row) v (cleared_solves pivot j row v same h k))
+
+eliminated_solved : (pivot : List ℤ) (j : ℕ) (row : List ℤ) (v : ℕ → ℤ) → length row ≡ length pivot → pos 0 <ℤ entry pivot j → dot pivot v ≡ pos 0
+    → dot (eliminated pivot j row) v ≡ pos 0 → dot row v ≡ pos 0
+eliminated_solved pivot j row v same positive h =
+    by_eliminated pivot j row (λ r. dot r v ≡ pos 0 → dot row v ≡ pos 0) (λ none k. k)
+    (λ k. cleared_solved pivot j row v same positive h (reduced_solved (cleared pivot j row) v k))
+
 -- ---- the rows of a pivot
 pub row-pivoted_at : (rows : List (List ℤ)) (i j : ℕ) → i < length rows → row_at (pivoted rows i j) i ≡ reduced (pivot_row rows i j)
 row-pivoted_at rows i j within =
-    let clear = λ (row : List ℤ). reduced (cleared (pivot_row rows i j) j row) in
+    let clear = eliminated (pivot_row rows i j) j in
     get_or-set_same (map clear rows) i (reduced (pivot_row rows i j)) [] (subst (λ n. i < n) (sym (length-map rows clear)) within)
 
-pub row-pivoted_other : (rows : List (List ℤ)) (i j k : ℕ) → k < length rows → k ≢ i → row_at (pivoted rows i j) k ≡ reduced (cleared (pivot_row rows i j) j (row_at rows k))
+pub row-pivoted_other : (rows : List (List ℤ)) (i j k : ℕ) → k < length rows → k ≢ i → row_at (pivoted rows i j) k ≡ eliminated (pivot_row rows i j) j (row_at rows k)
 row-pivoted_other rows i j k within other =
-    let clear = λ (row : List ℤ). reduced (cleared (pivot_row rows i j) j row) in
+    let clear = eliminated (pivot_row rows i j) j in
     get_or-set_other (map clear rows) i k (reduced (pivot_row rows i j)) [] other ∙ get_or-map clear rows k [] [] within
 
 pub length-pivoted : (rows : List (List ℤ)) (i j : ℕ) → length (pivoted rows i j) ≡ length rows
 length-pivoted rows i j =
-    let clear = λ (row : List ℤ). reduced (cleared (pivot_row rows i j) j row) in
+    let clear = eliminated (pivot_row rows i j) j in
     length-set (map clear rows) i (reduced (pivot_row rows i j)) ∙ length-map rows clear
 
 pub pivoted_solves : (rows : List (List ℤ)) (n i j : ℕ) (v : ℕ → ℤ) → AreAsLong rows n → i < length rows → Solves rows v → Solves (pivoted rows i j) v
@@ -133,8 +152,7 @@ pivoted_solves rows n i j v lengths row h k l =
     ⊎_elim
     (λ (same : k ≡ i). ap (λ r. dot r v) (ap (row_at (pivoted rows i j)) same ∙ row-pivoted_at rows i j row) ∙ reduced_solves pivot v here)
     (λ (other : k ≢ i). ap (λ r. dot r v) (row-pivoted_other rows i j k within other)
-    ∙ reduced_solves (cleared pivot j (row_at rows k)) v
-    (cleared_solves pivot j (row_at rows k) v (lengths k within ∙ sym (length-upright j (row_at rows i) ∙ lengths i row)) here (h k within)))
+    ∙ eliminated_solves pivot j (row_at rows k) v (lengths k within ∙ sym (length-upright j (row_at rows i) ∙ lengths i row)) here (h k within))
     (cases_eq k i)
 
 pub pivoted_solved : (rows : List (List ℤ)) (n i j : ℕ) (v : ℕ → ℤ) → AreAsLong rows n → i < length rows → j < n → entry (row_at rows i) j ≢ pos 0
@@ -147,8 +165,7 @@ pivoted_solved rows n i j v lengths row column apart h k within =
     ⊎_elim
     (λ (same : k ≡ i). subst (λ m. dot (row_at rows m) v ≡ pos 0) (sym same) (upright_solved j (row_at rows i) v here))
     (λ (other : k ≢ i).
-    cleared_solved pivot j (row_at rows k) v (lengths k within ∙ sym (length-upright j (row_at rows i) ∙ lengths i row))
+    eliminated_solved pivot j (row_at rows k) v (lengths k within ∙ sym (length-upright j (row_at rows i) ∙ lengths i row))
     (upright_positive j (row_at rows i) (subst (λ m. j < m) (sym (lengths i row)) column) apart) here
-    (reduced_solved (cleared pivot j (row_at rows k)) v
-    (ap (λ r. dot r v) (sym (row-pivoted_other rows i j k within other)) ∙ h k (subst (λ m. k < m) (sym all) within))))
+    (ap (λ r. dot r v) (sym (row-pivoted_other rows i j k within other)) ∙ h k (subst (λ m. k < m) (sym all) within)))
     (cases_eq k i)

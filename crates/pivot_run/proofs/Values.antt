@@ -1,7 +1,7 @@
 -- The values that a basis gives solve the rows: those of its columns make up for one other column.
 -- Cite by `use Rattle.pivot_run.proofs.Values.{values_solve}`.
-use Rattle.std.proofs.Common.{◌≡◌, ℕ, zero, suc, ◌<◌, ◌≤◌, ⊎_elim, refl, sym, ap, subst, ◌∙◌, arith, List, [], ◌∷◌, length, ℤ, pos, ◌+ℤ◌, ◌*ℤ◌, ◌≤ℤ◌, neg_ℤ}
-use Rattle.std.proofs.lemmas.Bool.{cases_lt}
+use Rattle.std.proofs.Common.{◌≡◌, ◌≢◌, ℕ, zero, suc, ◌<◌, ◌≤◌, ⊎_elim, refl, sym, ap, subst, ◌∙◌, arith, List, [], ◌∷◌, length, ℤ, pos, ◌+ℤ◌, ◌*ℤ◌, ◌≤ℤ◌, neg_ℤ}
+use Rattle.std.proofs.lemmas.Bool.{cases_eq, cases_lt}
 use Rattle.pivot_run.specs.Rows.{entry}
 use Rattle.pivot_run.specs.Pivots.{row_at}
 use Rattle.pivot_run.specs.Solutions.{dot}
@@ -33,7 +33,7 @@ dot-at_column (x ∷ xs) (suc a) z =
     let rest = dot-at_column xs a z in omega (arith, linear)
 
 -- what the values of the first n rows of the basis make of a row
-pub sum_before : (t : Table) (column : ℕ) (whole : ℤ) (share : ℕ → ℤ) (l n : ℕ) → n ≤ l → n ≤ length t.basis → l < length t.rows → IsBasic t
+pub sum_before : (t : Table) (column : ℕ) (whole : ℤ) (share : ℕ → ℤ) (l n : ℕ) → n ≤ l → n ≤ length t.rows → l < length t.rows → IsBasic t
     → dot (row_at t.rows l) (values_of t column whole share n) ≡ number t l column *ℤ whole
 sum_before t column whole share l zero before within row is = dot-at_column (row_at t.rows l) column whole
 sum_before t column whole share l (suc n) before within row is =
@@ -44,8 +44,8 @@ sum_before t column whole share l (suc n) before within row is =
     let rest = sum_before t column whole share l n (omega arith) (omega arith) row is in
     omega (arith, linear)
 
-pub values_solve : (t : Table) (column : ℕ) (whole : ℤ) (share : ℕ → ℤ) (l n : ℕ) → l < n → n ≤ length t.basis → l < length t.rows → IsBasic t
-    → ((k : ℕ) → k < length t.basis → number t k (basic t k) *ℤ share k ≡ whole)
+pub values_solve : (t : Table) (column : ℕ) (whole : ℤ) (share : ℕ → ℤ) (l n : ℕ) → l < n → n ≤ length t.rows → l < length t.rows → IsBasic t
+    → ((k : ℕ) → k < length t.rows → number t k (basic t k) *ℤ share k ≡ whole)
     → dot (row_at t.rows l) (values_of t column whole share n) ≡ pos 0
 values_solve t column whole share l zero before within row is shares = absurd (omega arith)
 values_solve t column whole share l (suc n) before within row is shares =
@@ -80,11 +80,21 @@ at_column-nonneg zero z (suc c) h = le_refl (pos 0)
 at_column-nonneg (suc a) z zero h = le_refl (pos 0)
 at_column-nonneg (suc a) z (suc c) h = at_column-nonneg a z c h
 
+at_column-other : (a : ℕ) (z : ℤ) (c : ℕ) → a ≢ c → at_column a z c ≡ pos 0
+at_column-other zero z zero h = absurd (h refl)
+at_column-other zero z (suc c) h = refl
+at_column-other (suc a) z zero h = refl
+at_column-other (suc a) z (suc c) h = at_column-other a z c (λ e. h (ap suc e))
+
 pub values_nonneg : (t : Table) (column : ℕ) (whole : ℤ) (share : ℕ → ℤ) (n c : ℕ) → pos 0 ≤ℤ at_column column whole c
-    → ((k : ℕ) → k < n → (number t k column *ℤ share k) ≤ℤ pos 0) → pos 0 ≤ℤ values_of t column whole share n c
+    → ((k : ℕ) → k < n → basic t k ≡ c → (number t k column *ℤ share k) ≤ℤ pos 0) → pos 0 ≤ℤ values_of t column whole share n c
 values_nonneg t column whole share zero c h each = h
 values_nonneg t column whole share (suc n) c h each =
     let rest = values_nonneg t column whole share n c h (λ k l. each k (omega arith)) in
-    let last = each n (omega arith) in
-    let one = at_column-nonneg (basic t n) (neg_ℤ (number t n column *ℤ share n)) c (omega (arith, linear)) in
+    let one : pos 0 ≤ℤ at_column (basic t n) (neg_ℤ (number t n column *ℤ share n)) c =
+    ⊎_elim
+    (λ (here : basic t n ≡ c). let last = each n (omega arith) here in
+    at_column-nonneg (basic t n) (neg_ℤ (number t n column *ℤ share n)) c (omega (arith, linear)))
+    (λ (other : basic t n ≢ c). subst (λ x. pos 0 ≤ℤ x) (sym (at_column-other (basic t n) (neg_ℤ (number t n column *ℤ share n)) c other)) (le_refl (pos 0)))
+    (cases_eq (basic t n) c) in
     omega (arith, linear)

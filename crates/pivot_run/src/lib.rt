@@ -8,20 +8,20 @@ mod numbers;
 mod pivots;
 mod row;
 mod rows;
+mod stages;
 mod stop;
 mod tableau;
 mod target;
-mod whole;
 mod wide;
 
 pub use laws::{
-    bases_leave_one_number, bases_solve, basic_values_are_not_negative, pivots_keep_bases,
-    pivots_keep_right_sides, pivots_keep_solutions, runs_keep, whole_runs_keep,
+    bases_solve, basic_values_are_not_negative, pivots_keep_bases, pivots_keep_right_sides,
+    pivots_keep_solutions, runs_keep,
 };
-pub use pivots::{MAX_PIVOTS, run};
+pub use pivots::MAX_PIVOTS;
 pub use row::Row;
+pub use stages::run;
 pub use stop::{Stop, What};
 pub use tableau::Tableau;
 pub use target::Target;
-pub use whole::run_whole;
 pub use wide::Wide;
