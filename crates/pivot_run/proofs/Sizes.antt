@@ -1,8 +1,10 @@
 -- The largest number of a row tells of all products with one number.
 -- Cite by `use Rattle.pivot_run.proofs.Sizes.{narrow_zero}`.
-use Rattle.std.proofs.Common.{◌≡◌, ℕ, ◌*◌, ◌^◌, ◌<◌, ⊎_elim, sym, subst, arith, List, ℤ, pos, unsigned_abs, lit<, zero-mul}
+use Rattle.std.proofs.Common.{◌≡◌, ℕ, ◌*◌, ◌^◌, ◌<◌, ◌≤◌, ⊎_elim, sym, subst, arith, List, length, ℤ, pos, unsigned_abs, lit<, zero-mul}
 use Rattle.std.proofs.lemmas.Nat.{mul-le}
-use Rattle.pivot_run.specs.Rows.{IsLargest, entry}
+use Rattle.std.proofs.lemmas.Bool.{cases_lt}
+use Rattle.std.proofs.lemmas.List.{get_or_past}
+use Rattle.pivot_run.specs.Rows.{IsLargest, IsSmall, entry}
 use Rattle.pivot_run.specs.Pivots.{ClearingForms, IsNarrow}
 
 -- a row that is 0 in the pivot's column: the other products are 0
@@ -17,3 +19,10 @@ narrow_zero pivot j row largest zero is small a b forms = ⊎_elim
     (λ second. subst (λ x. unsigned_abs x * unsigned_abs b < 2 ^ 126) (sym second.0)
     (subst (λ x. unsigned_abs x * unsigned_abs b < 2 ^ 126) (sym zero) (subst (λ n. n < 2 ^ 126) (sym (zero-mul (unsigned_abs b))) (lit< tt))))
     forms.2
+
+-- past the end of a row all is 0
+pub small_from : (row : List ℤ) (n : ℕ) → length row ≤ n → ((k : ℕ) → k < n → unsigned_abs (entry row k) < 2 ^ 127) → IsSmall row
+small_from row n all each c = ⊎_elim
+    (λ (less : c < n). each c less)
+    (λ (past : n ≤ c). subst (λ x. unsigned_abs x < 2 ^ 127) (sym (get_or_past row c (pos 0) (omega arith))) (lit< tt))
+    (cases_lt c n)
