@@ -8,7 +8,7 @@ import sys
 import tempfile
 import unittest
 import unittest.mock
-from typing import List, Tuple
+from typing import Tuple
 
 sys.dont_write_bytecode = True
 HERE = pathlib.Path(__file__).resolve().parent

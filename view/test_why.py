@@ -79,7 +79,6 @@ CASES: Tuple[Tuple[str, Dict[str, Any], Dict[str, Any], List[str], str, Tuple[st
     )),
     ("a rise in the first hour", {"demand": [145, 90, 85]}, {}, [ray("1 0 0", "0 0 0", "ramp 1 1 1 0")], "ray 1", (
         "Hour 1: demand is 145 MW; all units at their most, with the ramps and times that lead there, give 140 MW.",
-        "  Beside it demand is 90 MW in hour 2.",
         '  By unit, in MW: "coal" 90, "gas" 40, "wind" 10.',
     )),
     ("a fall in the first hour", {"demand": [25, 90, 85]}, {"coal": MUST}, [ray("-1 0 0", "0 0 0", "ramp 1 1 0 1")], "ray 1", (

@@ -1,11 +1,10 @@
 """Where a value stands in a JSON text, and which line and column a place is."""
 from __future__ import annotations
 
+import json
 import re
 from dataclasses import dataclass
 from typing import Iterator, List, Optional, Tuple, Union
-
-import json
 
 SHOWN = 60
 _BLANK = re.compile(r"[ \t\r\n]*")

@@ -20,7 +20,7 @@ ABOUT = """Says in words why `uc solve` ended with status 3, that no schedule ex
 their numbers from the instance. With the report of status 2 in the certificate's place it says what the report's last line means. It is no
 checker: `uc check INSTANCE CERT` tells whether the certificate holds. Status 0 where a reason was told, 1 where a file was refused, 2 where
 the words are faulty."""
-TOLD = 5
+TOLD = 3
 
 
 def main(words: List[str]) -> int:
@@ -40,7 +40,7 @@ def _parser() -> argparse.ArgumentParser:
     parser = argparse.ArgumentParser(prog="uc-why", description=ABOUT)
     parser.add_argument("instance", metavar="INSTANCE", help="the instance, pglib-uc JSON")
     parser.add_argument("certificate", metavar="CERT", help="the certificate that claims infeasibility; of status 2 the report")
-    parser.add_argument("--all", action="store_true", help=f"tell the reasons of all leaves of a tree, and not those of the {TOLD} most common kinds")
+    parser.add_argument("--all", action="store_true", help=f"tell each reason of a tree, and not the {TOLD} alone that exclude most leaves")
     return parser
 
 
@@ -97,7 +97,8 @@ def _reasons(system: System, shared: List[Shared], skipped: int, most: int) -> L
         lines += ["", _which(system, it, count), *_reason(it)]
     left = shared[most:]
     if left:
-        lines += ["", f"{_leaves(sum(len(it.leaves) for it in left))} have {len(left)} other reasons; --all tells them."]
+        others = "another reason" if len(left) == 1 else f"{len(left)} other reasons"
+        lines += ["", f"Of {_leaves(sum(len(it.leaves) for it in left))} `uc-why --all` tells {others}."]
     if skipped:
         lines += ["", f"{_leaves(skipped)} weren't looked at."]
     return lines

@@ -17,7 +17,7 @@ def page_lines(path: str, data: bytes, report: Report, certificate_path: Optiona
     if report.outcome is not Outcome.INFEASIBLE or certificate_path is None:
         return []
     try:
-        lines = why_lines(path, data, certificate_path, certificate_data)
+        lines = why_lines(path, data, certificate_path, certificate_data, 1)
     except Refusal:
         return []
     return [line for line in lines[1:] if line]

@@ -17,8 +17,10 @@ UNITS_TOLD = 12
 PARTS, FINE_PARTS = (1, 2, 4), (1, 2, 3, 4, 5, 6, 8, 10, 20, 50, 100)
 # of so many hours each pair is tried by itself
 MOST_HOURS = 6
-# after so many walks over a unit's hours nothing plainer is sought
-MOST_WALKS = 30_000
+# after walks of units over so many hours in all nothing plainer is sought
+MOST_WALKED = 200_000
+# how many hours of a sum are told one by one
+HOURS_TOLD = 12
 # demand that is so many times that of the hours beside it looks like a slip
 SLIP = 3
 
@@ -60,7 +62,7 @@ def _plainest(system: System, weights: Weights, decided: Decided, is_exact: bool
     start = next((tried for tried in (*map(weights.rounded, PARTS), weights) if holds(tried)), None)
     if start is None:
         return None
-    limit = system.walks + MOST_WALKS
+    limit = system.walks + MOST_WALKED // system.periods
     found = _fewer(start, holds, lambda: system.walks > limit)
     if not _is_plain(found):
         tried = (*_simple(found), *map(found.rounded, FINE_PARTS))
@@ -123,7 +125,7 @@ def _one_hour(system: System, weights: Weights, most: Most, is_exact: bool) -> T
     pi, mu = weights.demand[t - 1], weights.reserve[t - 1]
     demand, reserve = f"demand is {_mw(system.demand[t - 1])}", f"{_mw(system.reserves[t - 1])}"
     ramps = ", with the ramps and times that lead there," if is_exact else ""
-    details = [*_beside(system, t, bool(pi), bool(mu)), *_parts(system, weights, most)]
+    details = [*_beside(system, t, bool(pi), bool(mu), is_exact), *_parts(system, weights, most)]
     if pi < 0 and mu:
         lead = f"hour {t}: {demand} and reserve {reserve}"
         return f"{lead}; with so much reserve the units{ramps} give at least {_mw(-most.given + mu * system.reserves[t - 1])}.", details
@@ -135,8 +137,8 @@ def _one_hour(system: System, weights: Weights, most: Most, is_exact: bool) -> T
     return f"hour {t}: {asked}; all units at their most{ramps} give {_mw(most.given)}.", details
 
 
-def _beside(system: System, t: int, has_demand: bool, has_reserve: bool) -> List[str]:
-    """The demand and the reserve of the hours beside one."""
+def _beside(system: System, t: int, has_demand: bool, has_reserve: bool, is_exact: bool) -> List[str]:
+    """The demand and the reserve of the hours beside one; where ramps lead there only what looks like a slip."""
     hours = [it for it in (t - 1, t + 1) if 1 <= it <= system.periods]
     rows = [("demand", "demand", system.demand)] * has_demand + [("reserve", "reserves", system.reserves)] * has_reserve
     lines = []
@@ -144,7 +146,8 @@ def _beside(system: System, t: int, has_demand: bool, has_reserve: bool) -> List
         texts = [f"{_mw(row[it - 1])} in hour {it}" for it in hours]
         slip = _slip(row[t - 1], [row[it - 1] for it in hours])
         asked = f" Hour {t} has {slip}: is entry {t} of `{field}` as it should be?" if slip else ""
-        lines.append(f"Beside it {word} is {joined(texts)}.{asked}")
+        if slip or not is_exact:
+            lines.append(f"Beside it {word} is {joined(texts)}.{asked}")
     return lines
 
 
@@ -179,8 +182,8 @@ def _two_hours(system: System, weights: Weights, most: Most, is_exact: bool) -> 
 def _many_hours(system: System, weights: Weights, most: Most, is_exact: bool) -> Tuple[str, List[str]]:
     """A weighed sum over several hours."""
     parts = []
-    for row, word in ((weights.demand, "demand"), (weights.reserve, "reserve")):
-        for sign, link in ((1, ", plus "), (-1, ", less ")):
+    for sign, link in ((1, ", plus "), (-1, ", less ")):
+        for row, word in ((weights.demand, "demand"), (weights.reserve, "reserve")):
             hours = [t for t, n in enumerate(row, 1) if n * sign > 0]
             if hours:
                 parts.append((link, f"{word} of {_weighed_hours(row, hours, weights.size)}"))
@@ -205,10 +208,12 @@ def _weighed_hours(row: Tuple[int, ...], hours: List[int], size: int) -> str:
     if all(abs(row[t - 1]) == size for t in hours):
         return hour_list(hours)
     texts = []
-    for t in hours:
+    for t in hours[:HOURS_TOLD]:
         part = Fraction(abs(row[t - 1]), size)
         weight = str(part) if part.denominator <= max(FINE_PARTS) else f"{float(part):.3g}"
         texts.append(f"{t}" if part == 1 else f"{t} (weight {weight})")
+    if len(hours) > HOURS_TOLD:
+        texts.append(f"{len(hours) - HOURS_TOLD} more")
     return ("hour " if len(hours) == 1 else "hours ") + joined(texts)
 
 

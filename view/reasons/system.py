@@ -15,8 +15,8 @@ from schedule_view.shortages import Penalty
 
 CHECKER = pathlib.Path(__file__).resolve().parent.parent.parent / "examples/check.py"
 MOST_INSTANCE = 2**26
-# how many systems at weights are kept
-MOST_KEPT = 400
+# how many units at weights are kept
+MOST_KEPT = 20_000
 
 # by unit, from 1, and by period: whether the unit is on there
 Decided = Dict[int, Dict[int, int]]
@@ -140,7 +140,7 @@ class System:
 
     def _priced(self, weights: Weights) -> Any:
         if weights not in self._kept:
-            if len(self._kept) >= MOST_KEPT:
+            if len(self._kept) * len(self.names) >= MOST_KEPT:
                 self._kept.clear()
             table = check.Record(scale=0, pi=list(weights.demand), mu=list(weights.reserve), ramps={})
             self._kept[weights] = check.PricedInstance(self.instance, table)
