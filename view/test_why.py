@@ -11,6 +11,7 @@ import re
 import sys
 import tempfile
 import unittest
+import unittest.mock
 from typing import Any, Dict, List, Tuple
 
 sys.dont_write_bytecode = True
@@ -221,6 +222,30 @@ class Reasons(WhyTest):
                 status, out, err = self.run_why(path, cert)
                 self.assertEqual((status, out), (1, ""))
                 self.assertTrue(err.startswith(f"uc-why: {cert}: {place}: the instance doesn't bear out "), err)
+
+    def test_tables_past_their_limits(self) -> None:
+        path, cert = self.files(("", {}, {}, [ray("0 1 0", "0 -1 0")], "ray 1", ()))
+        self.assertIn(f"{cert}: certificate: C1 table 1; `uc check` refuses", self.run_why(path, cert)[2])
+
+    def test_few_reasons_of_many(self) -> None:
+        case = next(case for case in CASES if case[0] == "a tree of units")
+        with unittest.mock.patch.object(command, "TOLD", 1):
+            files = self.files(case)
+            self.assertTrue(self.run_why(*files)[1].endswith("\n\nOf 1 leaf `uc-why --all` tells another reason.\n"))
+            self.assertNotIn("--all", self.run_why(*files, "--all")[1])
+
+    def test_rules_in_words(self) -> None:
+        system = System("in.json", json.dumps(changed({}, {"coal": {"time_up_t0": 1}})).encode(), (0, 0))
+        for rule, words in (
+            ("M2", "it was on for 1 hour of at least 2 before hour 1, and so is on in hour 1"),
+            ("M4", "once started it stays on for at least 2 hours"),
+            ("M8", "its points reach 80 MW above its minimum"),
+            ("M9", "it gives at most 60 MW in the hour of a start"),
+            ("M10", "it gives at most 60 MW in the hour before a stop"),
+            ("M11", "it rises by at most 30 MW an hour from the 60 MW before hour 1"),
+            ("M12", "it falls by at most 30 MW an hour from the 60 MW before hour 1"),
+        ):
+            self.assertEqual(rule_words(system, 1, rule, {}), f"{words} ({rule})")
 
     def test_files_of_other_claims(self) -> None:
         path, cert = self.files(CASES[0])

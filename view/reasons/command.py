@@ -82,7 +82,12 @@ def _read(path: str, data: bytes, certificate_path: str, certificate_data: bytes
     system = System(path, data, read.penalty)
     if read.sizes != (system.periods, len(system.names), len(system.renewable_names)):
         raise Refusal(certificate_path, "line 2", "the sizes aren't those of the instance")
-    return system, check.certificate_of(certificate_data)
+    certificate = check.certificate_of(certificate_data)
+    try:
+        check.check_tables(certificate.tables)
+    except check.Refused as refused:
+        raise Refusal(certificate_path, "", f"{refused}; `uc check` refuses such a certificate") from None
+    return system, certificate
 
 
 def _reasons(system: System, shared: List[Shared], skipped: int, most: int) -> List[str]:

@@ -2,7 +2,7 @@
 from __future__ import annotations
 
 from dataclasses import dataclass
-from typing import Any, Dict, Iterator, List, Optional, Tuple
+from typing import Any, Dict, Iterable, Iterator, List, Optional, Tuple
 
 from schedule_view.amounts import short_text
 from schedule_view.refusal import shown
@@ -115,18 +115,22 @@ def _reason(system: System, certificate: Any, leaf: Leaf) -> Reason:
     if table.scale or leaf.word not in ("ray", "exact-ray"):
         raise Unfounded(leaf)
     value = system.value(table, leaf.decided, leaf.is_exact)
-    if value is None:
-        return next(filter(None, (_empty(system, g, leaf, leaf.is_exact) for g in range(1, len(system.names) + 1))))
-    if value <= 0:
+    if value is not None and value <= 0:
         raise Unfounded(leaf)
-    low = _below(system, table)
-    if low:
-        return low
-    for g in priced:
-        reason = _empty(system, g, leaf, True)
-        if reason:
-            return reason
-    return ray_reason(system, table, leaf.decided, leaf.is_exact) or _ramps(system, leaf, priced, value)
+    every = range(1, len(system.names) + 1)
+    if value is None:
+        reason = _first_empty(system, every, leaf, leaf.is_exact)
+    else:
+        reason = _below(system, table) or _first_empty(system, priced, leaf, True)
+        reason = reason or ray_reason(system, table, leaf.decided, leaf.is_exact) or _first_empty(system, every, leaf, True)
+    if reason is None:
+        raise Unfounded(leaf)
+    return reason
+
+
+def _first_empty(system: System, units: Iterable[int], leaf: Leaf, exact: bool) -> Optional[Reason]:
+    """The rules of the first of some units that has nothing left at a leaf; None where each has something."""
+    return next(filter(None, (_empty(system, g, leaf, exact) for g in units)), None)
 
 
 def _empty(system: System, g: int, leaf: Leaf, exact: bool) -> Optional[Reason]:
@@ -154,14 +158,6 @@ def _below(system: System, table: Any) -> Optional[Reason]:
         output = f"{short_text(unit.p0 + unit.pmin)} MW before hour 1, {short_text(-unit.p0)} MW below its minimum"
         texts.append(f"{name} starts {short_text(lack)} MW below what its ramp of {short_text(unit.ramp_up)} MW an hour can reach ({output})")
     return Reason(("below", *lacking), f"hour 1: {joined(texts)}.", ["The ramp holds in an hour in which the unit is off, too."])
-
-
-def _ramps(system: System, leaf: Leaf, priced: List[int], value: int) -> Reason:
-    """A ray that rests on rules of ramps and isn't told more plainly."""
-    names = joined([shown(system.names[g - 1]) for g in priced[:8]]) if priced else "the units"
-    more = f" and {len(priced) - 8} more" if len(priced) > 8 else ""
-    sentence = f"demand, reserve and the ramps of {names}{more} don't go together (ray of table {leaf.number})."
-    return Reason(("ramps", tuple(priced)), sentence, [])
 
 
 def decisions(system: System, decided: Decided) -> str:
