@@ -92,7 +92,7 @@ CERTIFICATES = (
     ("size 4 2 1 1", "size 4 2 1 1", "C10", ("with other prices of what may be short", "was made with no --shed and no --spill-reserve.")),
     ("size 4 2 1 1", "size 4 2 1 1", "C11", ("it holds, and has no schedule",)),
     ("size 4 2 1 1", "size 4 2 1 1", "C12", ("its schedule is over a denominator",)),
-    ("size 4 2 1 1", "size 4 2 1 1", "C13", ("has no table of the number", "has 1 tables.")),
+    ("size 4 2 1 1", "size 4 2 1 1", "C13", ("has no table of the number", "has 1 table.")),
     ("size 4 2 1 1", "size 4 2 1 1", "C14", ("this table is a ray",)),
 )
 USAGE = """usage: uc solve FILE --cert FILE [--units N] [--workers N] [--gap PPM] [--exact]
@@ -230,6 +230,8 @@ class Certificates(ExplainTest):
         self.assertIn("has no node 7: it isn't the one of that run.", self.told("certificate: C4 node 7", *words))
         self.assertIn("has no table 2: it isn't the one of that run.", self.told("certificate: C1 table 2", *words))
         self.assertIn("no number of it is past a limit", self.told("certificate: C1 table 1", *words))
+        halves = str(HERE.parent / "examples/tests/halves.cert")
+        self.assertIn(f"The denominator of {halves} is 2.", self.told("certificate: C12", "--certificate", halves))
         self.assertIn("A file that was given isn't the one of that run: ", self.told("certificate: C4 node 1", "--certificate", str(COAST)))
 
 

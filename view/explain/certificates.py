@@ -2,12 +2,12 @@
 from __future__ import annotations
 
 import re
-from typing import List, Optional, Tuple
+from typing import Any, List, Optional, Tuple
 
 from reasons.hours import joined
 from reasons.leaves import decisions, leaves_of
 from reasons.system import System, check
-from schedule_view.amounts import amount, dollars_text, short_text
+from schedule_view.amounts import amount, dollars_text
 from schedule_view.certificate import read_certificate
 from schedule_view.instance import Instance, read_instance
 from schedule_view.refusal import Refusal, shown
@@ -64,7 +64,7 @@ def code_fault(code: str, text: str, certificate: File, instance: File) -> Optio
 
 
 def _money(text: str) -> str:
-    return short_text(amount(text) or 0)
+    return dollars_text(amount(text) or 0)
 
 
 def _where(thermal: Optional[str], renewable: Optional[str], period: str, instance: File) -> str:
@@ -90,20 +90,30 @@ def _more(code: str, found: "re.Match[str]", certificate: File, instance: File) 
     if certificate is None:
         return ["Give the certificate by --certificate to see the line."] if code in ("C1", "C4", "C5", "C6", "C7") else []
     path, data = certificate
-    read = read_certificate(path, data)
+    read = _read(path, data)
     if code == "C1":
-        return _table(path, data, int(found[1]))
+        return _table(path, data, read, int(found[1]))
     if code in ("C4", "C5", "C6", "C7"):
-        return _node(path, data, int(found[1]), instance)
+        return _node(path, data, read, int(found[1]), instance)
     if code == "C9" and instance:
         made = read_instance(*instance)
-        return [f"{path} has {_sizes(read.sizes)}; {instance[0]} has {_sizes(_sizes_of(made))}."]
+        return [f"{path} has {_sizes(read.size)}; {instance[0]} has {_sizes(_sizes_of(made))}."]
     if code == "C10":
-        shed, spill_reserve = read.penalty
+        shed, spill_reserve = read.prices
         return [f"{path} was made with {_price('--shed', shed)} and {_price('--spill-reserve', spill_reserve)}."]
+    if code == "C12":
+        return [f"The denominator of {path} is {read.denominator}."]
     if code == "C13":
-        return [f"{path} has {len(check.certificate_of(data).tables):,} tables."]
+        return [f"{path} has {len(read.tables):,} {'table' if len(read.tables) == 1 else 'tables'}."]
     return []
+
+
+def _read(path: str, data: bytes) -> Any:
+    """The certificate as `examples/check.py` has it. Refused where it has no text."""
+    try:
+        return check.certificate_of(data)
+    except check.Refused as refused:
+        raise Refusal(path, "", str(refused)) from None
 
 
 def _sizes(sizes: Tuple[int, ...]) -> str:
@@ -118,13 +128,12 @@ def _price(option: str, price: int) -> str:
     return f"{option} {price}" if price else f"no {option}"
 
 
-def _table(path: str, data: bytes, number: int) -> List[str]:
+def _table(path: str, data: bytes, read: Any, number: int) -> List[str]:
     """The line of a table, and its first number past a limit."""
     lines = [n for n, line in enumerate(data.split(b"\n"), 1) if line.startswith((b"table ", b"next "))]
-    tables = check.certificate_of(data).tables
-    if number > len(tables):
+    if number > len(read.tables):
         return [f"{path} has no table {number}: it isn't the one of that run."]
-    table, faults = tables[number - 1], []
+    table, faults = read.tables[number - 1], []
     if table.scale > 10**9:
         faults.append(f"K is {table.scale:,}")
     for word, row, least in (("pi", table.pi, -(10**14)), ("mu", table.mu, 0)):
@@ -135,9 +144,8 @@ def _table(path: str, data: bytes, number: int) -> List[str]:
     return [f"{path} line {lines[number - 1]:,}: table {number}; {what}."]
 
 
-def _node(path: str, data: bytes, number: int, instance: File) -> List[str]:
+def _node(path: str, data: bytes, read: Any, number: int, instance: File) -> List[str]:
     """The line of a node, and what is decided on the way to it."""
-    read = check.certificate_of(data)
     if number > len(read.nodes):
         return [f"{path} has no node {number}: it isn't the one of that run."]
     line = len(data.split(b"\n")) - 2 - len(read.nodes) + number

@@ -96,7 +96,7 @@ RULES = {
 CERTIFICATE_CODES = {
     "C1": "a number of {0} is past its limit: K is at most 10^9, the others at most 10^14 in size, and mu and ramps aren't below 0",
     "C2": "the schedule breaks rule {0}{1}: {2}",
-    "C3": "the schedule's cost is written as ${0}, and adds up to ${1}",
+    "C3": "the schedule's cost is written as {0}, and adds up to {1}",
     "C4": "the leaf at {0} doesn't carry the claimed bound: its table has K = 0, or gives less than the claim",
     "C5": "the leaf at {0} says by a ray that no schedule is left there, and the ray doesn't show it: its K is above 0, or its value isn't above 0",
     "C6": "the leaf at {0} says that a unit has nothing that its rules allow there, and it has",
