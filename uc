@@ -145,7 +145,7 @@ leave() {
 fail() {
   trap - EXIT
   tail -n 15 -- "$work/log" >&2
-  rm -rf -- "$work/uc" "$work/made" "$work/owner"
+  rm -rf -- "$work/uc" "$work/made" "$work/owner" "$work/child" "$work/start"
   say "the program could not be built; the log is $work/log"
   exit 70
 }
