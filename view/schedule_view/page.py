@@ -106,7 +106,7 @@ def _head(instance: Instance, report: Report, gap: Optional[int], priced: List[S
         facts.append(("Bound", _money(report.bound)))
     if report.schedule and report.bound is not None:
         left, parts = report.schedule.cost - report.bound, gap_parts(report.schedule.cost, report.bound)
-        facts.append(("Gap", _money(left) + element("small", ", " + _percent(parts))))
+        facts.append(("Gap", f"{_money(left)}, {_percent(parts)}"))
     if gap is not None:
         facts.append(("Gap asked for", _percent(gap)))
     facts += [(shortage.name.capitalize(), text(shortage.size_text)) for shortage in priced]
