@@ -52,7 +52,7 @@ def _parser() -> argparse.ArgumentParser:
     return parser
 
 
-def _number(least: int, most: int) -> Callable[[str], int]:
+def number_of(least: int, most: int) -> Callable[[str], int]:
     """What reads a whole number within these limits; a word that is none is an error of the words."""
 
     def read(text: str) -> int:
@@ -65,7 +65,7 @@ def _number(least: int, most: int) -> Callable[[str], int]:
 
 
 # a gap, and a price of what is short, as `uc` takes them
-gap_of, price_of = _number(0, MILLION), _number(1, MOST_PENALTY)
+gap_of, price_of = number_of(0, MILLION), number_of(1, MOST_PENALTY)
 
 
 def _run(given: argparse.Namespace) -> None:
