@@ -230,7 +230,8 @@ state_of() {
 tell_version() {
   local commit='' kit='' path
   if [ "$(git -C "$top" rev-parse --show-toplevel 2>/dev/null)" = "$top" ]; then
-    commit="$(git -C "$top" describe --always --dirty=', edited'), $(git -C "$top" log -1 --format=%cs)"
+    commit=$(git -C "$top" log -1 --format='%h of %cs')
+    git -C "$top" diff --quiet HEAD || commit+=', edited'
   fi
   if path=$(command -v rt); then kit=$(head -n 1 -- "$(dirname -- "$(readlink -f -- "$path")")/../KIT-ID" 2>/dev/null) || true; fi
   echo "uc ${commit:-of no commit}"
@@ -238,6 +239,15 @@ tell_version() {
   echo "program without proofs: $(state_of "$unproved_program")"
   echo "kit: ${kit:-none, as rt is not on the path}"
   echo 'certificates: writes version 2, or 3 with --exact-units; reads 1, 2 and 3'
+}
+
+# The page of all words, and what each command of view/ says of itself in its second line.
+tell_help() {
+  local it
+  cat "$top/launch/help.txt"
+  for it in "$top"/view/uc-*; do
+    if [ -f "$it" ]; then printf '  %-17s  %s\n' "view/${it##*/}" "$(sed -nE '2s/^"""([^;]*)[;.].*/\1/p' "$it")"; fi
+  done
 }
 
 asks_for_help() {
@@ -280,7 +290,10 @@ case ${UC_BUILD:-proved} in
     exit 5
     ;;
 esac
-if asks_for_help "$@"; then exec cat "$top/launch/help.txt"; fi
+if asks_for_help "$@"; then
+  tell_help
+  exit
+fi
 case ${1-} in version | --version | -V)
   tell_version
   exit

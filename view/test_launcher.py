@@ -278,7 +278,8 @@ class Words(LauncherTest):
         self.assertEqual(self.run_uc("check", "", "two words"), (1, "proved check  two words\n", ""))
 
     def test_help_and_version(self) -> None:
-        page = (TOP / "launch/help.txt").read_text()
+        self.put("top/view/uc-view", '#!/usr/bin/env python3\n"""Draws a report; `uc-view --help` tells the words."""\n')
+        page = (TOP / "launch/help.txt").read_text() + f"  {'view/uc-view':17}  Draws a report\n"
         for words in (["help"], ["--help"], ["solve", "--help"], ["solve", "a", "-h"]):
             self.assertEqual(self.run_uc(*words), (0, page, ""))
         self.assertEqual(self.run_uc("check", "--", "-h")[0], 5)
