@@ -7,6 +7,8 @@ import pathlib
 import sys
 from typing import Callable, List, Optional
 
+from reasons.page import page_lines
+
 from .amounts import MILLION, whole
 from .certificate import Certificate, read_certificate
 from .costs import hourly_costs
@@ -72,11 +74,14 @@ def _run(given: argparse.Namespace) -> None:
     """Everything is read, checked and drawn before the first file is written."""
     inputs = [path for path in (given.instance, given.report, given.certificate, given.uplift) if path is not None]
     refuse_shared(inputs, [path for path in (given.page, given.table, given.json) if path is not None])
-    instance = read_instance(given.instance, read_file(given.instance))
+    data = read_file(given.instance)
+    instance = read_instance(given.instance, data)
     report = read_report(given.report, read_file(given.report))
     certificate: Optional[Certificate] = None
+    certificate_data = b""
     if given.certificate is not None:
-        certificate = read_certificate(given.certificate, read_file(given.certificate))
+        certificate_data = read_file(given.certificate)
+        certificate = read_certificate(given.certificate, certificate_data)
     penalty = _penalty(given, certificate)
     check_report(instance, report, penalty)
     if given.gap is not None:
@@ -84,8 +89,9 @@ def _run(given: argparse.Namespace) -> None:
     if certificate:
         check_certificate(instance, report, certificate)
     uplift = _uplift(given, instance, report, penalty)
+    why = page_lines(given.instance, data, report, given.certificate, certificate_data)
     name = pathlib.PurePath(given.instance).name
-    outputs = [(given.page, page(instance, report, certificate, name, given.gap, penalty, uplift))]
+    outputs = [(given.page, page(instance, report, certificate, name, given.gap, penalty, uplift, why))]
     if given.table is not None:
         table = io.StringIO()
         write_table(instance, report.schedule, prices_of(certificate, uplift), penalty, table)
