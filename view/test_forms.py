@@ -22,7 +22,8 @@ class Numbers(ViewTest):
     def test_head_says_dollars_and_megawatts(self) -> None:
         text = self.drawn(*COAST_FILES).text
         # by hand: 5046.666668 less 4793.333330, and 60 + 90.5 + 120 + 40
-        for words in ("Gap$253.333338, 5.0199 %", "Greatest demand120 MW", "Demand in all310.5 MWh", "Money is in dollars ($), power in megawatts (MW)"):
+        measures = "Money is in dollars ($), power in megawatts (MW), energy in megawatt-hours (MWh), prices in $/MWh."
+        for words in ("Gap$253.333338, 5.0199 %", "Greatest demand120 MW", "Demand in all310.5 MWh", measures):
             self.assertIn(words, text)
 
     def test_numbers_open_without_a_pointer(self) -> None:

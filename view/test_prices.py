@@ -94,7 +94,8 @@ class PricesTest(unittest.TestCase):
 
     def tree(self) -> pathlib.Path:
         """A certificate with two leaves, the first of which has a table that tells nothing, and with a table that no leaf uses."""
-        text = self.whole.replace("size 4 2 1 1", "size 4 2 1 3").replace("table", f"{ZERO}table 0\npi 1 1 1 1\nmu 0 0 0 0\nramps 0\ntable", 1)
+        tables = f"{ZERO}table 0\npi 1 1 1 1\nmu 0 0 0 0\nramps 0\ntable"
+        text = self.whole.replace("size 4 2 1 1", "size 4 2 1 3").replace("table", tables, 1)
         return self.put("tree.cert", text.replace("bound 1\n", "split 1 1\nbound 3\nbound 1\n").replace("4793.333330", "4900.000000", 1))
 
 
@@ -146,7 +147,7 @@ class Refusals(PricesTest):
 
     def test_schedules_that_do_not_hold(self) -> None:
         cheap = self.put("cheap.cert", self.whole.replace("schedule 5046.666668", "schedule 5046.666667"))
-        told = "`uc uplift` of its schedule ended with status 9: certificate: C3 written 5046.666667 computed 5046.666668"
+        told = "table 1 of cheap.cert: `uc uplift` ended with status 9: certificate: C3 written 5046.666667 computed 5046.666668"
         self.refused(f"{cheap}: {told}", COAST, cheap)
 
     def test_searches_that_fail(self) -> None:

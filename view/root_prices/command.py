@@ -20,10 +20,10 @@ from .one_leaf import LEAST_CLAIM, one_leaf_text
 from .program import Program
 
 STOPPED = 130
-ABOUT = """Writes a certificate of the same schedule with one table: the one whose uplifts come to least at the root of the tree, among the
-tables of CERT and those of a search with a small budget. `uc uplift` prints the prices and uplifts of what is written, and `uc check` accepts
-it. Where a certificate has a tree, each of its tables is made for a leaf, and its first one may leave far more unpaid than need be. The prices
-of what may be short are those of CERT."""
+ABOUT = """Writes a certificate of the same schedule with one table: the one whose uplifts come to least at the root of the tree, among
+the tables of CERT and those of a search with a small budget. `uc uplift` prints the prices and uplifts of what is written, and `uc check`
+accepts it. Where a certificate has a tree, each of its tables is made for a leaf, and its first one may leave far more unpaid than need
+be. The prices of what may be short are those of CERT."""
 
 
 def main(words: List[str]) -> int:
@@ -125,7 +125,7 @@ def _priced(
     for k, candidate in enumerate(candidates, 1):
         _say(f"table {k} of {len(candidates)}")
         write_file(path, one_leaf_text(certificate, schedule, candidate.table, LEAST_CLAIM))
-        yield Priced(candidate, read_uplift("what `uc uplift` printed", program.uplift(path)))
+        yield Priced(candidate, read_uplift("what `uc uplift` printed", program.uplift(path, candidate.name)))
     _say("")
 
 

@@ -30,25 +30,26 @@ class Program:
         if status not in (0, 1, 2):
             raise Refusal(self._instance, "", f"`uc solve` ended with status {status}")
 
-    def uplift(self, certificate: str) -> bytes:
-        """What `uc uplift` prints for a certificate's first table."""
-        return self._accepted("uplift", certificate)
+    def uplift(self, certificate: str, place: str) -> bytes:
+        """What `uc uplift` prints for a certificate's first table, which is the one of this place."""
+        return self._accepted("uplift", certificate, place)
 
     def check(self, certificate: str) -> None:
         """Refused where `uc check` doesn't accept a certificate."""
-        self._accepted("check", certificate)
+        self._accepted("check", certificate, "")
 
-    def _accepted(self, command: str, certificate: str) -> bytes:
+    def _accepted(self, command: str, certificate: str, place: str) -> bytes:
         status, out, err = self._run(command, [], [self._instance, certificate], is_seen=False)
         if status:
             told = err.decode("utf-8", "replace").strip().rpartition("\n")[2]
-            raise Refusal(self._source, "", f"`uc {command}` of its schedule ended with status {status}: {told}")
+            raise Refusal(self._source, place, f"`uc {command}` ended with status {status}: {told}")
         return out
 
     def _run(self, command: str, words: List[str], files: List[str], is_seen: bool) -> Tuple[int, bytes, bytes]:
         told = [self._path, command, *words, *self._prices, "--", *files]
         try:
-            ran = subprocess.run(told, stdin=subprocess.DEVNULL, stdout=subprocess.PIPE, stderr=None if is_seen else subprocess.PIPE, check=False)
+            errors = None if is_seen else subprocess.PIPE
+            ran = subprocess.run(told, stdin=subprocess.DEVNULL, stdout=subprocess.PIPE, stderr=errors, check=False)
         except OSError as error:
             raise Refusal(self._path, "", f"can't be run: {cause(error)}") from None
         return ran.returncode, ran.stdout, ran.stderr or b""
