@@ -1,11 +1,15 @@
 #!/usr/bin/env bash
 # Runs the program with the words given, and ends with its status. Where the program is missing or older than a source it is
 # proved and built first: how far that is stands on the error output, and status 70 says that it failed. Of runs at once one
-# builds it, and the others wait.
+# builds it, and the others wait. With UC_BUILD=unproved it is another program, of the same sources and without proofs.
+# What the program doesn't tell is told here: the page of all words, a word that is wrong, and before a search a certificate that can't
+# be written.
 set -eu
 top=$(dirname -- "$(readlink -f -- "$0")")
-program=$top/crates/uc/out/uc
-child='' work='' told='' crates=() uses=() began=() took=()
+proved_program=$top/crates/uc/out/uc unproved_program=$top/out/unproved/uc
+program=$proved_program
+child='' work='' told='' crates=() uses=() began=() took=() proved=0
+. "$top/launch/words.sh"
 
 # What the proof of each crate took when it was measured, in seconds of one processor.
 weights='uc_model 72 dual_model 48 outside 66 outside_system 132 decimal_json 144 instance 228 table_list 108
@@ -18,8 +22,8 @@ weights='uc_model 72 dual_model 48 outside 66 outside_system 132 decimal_json 14
 
 say() { printf 'uc: %s\n' "$*" >&2; }
 is_current() {
-  [ -x "$program" ] && [ -z "$(find "$top/crates.txt" "$top/crates" -name out -prune -o \
-    \( -name '*.rt' -o -name '*.antt' -o -name crates.txt \) -newer "$program" -print -quit)" ]
+  [ -x "$1" ] && [ -z "$(find "$top/crates.txt" "$top/crates" -name out -prune -o \
+    \( -name '*.rt' -o -name '*.antt' -o -name crates.txt \) -newer "$1" -print -quit)" ]
 }
 
 # Runs that look at the program share the lock, with -s; one that builds it has it alone, with -x.
@@ -88,15 +92,16 @@ minutes_left() {
 
 # A crate's folder for what is made is there once its proof begins, and the log names each crate that is done or was proved before.
 show() {
-  local i ended proved=0 line
+  local i ended count=0 line
   ended=$(sed -nE 's/^== ([a-z_]+)$/ \1 /p; s/^([a-z_]*: )?([a-z_]+) is kept: .*/ \2 /p' "$work/log")
   for ((i = 0; i < ${#crates[@]}; i++)); do
     if [ -d "$work/uc/crates/${crates[i]}/out" ]; then began[i]=${began[i]-$SECONDS}; fi
     if [[ $ended == *" ${crates[i]} "* ]]; then
       took[i]=${took[i]-$((SECONDS - ${began[i]-SECONDS}))}
-      proved=$((proved + 1))
+      count=$((count + 1))
     fi
   done
+  proved=$count
   line="$proved of ${#crates[@]} proved, some $(minutes_left) min left"
   if [ "$line" != "$told" ]; then told=$line && say "$line"; fi
 }
@@ -104,6 +109,7 @@ show() {
 prove() {
   (cd "$work/uc" && exec {lock}<&- && exec rt ci) >>"$work/log" 2>&1 </dev/null &
   child=$!
+  echo "$child" >"$work/child"
   while kill -0 "$child" 2>/dev/null; do
     show
     sleep 1
@@ -111,27 +117,76 @@ prove() {
   wait "$child"
 }
 
-leave() { [ -z "$child" ] || kill "$child" 2>/dev/null || true; rm -rf -- "$work"; }
+# The child has a group of its own, as the compilers that it runs have to end with it.
+compile() {
+  mkdir "$work/made"
+  (exec {lock}<&- && exec setsid python3 "$top/launch/unproved.py" "$work/made" "$work/uc") >>"$work/log" 2>&1 </dev/null &
+  child=$!
+  echo "$child" >"$work/child"
+  while kill -0 "$child" 2>/dev/null; do
+    sleep 1
+    if ((SECONDS % 60 == 0)); then say "compiling for $((SECONDS / 60)) min"; fi
+  done
+  wait "$child"
+}
+
+# What a build leaves that was stopped.
+leave() {
+  if [ -n "$child" ]; then kill -- "-$child" 2>/dev/null || kill "$child" 2>/dev/null || true; fi
+  rm -rf -- "$work"
+  if [ "$program" = "$proved_program" ]; then
+    say "stopped, with $proved of ${#crates[@]} proved; the next run begins a build anew, and where rt keeps proofs it takes these from there"
+  else
+    say "stopped; the next run compiles anew"
+  fi
+  if [ -x "$program" ]; then say "the program of the sources before stays at $program"; fi
+}
 
 fail() {
   trap - EXIT
   tail -n 15 -- "$work/log" >&2
-  rm -rf -- "$work/uc"
+  rm -rf -- "$work/uc" "$work/made" "$work/owner" "$work/child" "$work/start"
   say "the program could not be built; the log is $work/log"
   exit 70
 }
 
-build() {
+# Builds that were killed could tell nothing: their folders stand yet, and what they ran may run yet.
+tell_of_killed() {
+  local it owner='' run=''
+  for it in "${TMPDIR:-/tmp}"/uc-build.*; do
+    if [ -O "$it" ] && read -r owner 2>/dev/null <"$it/owner" && ! kill -0 "$owner" 2>/dev/null; then
+      say "a build that was killed left the folder $it, which may be deleted"
+      if read -r run 2>/dev/null <"$it/child" && kill -0 "$run" 2>/dev/null; then say "what it ran, process $run, runs yet"; fi
+    fi
+  done
+}
+
+# Proves and builds the program, in a copy of its crates.
+make_proved() {
   local name below
-  work=$(mktemp -d) && touch "$work/start" "$work/log"
-  trap leave EXIT
-  trap 'exit 143' INT TERM HUP
   while read -r name below; do crates+=("$name") uses+=("$below"); done < <(needed)
   say "proving and building the program; later runs start at once"
+  say "UC_BUILD=unproved ./uc .. gives a first answer in minutes, by a program without proofs"
   copy
   prove || fail
+  made=$work/uc/crates/uc/out/uc
+}
+
+make_unproved() {
+  say "compiling the program without proofs, which takes some three minutes"
+  compile || fail
+  made=$work/uc
+}
+
+build() {
+  local made
+  tell_of_killed
+  work=$(mktemp -d -- "${TMPDIR:-/tmp}/uc-build.XXXXXX") && touch "$work/start" "$work/log" && echo $$ >"$work/owner"
+  trap leave EXIT
+  trap 'exit 143' INT TERM HUP
+  if [ "$program" = "$proved_program" ]; then make_proved; else make_unproved; fi
   mkdir -p "${program%/*}"
-  cp "$work/uc/crates/uc/out/uc" "$program.new"
+  cp "$made" "$program.new"
   # What was edited meanwhile stays newer than the program.
   touch -r "$work/start" "$program.new"
   mv -f "$program.new" "$program"
@@ -140,11 +195,123 @@ build() {
   say "built in $((SECONDS / 60)) min $((SECONDS % 60)) s"
 }
 
-exec {lock}<"$top"
+has_tools() { command -v rt >/dev/null && { [ "$program" = "$proved_program" ] || command -v python3 >/dev/null; }; }
+
+# What is missing here that a build takes, with where it comes from.
+refuse_without_tools() {
+  local kit
+  if ! command -v rt >/dev/null; then
+    kit=$(sed -nE 's/^Proved with `([^` ]+).*/\1/p' "$top/docs/PROVED.md" 2>/dev/null) || true
+    say "the program isn't built yet, and rt, which builds it, isn't on the path"
+    say "rt comes with a Rattle kit, an archive of the makers of Rattle${kit:+; this repository is proved with $kit}"
+    say "unpack it, and begin anew with PATH=KIT/bin:\$PATH, where KIT is its folder"
+  else
+    say "the program isn't compiled yet, and python3, which does so, isn't on the path"
+  fi
+  exit 70
+}
+
+run() {
+  if [ "$program" = "$unproved_program" ]; then say "this program is UNPROVED, compiled without proofs; ./uc without UC_BUILD proves it"; fi
+  exec "$program" "$@"
+}
+
+# Whether a program is here, and fits the sources.
+state_of() {
+  if is_current "$1"; then
+    echo "built, ${1#"$top/"}"
+  elif [ -x "$1" ]; then
+    echo "older than a source; the next run builds it anew"
+  else
+    echo 'not built'
+  fi
+}
+
+tell_version() {
+  local commit='' kit='' path
+  if [ "$(git -C "$top" rev-parse --show-toplevel 2>/dev/null)" = "$top" ]; then
+    commit=$(git -C "$top" log -1 --format='%h of %cs')
+    git -C "$top" diff --quiet HEAD || commit+=', edited'
+  fi
+  if path=$(command -v rt); then kit=$(head -n 1 -- "$(dirname -- "$(readlink -f -- "$path")")/../KIT-ID" 2>/dev/null) || true; fi
+  echo "uc ${commit:-of no commit}"
+  echo "program: $(state_of "$proved_program")"
+  echo "program without proofs: $(state_of "$unproved_program")"
+  echo "kit: ${kit:-none, as rt is not on the path}"
+  echo 'certificates: writes version 2, or 3 with --exact-units; reads 1, 2 and 3'
+}
+
+# The page of all words, and what each command of view/ says of itself in its second line.
+tell_help() {
+  local it
+  cat "$top/launch/help.txt"
+  for it in "$top"/view/uc-*; do
+    if [ -f "$it" ]; then printf '  %-17s  %s\n' "view/${it##*/}" "$(sed -nE '2s/^"""([^;]*)[;.].*/\1/p' "$it")"; fi
+  done
+}
+
+asks_for_help() {
+  local word
+  [ "${1-}" != help ] || return 0
+  for word in "$@"; do
+    case $word in
+      --) return 1 ;;
+      --help | -h) return 0 ;;
+    esac
+  done
+  return 1
+}
+
+# Ends where the words are wrong, or the certificate can't be written, with the program's own text below what is wrong.
+refuse_words() {
+  local fault file certificate
+  look_at_words "$@"
+  if [ -n "$fault" ]; then
+    say "$fault; ./uc help tells all words"
+    if is_current "$program"; then run "$@"; fi
+    cat "$top/launch/usage.txt" >&2
+    exit 5
+  fi
+  if [ -n "$certificate" ] && [ -r "$file" ]; then
+    look_at_certificate "$certificate" "$file"
+    if [ -n "$fault" ]; then
+      say "$fault"
+      echo 'write failed: certificate' >&2
+      exit 7
+    fi
+  fi
+}
+
+case ${UC_BUILD:-proved} in
+  proved) ;;
+  unproved) program=$unproved_program ;;
+  *)
+    say "UC_BUILD is \"$UC_BUILD\", and takes proved or unproved"
+    exit 5
+    ;;
+esac
+if asks_for_help "$@"; then
+  tell_help
+  exit
+fi
+case ${1-} in version | --version | -V)
+  tell_version
+  exit
+  ;;
+esac
+has_tools || is_current "$program" || refuse_without_tools
+refuse_words "$@"
+# Each program has a lock of its own.
+locked=$top
+if [ "$program" = "$unproved_program" ]; then
+  locked=${unproved_program%/*}
+  mkdir -p "$locked"
+fi
+exec {lock}<"$locked"
 take_lock -s
-if ! is_current; then
+if ! is_current "$program"; then
   take_lock -x
-  is_current || build
+  is_current "$program" || build
 fi
 exec {lock}<&-
-exec "$program" "$@"
+run "$@"

@@ -397,7 +397,7 @@ class Pictures(ViewTest):
         self.assertIn("ShortagesUnserved demand: none, at $7 a MWh.Curtailed", drawn.text)
         self.assertIn("starts $80, unserved demand $0.", drawn.text)
         self.assertNotIn("issing reserve", drawn.text)
-        self.assertNotIn("<table", drawn.written)
+        self.assertEqual(drawn.written.count("<table"), 1)
         certificate = (STORED / "coast.cert").read_text().replace("schedule", "penalty 7 0\nschedule")
         priced = self.put("priced.cert", certificate.replace("table", "d 0 0 0 0\ne 0 0 0 0\ntable"))
         self.assertEqual(self.drawn(COAST, served, priced).bars["outputs"], drawn.bars["outputs"])
@@ -457,7 +457,7 @@ class Pictures(ViewTest):
         drawn = self.drawn(ROW1, self.put("r", ROW1_REPORT), words=("--uplift", str(self.put("none", lines))))
         self.assertIn("$0 in all", drawn.text)
         self.assertIn("1 of 1 units do as well as they could.", drawn.text)
-        self.assertNotIn("<table", drawn.written)
+        self.assertNotIn('class="shares"', drawn.written)
 
     def test_reports_without_a_schedule(self) -> None:
         stuck = self.drawn(self.row1(5, 0), self.put("stuck", STUCK_REPORT)).text
@@ -561,7 +561,9 @@ class Pictures(ViewTest):
         self.assertEqual(self.run_view(*files, words=("--csv", str(table))), (0, ""))
         lines = table.read_text(encoding="utf-8").split("\n")
         head = "unit,kind,hour,on,output,reserve,category,demand,need,demand_price,reserve_price,shed,reserve_short"
-        self.assertEqual(lines[0], head)
+        self.assertEqual(lines[0], head + ",energy_cost,start_cost,shortage_cost")
+        # by hand: as in test_costs_add_up
+        costs = {2: "1300.000000,0.000000", 6: "350.000000,80.000000"}
         wanted = {
             2: '"base ""1""",thermal,2,1,70.000000,5.000000,0,90.500000,5.000000,20.000000,0.000000,0.000000,0.000000',
             5: "peak <2>,thermal,1,0,0.000000,0.000000,0,60.000000,5.000000,16.666667,0.000000,0.000000,0.000000",
@@ -570,14 +572,17 @@ class Pictures(ViewTest):
             12: "wind\\3,renewable,4,0,0.000000,0.000000,0,40.000000,5.000000,18.000000,0.000000,0.000000,0.000000",
             13: "",
         }
+        nothing = "0.000000,0.000000"
+        wanted = {place: f"{line},{costs.get(place, nothing)},0.000000" if line else "" for place, line in wanted.items()}
         self.assertEqual({place: lines[place] for place in wanted}, wanted)
         self.assertEqual(len(lines), 14)
         self.assertEqual(self.run_view(*files[:2], words=("--csv", str(table))), (0, ""))
         lines = table.read_text(encoding="utf-8").split("\n")
-        self.assertEqual(lines[12], "wind\\3,renewable,4,0,0.000000,0.000000,0,40.000000,5.000000,,,0.000000,0.000000")
+        self.assertEqual(lines[12], f"wind\\3,renewable,4,0,0.000000,0.000000,0,40.000000,5.000000,,,0.000000,0.000000,{nothing},0.000000")
         self.assertEqual(self.run_view(*SHORT_FILES, words=("--csv", str(table))), (0, ""))
         lines = table.read_text(encoding="utf-8").split("\n")
-        self.assertEqual(lines[11], "wind\\3,renewable,3,1,30.000000,0.000000,0,200.000000,10.000000,500.000000,50.000000,40.000000,10.000000")
+        line = "wind\\3,renewable,3,1,30.000000,0.000000,0,200.000000,10.000000,500.000000,50.000000,40.000000,10.000000"
+        self.assertEqual(lines[11], f"{line},{nothing},20500.000000")
 
 
 class Refusals(ViewTest):

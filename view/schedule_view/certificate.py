@@ -44,17 +44,17 @@ class Prices:
     reserve: List[int]
 
 
-_RampPlace, _RampRow = Tuple[int, int], Tuple[int, int]
+RampPlace, RampRow = Tuple[int, int], Tuple[int, int]
 
 
 @dataclass(frozen=True)
-class _Table:
+class Table:
     """A table: its scale, the prices of demand and of reserve by period, and the rows of ramps by unit and period."""
 
     scale: int
     demand: List[int]
     reserve: List[int]
-    ramps: Dict[_RampPlace, _RampRow]
+    ramps: Dict[RampPlace, RampRow]
 
 
 @dataclass(frozen=True)
@@ -76,6 +76,7 @@ class Certificate:
     schedule: Optional[CertificateSchedule]
     prices: Optional[Prices]
     leaves: Leaves
+    tables: List[Table]
 
 
 def read_certificate(path: str, data: bytes) -> Certificate:
@@ -86,7 +87,7 @@ def read_certificate(path: str, data: bytes) -> Certificate:
     bound = _claim(lines)
     penalty = _penalty(lines) if lines.is_at("penalty") else NO_PENALTY
     schedule = _schedule(lines, periods, thermal, renewable, "de" if any(penalty) else "")
-    read: List[_Table] = []
+    read: List[Table] = []
     for _ in range(tables):
         is_whole = version == 1 or not read
         read.append(_table(lines, periods, thermal) if is_whole else _next_table(lines, periods, thermal, read[-1]))
@@ -96,7 +97,7 @@ def read_certificate(path: str, data: bytes) -> Certificate:
     prices = _prices(first_bound, read[first_bound - 1]) if first_bound else None
     if prices and not prices.scale:
         lines.refuse("a bound at a table of scale 0", line)
-    return Certificate(path, (periods, thermal, renewable), bound, penalty, schedule, prices, leaves)
+    return Certificate(path, (periods, thermal, renewable), bound, penalty, schedule, prices, leaves, read)
 
 
 def _version(lines: Lines) -> int:
@@ -189,7 +190,7 @@ def _watts(lines: Lines, word: str) -> int:
     return watts
 
 
-def _table(lines: Lines, periods: int, thermal: int) -> _Table:
+def _table(lines: Lines, periods: int, thermal: int) -> Table:
     (scale,) = _numbers(lines, "table", 1)
     if scale < 0:
         lines.refuse("a scale below 0")
@@ -197,7 +198,7 @@ def _table(lines: Lines, periods: int, thermal: int) -> _Table:
     (rows,) = _numbers(lines, "ramps", 1)
     if rows < 0:
         lines.refuse("a number of rows below 0")
-    ramps: Dict[_RampPlace, _RampRow] = {}
+    ramps: Dict[RampPlace, RampRow] = {}
     before = (0, 0)
     for _ in range(rows):
         unit, period, up, down = _numbers(lines, "ramp", 4)
@@ -205,22 +206,22 @@ def _table(lines: Lines, periods: int, thermal: int) -> _Table:
             lines.refuse("a ramp row that may not stand here")
         before = (unit, period)
         ramps[before] = (up, down)
-    return _Table(scale, demand, reserve, ramps)
+    return Table(scale, demand, reserve, ramps)
 
 
-def _next_table(lines: Lines, periods: int, thermal: int, before: _Table) -> _Table:
+def _next_table(lines: Lines, periods: int, thermal: int, before: Table) -> Table:
     """The table that is told by its difference to the one before it."""
     scale, count = _numbers(lines, "next", 2)
     if scale < 0 or count < 0:
         lines.refuse("a number below 0")
-    table = _Table(scale, before.demand[:], before.reserve[:], dict(before.ramps))
+    table = Table(scale, before.demand[:], before.reserve[:], dict(before.ramps))
     last: Tuple[int, ...] = ()
     for _ in range(count):
         last = _change(lines, periods, thermal, table, last)
     return table
 
 
-def _change(lines: Lines, periods: int, thermal: int, table: _Table, last: Tuple[int, ...]) -> Tuple[int, ...]:
+def _change(lines: Lines, periods: int, thermal: int, table: Table, last: Tuple[int, ...]) -> Tuple[int, ...]:
     """Changes a number of the table as the next line says; the place of the change, which comes behind the last one's."""
     if lines.is_at("r"):
         unit, period, up, down = _numbers(lines, "r", 4)
@@ -242,7 +243,7 @@ def _change(lines: Lines, periods: int, thermal: int, table: _Table, last: Tuple
     return place
 
 
-def _prices(number: int, table: _Table) -> Prices:
+def _prices(number: int, table: Table) -> Prices:
     return Prices(number, table.scale, table.demand, table.reserve)
 
 

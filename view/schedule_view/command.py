@@ -11,15 +11,17 @@ from reasons.page import page_lines
 
 from .amounts import MILLION, whole
 from .certificate import Certificate, read_certificate
+from .costs import hourly_costs
 from .files import read_file, refuse_shared, write_file
 from .fit import check_certificate, check_gap, check_report
 from .instance import Instance, read_instance
+from .json_form import write_json
 from .page import page
 from .refusal import Refusal
 from .report import Report, read_report
 from .shortages import MOST_PENALTY, Penalty
 from .table import write_table
-from .uplift import Uplift, check_uplift, read_uplift
+from .uplift import Uplift, check_uplift, prices_of, read_uplift
 
 ABOUT = """Draws the report of `uc solve` or `uc roll` as one HTML page. Files that don't fit together are refused with a line that says where, and
 status 1; then nothing is written."""
@@ -42,7 +44,8 @@ def _parser() -> argparse.ArgumentParser:
     parser.add_argument("report", metavar="REPORT", help="what `uc solve` or `uc roll` printed for it")
     parser.add_argument("certificate", metavar="CERT", nargs="?", help="its certificate, whose prices are drawn too")
     parser.add_argument("-o", dest="page", metavar="OUT.html", required=True, help="where the page goes")
-    parser.add_argument("--csv", dest="table", metavar="OUT.csv", help="where the schedule goes as a table")
+    parser.add_argument("--csv", dest="table", metavar="OUT.csv", help="where the schedule goes as a table, with what each unit costs")
+    parser.add_argument("--json", metavar="OUT.json", help="where all that goes as JSON, with gap, totals, hours and uplifts")
     parser.add_argument("--uplift", metavar="UPLIFT", help="what `uc uplift` printed for the certificate, whose prices and uplifts are drawn")
     parser.add_argument("--gap", metavar="PPM", type=gap_of, help="the gap that `uc solve` was asked for, which the page then tells")
     for option, what in (("--shed", "unserved demand"), ("--spill-reserve", "missing reserve")):
@@ -51,7 +54,7 @@ def _parser() -> argparse.ArgumentParser:
     return parser
 
 
-def _number(least: int, most: int) -> Callable[[str], int]:
+def number_of(least: int, most: int) -> Callable[[str], int]:
     """What reads a whole number within these limits; a word that is none is an error of the words."""
 
     def read(text: str) -> int:
@@ -64,13 +67,13 @@ def _number(least: int, most: int) -> Callable[[str], int]:
 
 
 # a gap, and a price of what is short, as `uc` takes them
-gap_of, price_of = _number(0, MILLION), _number(1, MOST_PENALTY)
+gap_of, price_of = number_of(0, MILLION), number_of(1, MOST_PENALTY)
 
 
 def _run(given: argparse.Namespace) -> None:
     """Everything is read, checked and drawn before the first file is written."""
     inputs = [path for path in (given.instance, given.report, given.certificate, given.uplift) if path is not None]
-    refuse_shared(inputs, [path for path in (given.page, given.table) if path is not None])
+    refuse_shared(inputs, [path for path in (given.page, given.table, given.json) if path is not None])
     data = read_file(given.instance)
     instance = read_instance(given.instance, data)
     report = read_report(given.report, read_file(given.report))
@@ -87,12 +90,19 @@ def _run(given: argparse.Namespace) -> None:
         check_certificate(instance, report, certificate)
     uplift = _uplift(given, instance, report, penalty)
     why = page_lines(given.instance, data, report, given.certificate, certificate_data)
-    drawn = page(instance, report, certificate, pathlib.PurePath(given.instance).name, given.gap, penalty, uplift, why)
-    table = io.StringIO()
-    write_table(instance, report.schedule, certificate.prices if certificate else None, table)
-    write_file(given.page, drawn)
+    name = pathlib.PurePath(given.instance).name
+    outputs = [(given.page, page(instance, report, certificate, name, given.gap, penalty, uplift, why))]
     if given.table is not None:
-        write_file(given.table, table.getvalue())
+        table = io.StringIO()
+        write_table(instance, report.schedule, prices_of(certificate, uplift), penalty, table)
+        outputs.append((given.table, table.getvalue()))
+    if given.json is not None:
+        text = io.StringIO()
+        costs = hourly_costs(instance, report.schedule, penalty) if report.schedule else None
+        write_json(name, instance, report, costs, certificate, uplift, text)
+        outputs.append((given.json, text.getvalue()))
+    for path, words in outputs:
+        write_file(path, words)
 
 
 def _uplift(given: argparse.Namespace, instance: Instance, report: Report, penalty: Penalty) -> Optional[Uplift]:

@@ -1,4 +1,4 @@
-"""What a schedule costs in each hour, as a report's cost counts it (`docs/MODEL.md`, "Printed schedules")."""
+"""What a schedule costs by unit and hour, as a report's cost counts it (`docs/MODEL.md`, "Printed schedules")."""
 from __future__ import annotations
 
 from bisect import bisect_left
@@ -6,7 +6,7 @@ from dataclasses import dataclass
 from typing import List, Tuple
 
 from .instance import Instance, Thermal
-from .report import Schedule
+from .report import Schedule, ThermalRow
 from .shortages import Penalty, Shortage, shortages
 
 Corner = Tuple[int, int]
@@ -36,12 +36,25 @@ def hourly_costs(instance: Instance, schedule: Schedule, penalty: Penalty) -> Ho
     """The costs of a schedule whose outputs and categories are those of the instance's units."""
     production, starts = [0] * instance.periods, [0] * instance.periods
     for unit, row in zip(instance.thermal, schedule.thermal):
-        corners = lower_hull(unit.points)
-        for period, cell in enumerate(row.cells):
-            if cell:
-                production[period] += hull_cost(corners, _above_minimum(unit, cell.output))
-                starts[period] += unit.start_costs[cell.category - 1] if cell.category else 0
+        costs = unit_costs(unit, row)
+        production = [before + amount for before, amount in zip(production, costs.energy)]
+        starts = [before + amount for before, amount in zip(starts, costs.starts)]
     return HourlyCosts(production, starts, list(shortages(schedule, instance.periods, penalty)))
+
+
+@dataclass(frozen=True)
+class UnitCosts:
+    """What the output of a unit and its starts cost in each hour, in micro-dollars."""
+
+    energy: List[int]
+    starts: List[int]
+
+
+def unit_costs(unit: Thermal, row: ThermalRow) -> UnitCosts:
+    """The costs of a unit whose outputs and categories are its own."""
+    corners = lower_hull(unit.points)
+    energy = [hull_cost(corners, _above_minimum(unit, cell.output)) if cell else 0 for cell in row.cells]
+    return UnitCosts(energy, [unit.start_costs[cell.category - 1] if cell and cell.category else 0 for cell in row.cells])
 
 
 def _above_minimum(unit: Thermal, output: int) -> int:

@@ -2,7 +2,7 @@
 from __future__ import annotations
 
 from dataclasses import dataclass
-from typing import Dict, List, Optional, Tuple
+from typing import Dict, Iterator, List, Optional, Tuple
 
 from .amounts import short_text
 from .instance import Instance, Renewable, Thermal
@@ -35,16 +35,17 @@ class Row:
 def thermal_grid(instance: Instance, schedule: Schedule) -> str:
     """The thermal units, the cheapest on top."""
     order = merit_order(instance)
-    return _grid("Thermal units by hour", [_thermal_row(instance.thermal[g], schedule.thermal[g]) for g in order])
+    return _grid("Thermal units by hour", [thermal_row(instance.thermal[g], schedule.thermal[g]) for g in order])
 
 
 def renewable_grid(instance: Instance, schedule: Schedule) -> str:
     """The renewable units in the order of the file."""
-    rows = [_renewable_row(unit, row) for unit, row in zip(instance.renewable, schedule.renewable)]
+    rows = [renewable_row(unit, row) for unit, row in zip(instance.renewable, schedule.renewable)]
     return _grid("Renewable units by hour", rows)
 
 
-def _thermal_row(unit: Thermal, row: ThermalRow) -> Row:
+def thermal_row(unit: Thermal, row: ThermalRow) -> Row:
+    """The marks of a thermal unit."""
     return Row(unit.name, [_thermal_mark(unit, cell) if cell else None for cell in row.cells])
 
 
@@ -54,7 +55,8 @@ def _thermal_mark(unit: Thermal, cell: Cell) -> Mark:
     return Mark(look, words + (f", start of category {cell.category}" if cell.category else ""), cell.category)
 
 
-def _renewable_row(unit: Renewable, row: RenewableRow) -> Row:
+def renewable_row(unit: Renewable, row: RenewableRow) -> Row:
+    """The marks of a renewable unit."""
     marks: List[Optional[Mark]] = []
     for output, least, greatest in zip(row.outputs, unit.least, unit.greatest):
         look, where = _level(output, least, greatest)
@@ -99,19 +101,30 @@ class Piece:
     category: str
 
 
-def _pieces(row: Row, place: int, pixels: int) -> List[Piece]:
-    """The marks of a unit; hours that follow each other with the same mark are one piece."""
-    found, first = [], 0
+def runs(row: Row) -> Iterator[Tuple[int, int, Mark]]:
+    """The marks of a unit, with their first hour, from 0, and the one behind; hours that follow each other with the same mark are one."""
+    first = 0
     for end in range(1, len(row.marks) + 1):
         if end == len(row.marks) or row.marks[end] != row.marks[first]:
             mark = row.marks[first]
             if mark:
-                hours = f"hour {first + 1}" if end == first + 1 else f"hours {first + 1} to {end}"
-                words = f"{row.name}, {hours}: {mark.words}"
-                box = {"x": first, "y": place * pixels + 1, "width": end - first, "height": pixels - 1}
-                category = _category(mark, percent(first + 0.5, len(row.marks)), (place + 0.78) * pixels)
-                found.append(Piece(_shape(mark, words, box), category))
+                yield first, end, mark
             first = end
+
+
+def hours_text(first: int, end: int) -> str:
+    """The hours from one, counted from 0, to the one before another."""
+    return f"hour {first + 1}" if end == first + 1 else f"hours {first + 1} to {end}"
+
+
+def _pieces(row: Row, place: int, pixels: int) -> List[Piece]:
+    """The marks of a unit as they are drawn."""
+    found = []
+    for first, end, mark in runs(row):
+        words = f"{row.name}, {hours_text(first, end)}: {mark.words}"
+        box = {"x": first, "y": place * pixels + 1, "width": end - first, "height": pixels - 1}
+        category = _category(mark, percent(first + 0.5, len(row.marks)), (place + 0.78) * pixels)
+        found.append(Piece(_shape(mark, words, box), category))
     return found
 
 

@@ -5,23 +5,25 @@ import pathlib
 from typing import List, Optional, Tuple
 
 from .amounts import MILLION, dollars_text, gap_parts, short_text
-from .certificate import BOUNDS, MOST_PRICE, Certificate, Leaves
+from .certificate import BOUNDS, MOST_PRICE, Certificate, Leaves, Prices
 from .charts import cost_chart, curtailed_chart, demand_chart, legend, output_chart, price_chart, reserve_chart, share_bar
-from .costs import hourly_costs
+from .costs import HourlyCosts, hourly_costs
+from .figures import figures
 from .grid import renewable_grid, thermal_grid
 from .instance import Instance
 from .layers import SINGLE_UNITS, layers, never_on, unserved_layer
 from .report import Outcome, Report, Schedule, Stopped
 from .shortages import NO_PENALTY, Penalty, Shortage, shortages
 from .svg import element, narrow_rules, text
-from .uplift import Part, Uplift
+from .uplift import Part, Uplift, prices_of, table_of
 
 STYLE = pathlib.Path(__file__).with_name("style.css")
 NAMES_SHOWN, PARTS_SHOWN = 12, 30
 FOOT = (
-    "Units, hours and categories count from 1. Rest the pointer on a mark to see its numbers. "
+    "Units, hours and categories count from 1. Rest the pointer on a mark to see its numbers, or open them under Numbers. "
     "This page shows what the report and the certificate say; whether they are right is for <code>uc check</code> to tell."
 )
+MEASURES = "Money is in dollars ($), power in megawatts (MW), energy in megawatt-hours (MWh), prices in $/MWh."
 OUTCOMES = {
     Outcome.CLOSED: "Closed: the gap is within what was asked for.",
     Outcome.SPENT: "Budget spent: a schedule was found, and its gap is larger than was asked for.",
@@ -48,15 +50,18 @@ def page(
     """
     schedule = report.schedule
     short = shortages(schedule, instance.periods, penalty) if schedule else None
+    costs = hourly_costs(instance, schedule, penalty) if schedule else None
     parts = [element("h1", text(f"Schedule of {name}" if schedule else name)), *_outcome(report, certificate, why or [])]
     parts.append(_head(instance, report, gap, [it for it in short or () if it.price]))
-    parts += _charts(instance, schedule, short) if schedule and short else _demand(instance, report)
-    if uplift:
-        parts += _uplifts(instance, uplift)
+    parts += _charts(instance, schedule, short, costs) if schedule and short and costs else _demand(instance, report)
+    prices = _drawn_prices(schedule, certificate, uplift)
+    if uplift and schedule:
+        parts += _uplifts(instance, report, schedule, certificate, uplift)
     elif certificate:
-        parts += _prices(certificate, bool(schedule))
+        parts += _prices(certificate, prices)
     if schedule:
         parts += _grids(instance, schedule)
+    parts += figures(instance, schedule, costs, prices)
     head = (
         '<meta charset="utf-8"><meta name="viewport" content="width=device-width, initial-scale=1">'
         + element("title", text(name))
@@ -122,7 +127,8 @@ def _head(instance: Instance, report: Report, gap: Optional[int], priced: List[S
     if report.bound is not None:
         facts.append(("Bound", _money(report.bound)))
     if report.schedule and report.bound is not None:
-        facts.append(("Gap", _percent(gap_parts(report.schedule.cost, report.bound))))
+        left, parts = report.schedule.cost - report.bound, gap_parts(report.schedule.cost, report.bound)
+        facts.append(("Gap", f"{_money(left)}, {_percent(parts)}"))
     if gap is not None:
         facts.append(("Gap asked for", _percent(gap)))
     facts += [(shortage.name.capitalize(), text(shortage.size_text)) for shortage in priced]
@@ -131,12 +137,14 @@ def _head(instance: Instance, report: Report, gap: Optional[int], priced: List[S
     if report.evaluations is not None:
         facts.append(("Evaluations", f"{report.evaluations:,}"))
     facts += [
+        ("Greatest demand", f"{short_text(max(instance.demand))} MW"),
+        ("Demand in all", f"{short_text(sum(instance.demand))} MWh"),
         ("Hours", str(instance.periods)),
         ("Thermal units", f"{len(instance.thermal):,}"),
         ("Renewable units", f"{len(instance.renewable):,}"),
         ("Rounded numbers", f"{instance.rounded:,}"),
     ]
-    return element("dl", "".join(element("div", element("dt", word) + element("dd", value)) for word, value in facts))
+    return element("dl", "".join(element("div", element("dt", word) + element("dd", value)) for word, value in facts)) + element("p", MEASURES)
 
 
 def _money(micros: int) -> str:
@@ -151,14 +159,14 @@ def _percent(parts: Optional[int]) -> str:
     return "none, the cost is 0" if parts is None else f"{short_text(parts * 100)} %"
 
 
-def _charts(instance: Instance, schedule: Schedule, short: Tuple[Shortage, Shortage]) -> List[str]:
+def _charts(instance: Instance, schedule: Schedule, short: Tuple[Shortage, Shortage], costs: HourlyCosts) -> List[str]:
     unserved, missing = short
     return [
         *_outputs(instance, schedule, unserved),
         *_shortages([it for it in short if it.price]),
         *_curtailed(instance, schedule),
         *_reserve(instance, schedule, missing),
-        *_costs(instance, schedule, (unserved.price, missing.price)),
+        *_costs(costs),
     ]
 
 
@@ -238,8 +246,7 @@ def _reserve(instance: Instance, schedule: Schedule, missing: Shortage) -> List[
     ]
 
 
-def _costs(instance: Instance, schedule: Schedule, penalty: Penalty) -> List[str]:
-    costs = hourly_costs(instance, schedule, penalty)
+def _costs(costs: HourlyCosts) -> List[str]:
     words = ", ".join(f"{name} {dollars_text(sum(amounts))}" for name, _, amounts in costs.parts)
     return [
         element("h2", "Cost by hour"),
@@ -262,13 +269,20 @@ def _demand(instance: Instance, report: Report) -> List[str]:
     ]
 
 
-def _prices(certificate: Certificate, has_schedule: bool) -> List[str]:
-    """The prices of the bound; without a schedule and at their limit they tell nothing, and are told in words alone."""
+def _drawn_prices(schedule: Optional[Schedule], certificate: Optional[Certificate], uplift: Optional[Uplift]) -> Optional[Prices]:
+    """The prices that are shown, if there are any; without a schedule those at their limit tell nothing."""
+    prices = prices_of(certificate, uplift)
+    is_at_limit = prices is not None and any(abs(price) == MOST_PRICE for price in prices.demand + prices.reserve)
+    return prices if schedule or not is_at_limit else None
+
+
+def _prices(certificate: Certificate, drawn: Optional[Prices]) -> List[str]:
+    """The prices of the certificate's first leaf with a bound; where they aren't drawn, why."""
     prices, count = certificate.prices, sum(certificate.leaves.counts.get(word, 0) for word in BOUNDS)
     if not prices:
         return []
     heading = element("h2", "Prices of the bound")
-    if not has_schedule and any(abs(price) == MOST_PRICE for price in prices.demand + prices.reserve):
+    if not drawn:
         words = "Not drawn: no schedule stands, and these prices are at the limit of what a certificate may have."
         return [heading, element("p", words)]
     leaf = f"the first of its {count} leaves with a bound" if count > 1 else "its leaf with a bound"
@@ -276,19 +290,29 @@ def _prices(certificate: Certificate, has_schedule: bool) -> List[str]:
         f"These are no market prices: they are the multipliers from which table {prices.table} of the certificate, that of {leaf}, "
         "makes the bound. The line is that of demand, pi, the dashed one that of reserve, mu."
     )
+    if count > 1:
+        words += " They are made for the schedules of this leaf alone; uc-prices finds a table for those of all leaves."
     return [heading, element("p", words), price_chart(prices)]
 
 
-def _uplifts(instance: Instance, uplift: Uplift) -> List[str]:
-    """The prices beside demand, and the parts of the gap, the largest first."""
-    total = dollars_text(uplift.micros(uplift.total))
+def _table_text(certificate: Optional[Certificate], uplift: Uplift) -> str:
+    """Which table has the prices that are drawn."""
+    scale = f"of scale {uplift.prices.scale:,}"
+    if certificate is None:
+        return f"a table {scale}"
+    number = table_of(uplift, certificate.tables)
+    return f"table {number} of the certificate, {scale}," if number else f"a table {scale}, which this certificate doesn't have,"
+
+
+def _uplifts(instance: Instance, report: Report, schedule: Schedule, certificate: Optional[Certificate], uplift: Uplift) -> List[str]:
+    """The prices beside demand, and the parts of what the schedule costs above their bound, the largest first."""
+    which = _table_text(certificate, uplift)
     parts = [
         element("h2", "Prices and uplifts"),
-        element("p", "What a table of the certificate would pay, below it demand. The lines are demand, the dashed ones reserve."),
+        element("p", f"What {which} would pay, and below it demand. The lines are demand, the dashed ones reserve."),
         price_chart(uplift.prices),
         demand_chart(instance, None),
-        element("p", f"By how much each part would do better by its own choice at these prices: {total} in all, which is the gap "
-                "between the schedule's cost and the bound of these prices."),
+        element("p", _total_text(report, schedule, uplift)),
     ]
     some = sorted((part for part in uplift.parts if part.number), key=lambda part: -part.number)
     if some:
@@ -302,6 +326,19 @@ def _uplifts(instance: Instance, uplift: Uplift) -> List[str]:
     if none:
         parts.append(element("p", f"{none} of {len(uplift.thermal + uplift.renewable)} units do as well as they could."))
     return parts
+
+
+def _total_text(report: Report, schedule: Schedule, uplift: Uplift) -> str:
+    """What the parts come to: the gap where the report's bound is that of these prices."""
+    bound, total = uplift.bound(schedule.cost), dollars_text(uplift.micros(uplift.total))
+    words = f"By how much each part would do better by its own choice at these prices: {total} in all, which is "
+    if report.bound is None or bound == report.bound:
+        return words + "the gap between the schedule's cost and the bound."
+    gap = dollars_text(schedule.cost - report.bound)
+    return (
+        f"{words}what the schedule costs above the bound that these prices give by themselves, {dollars_text(bound)}. It isn't the gap: "
+        f"that is {gap}, down to the bound of all leaves of the tree, {dollars_text(report.bound)}."
+    )
 
 
 def _uplift_row(uplift: Uplift, part: Part, most: int) -> str:

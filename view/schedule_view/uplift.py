@@ -7,7 +7,7 @@ from fractions import Fraction
 from typing import List, NoReturn, Optional
 
 from .amounts import MILLION, nearest, signed, whole
-from .certificate import Prices
+from .certificate import Certificate, Prices, Table
 from .instance import Instance
 from .lines import Lines
 from .refusal import Refusal, shown
@@ -20,7 +20,7 @@ _SHED, _SLACKS = "shortages", (("reserve-slack", "reserve slack"), ("ramp-slack"
 
 @dataclass(frozen=True)
 class Part:
-    """A part of the gap: its line, its name, the class that gives its colour, and its number, in 1/scale micro-dollars."""
+    """A part: its line, its name, the class that gives its colour, and its number, in 1/scale micro-dollars."""
 
     line: int
     name: str
@@ -30,7 +30,7 @@ class Part:
 
 @dataclass(frozen=True)
 class Uplift:
-    """The prices of a table, the parts of the gap, the units' first and in the order of the lines, and the whole gap."""
+    """The prices of a table, the parts of the schedule's cost above the bound of that table, the units' first, and their sum."""
 
     path: str
     prices: Prices
@@ -44,6 +44,10 @@ class Uplift:
     def parts(self) -> List[Part]:
         """All parts, in the order of the lines."""
         return self.thermal + self.renewable + self.shed + self.slacks
+
+    def bound(self, cost: int) -> int:
+        """The bound that these prices give by themselves, in micro-dollars, of a schedule of this cost."""
+        return cost + -self.total // self.prices.scale
 
     def micros(self, number: int) -> int:
         """The micro-dollars nearest to a number of the lines."""
@@ -61,6 +65,18 @@ def read_uplift(path: str, data: bytes) -> Uplift:
     total = _part(lines, "total", "total", "").number
     lines.finish()
     return Uplift(path, Prices(0, scale, demand, reserve), thermal, renewable, shed, slacks, total)
+
+
+def table_of(uplift: Uplift, tables: List[Table]) -> Optional[int]:
+    """The number of the first table that has these prices at this scale; None where none has."""
+    prices = uplift.prices
+    wanted = prices.scale, prices.demand, prices.reserve
+    return next((k for k, it in enumerate(tables, 1) if (it.scale, it.demand, it.reserve) == wanted), None)
+
+
+def prices_of(certificate: Optional[Certificate], uplift: Optional[Uplift]) -> Optional[Prices]:
+    """The prices that are told: those of uplifts where they are given, else those of the certificate, if it has a bound."""
+    return uplift.prices if uplift else certificate.prices if certificate else None
 
 
 def check_uplift(instance: Instance, uplift: Uplift, penalty: Penalty) -> None:
