@@ -1,5 +1,5 @@
 -- Rays: one more that leaves a schedule, none where there is one, and what is told of the first that leaves none.
-use Rattle.std.proofs.Common.{◌≡◌, ◌⊎◌, ⊎_elim, ℕ, ◌+◌, ◌<◌, Bool, refl, subst, sym, arith, ℤ, pos, ◌<ℤ◌}
+use Rattle.std.proofs.Common.{◌≡◌, ◌⊎◌, ⊎_elim, ℕ, ◌+◌, ◌<◌, Bool, refl, subst, sym, arith, pos, ◌<ℤ◌}
 use Rattle.std.proofs.lemmas.Bool.{cases_order}
 use Rattle.uc_model.specs.Limits.{IsLawfulInstance}
 use Rattle.uc_model.specs.Rules.{Obeys}

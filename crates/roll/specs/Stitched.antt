@@ -12,7 +12,7 @@ use Rattle.schedule_check.specs.SizedNumbers.{output_at}
 use Rattle.schedule_check.specs.PlainNumbers.{HasPlainNumbers}
 use Rattle.schedule_check.specs.WholeWatts.{commitment, row_of}
 use Rattle.roll.specs.FirstPeriods.{first_periods}
-use Rattle.roll.specs.Left.{Instance, Thermal, Cell, Printed}
+use Rattle.roll.specs.Left.{Instance, Cell, Printed}
 use Rattle.roll.specs.NextWindow.{IsNextWindow}
 use Rattle.roll.specs.Kept.{PrintedObeys}
 

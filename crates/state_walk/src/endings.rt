@@ -16,7 +16,7 @@ use crate::problem::Problem;
 use crate::rest::{Rest, may_end};
 use std::alloc::Global;
 use step_functions::ConvexFunction;
-use uc_model::NoMemory;
+use uc_model::{NoMemory, Thermal};
 use unit_runs::entry_output;
 
 /// The memory for the runs that end before a period: what is left of them, and a function to cut.

@@ -1,5 +1,5 @@
 -- Laws of the total and the lesser of costs that may not be there.
-use Rattle.std.proofs.Common.{◌≡◌, ◌+◌, refl, ap, arith, ℤ, pos, ◌+ℤ◌, Option, Some, None}
+use Rattle.std.proofs.Common.{◌≡◌, refl, ap, arith, ℤ, pos, ◌+ℤ◌, Option, Some, None}
 use Rattle.std.proofs.lemmas.Int.{ints}
 use Rattle.uc_model.proofs.Ring.{linear}
 use Rattle.dual_model.specs.CostToGo.{lesser_of, total_of}

@@ -42,6 +42,13 @@ start-fits terms unit fix t choice entry =
     (λ (barred : may_be_on fix t ≡ false). subst (λ o. IsWithin MAX_COST_TO_GO (choice_cost o)) (sym (entry.none barred)) tt)
     (cases_Bool (may_be_on fix t))
 
+pub stop-fits : (terms : Terms) (unit : Thermal) (fix : Fix) (t : ℕ) (choice : Option Choice) → IsStopIn terms unit fix t choice → IsWithin MAX_COST_TO_GO (choice_cost choice)
+stop-fits terms unit fix t choice entry =
+    ⊎_elim
+    (λ (may : may_be_off unit fix t ≡ true). (entry.least may).size)
+    (λ (barred : may_be_off unit fix t ≡ false). subst (λ o. IsWithin MAX_COST_TO_GO (choice_cost o)) (sym (entry.none barred)) tt)
+    (cases_Bool (may_be_off unit fix t))
+
 -- a start's way, where the unit has been off for long enough
 pub start-total_of : (terms : Terms) (unit : Thermal) (fix : Fix) (since t : ℕ) (choice : Option Choice) → t < period_count terms
     → may_start unit since t ≡ true → IsStartIn terms unit fix t choice

@@ -1,5 +1,5 @@
 -- The commitment with the unit's pattern of the fewest on periods was tried, or stands already.
-use Rattle.std.proofs.Common.{◌≡◌, ◌<◌, ◌∙◌, arith, length, refl, subst, sym, slice_index_or}
+use Rattle.std.proofs.Common.{◌≡◌, ◌<◌, ◌∙◌, arith, rules, length, refl, subst, sym, slice_index_or}
 use Rattle.std.proofs.lemmas.List.{get_or_read}
 use Rattle.dispatch_repair.specs.Rooms.{AreRowsBut, AreRowsOf, printed_of}
 use Rattle.dispatch_repair.proofs.RowsCommitted.{rows_but}
@@ -8,12 +8,12 @@ use Rattle.decommitment.specs.inside.Turns.{AreAllowed, ending_of_trial}
 use Rattle.decommitment.proofs.Drops.{allowed_set, passed_spared}
 use Rattle.decommitment.proofs.plain.take_turn.Goals as goal
 
-pub returns-then-is_same : goal.returns-then-is_same
-returns-then-is_same c =
+pub returns-then-eq : goal.returns-then-eq
+returns-then-eq c =
     let kept = c.requires.passed.kept in
     let patterns = c.args.pass.now.patterns.items in
     let fewest = c.fewest-fewest.result in
-    let one : fewest ≡ c.index.result.now = c.is_same.ensures.0 c.if-is_same.true in
+    let one : fewest ≡ c.index.result.now = search rules in
     let within : c.args.g < length patterns = omega (arith, c.requires.unit, kept.count) in
     let same : fewest ≡ slice_index_or patterns c.args.g fewest = one ∙ get_or_read patterns c.args.g c.index.result.now within c.index.ensures fewest in
     record {

@@ -1,5 +1,5 @@
 -- The greater of both, or what is added where ramps are priced where a schedule shows that the exact value is no greater.
-use Rattle.std.proofs.Common.{◌≡◌, ◌<◌, ◌≤◌, lit<, refl, true, ap, ◌∙◌, arith, ℤ, pos, ◌+ℤ◌, ◌≤ℤ◌, int_lt, to_z, of_z, unsigned_abs, if◌then◌else◌}
+use Rattle.std.proofs.Common.{◌≡◌, ◌≤◌, lit<, refl, true, ap, ◌∙◌, arith, ℤ, pos, ◌+ℤ◌, ◌≤ℤ◌, int_lt, to_z, of_z, unsigned_abs, if◌then◌else◌}
 use Rattle.std.specs.Int.{w128}
 use Rattle.std.specs.Int.Signed.{le_z}
 use Rattle.std.proofs.lemmas.Int.{ints}

@@ -1,15 +1,15 @@
 -- The stop's move with the way behind it.
-use Rattle.std.proofs.Common.{◌≡◌, ◌<◌, ℕ, suc, true, false, refl, sym, ap, ◌∙◌, lit<, ℤ, Option, Some}
+use Rattle.std.proofs.Common.{◌≡◌, ◌<◌, ℕ, suc, true, false, refl, subst, sym, ap, ◌∙◌, lit<, ℤ, Option, Some}
 use Rattle.std.proofs.lemmas.Bool.{eq-eqb, le-leb, lt-leb}
 use Rattle.uc_model.proofs.Sizes.{wide}
 use Rattle.uc_model.specs.Terms.{period_count}
 use Rattle.uc_model.specs.Switches.{may_stop}
-use Rattle.dual_model.specs.CostToGo.{total_of, MAX_MOVE}
+use Rattle.dual_model.specs.CostToGo.{total_of, IsWithin, MAX_COST_TO_GO, MAX_MOVE}
 use Rattle.unit_path.specs.inside.Choices.{Fix, Terms, Thermal, Choice, choice_cost, stop_cost}
 use Rattle.unit_path.specs.inside.Hours.{leave_cost, IsStopIn}
 use Rattle.unit_path.proofs.Going.{stop_cost-at, to_go}
 use Rattle.unit_path.proofs.RunLaws.{stop-barred}
-use Rattle.unit_path.proofs.Switched.{stop-total}
+use Rattle.unit_path.proofs.Switched.{stop-fits, stop-total}
 use Rattle.unit_path.proofs.runs.at_once.Goals as goal
 
 whole : (terms : Terms) (unit : Thermal) (fix : Fix) (since : ℕ) (cost : Option ℤ) (stop : Option Choice) → since < period_count terms
@@ -27,6 +27,11 @@ returns-then-first_switch-since c =
     ∙ ap (λ x. total_of x (to_go c.args.terms.now c.args.unit.now c.args.fix.now (suc c.args.since) false (suc c.args.since)))
     (stop-barred c.args.terms.now c.args.unit.now c.args.fix.now c.args.since c.args.since barred)
     )
+
+pub joined-requires-clause-more : goal.joined-requires-clause-more
+joined-requires-clause-more c =
+    subst (IsWithin MAX_COST_TO_GO) (sym c.cost_of.ensures)
+    (stop-fits c.args.terms.now c.args.unit.now c.args.fix.now c.args.since c.args.hour.now.stop c.requires.hour.stop)
 
 pub returns-in-None : goal.returns-in-None
 returns-in-None c =

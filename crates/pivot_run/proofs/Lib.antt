@@ -1,0 +1,15 @@
+pub mod Orders
+pub mod Clearing
+pub mod Divisors
+pub mod Solutions
+pub mod Pivoting
+pub mod Ratios
+pub mod RightSides
+pub mod Basis
+pub mod Values
+pub mod RowChoice
+pub mod PivotKeeps
+pub mod ZeroSides
+pub mod RunSteps
+pub mod RunKeeps
+pub mod Sizes
