@@ -12,8 +12,10 @@ sys.dont_write_bytecode = True
 TOP = pathlib.Path(__file__).resolve().parent.parent
 PAGES = "*.md", "docs/*.md", "examples/*.md", "view/tests/*.md"
 LINK = re.compile(r"\]\(([^()\s]+)\)")
-# a file that is named in the text or in a command, as bench/search.py
-NAMED = re.compile(r"(?<![\w./-])(?:bench|crates|docs|examples|view)/[\w/-]+(?:\.[\w-]+)*\.(?:antt|cert|json|md|png|py|report|rt)\b")
+# a file that is named in the text or in a command, as bench/search.py; a folder in capitals, as in crates/NAME/src/lib.rt, stands for any
+NAMED = re.compile(
+    r"(?<![\w./-])(?:bench|crates|docs|examples|view)/(?:(?![A-Z]+/)[\w-]+/)*[\w-]+(?:\.[\w-]+)*\.(?:antt|cert|json|md|png|py|report|rt)\b"
+)
 INDENT = "    "
 
 
@@ -96,7 +98,7 @@ class Links(unittest.TestCase):
             (top / "README.md").write_text(
                 "# Start\n[a](docs/A.md#one-uc-thing), [b](docs/A.md#twice-1), [c](https://example.org/x), [d](#start)\n"
                 "[e](docs/B.md), [f](docs/A.md#none)\n    [g](docs/C.md) ./uc check view/none.json\n"
-                "as `bench/none.py` shows\n[h](../../etc)\n"
+                "as `bench/none.py` shows, but crates/C/src/m.rt\n[h](../../etc)\n"
             )
             self.assertEqual(
                 faults(top),
