@@ -1,7 +1,7 @@
 #!/usr/bin/env python3
 """Tests `uc-view` on stored reports: what is drawn adds up, and what doesn't fit is refused with a line that says where.
 
-    python3 view/test_view.py            # at the top of the repository; test_table.py beside it is run too
+    python3 view/test_view.py            # at the top of the repository; the tests of the commands beside it are run too
 """
 from __future__ import annotations
 
@@ -746,7 +746,7 @@ class Amounts(unittest.TestCase):
 
 
 def main() -> int:
-    """Runs all tests, those of `uc-table` too; 0 where they hold."""
+    """Runs all tests, those of the other commands too; 0 where they hold."""
     result = unittest.TextTestRunner(verbosity=0).run(unittest.defaultTestLoader.discover(str(HERE), "test_*.py"))
     failed = len({test.id() for test, _ in result.failures + result.errors})
     print(f"view: {failed} of {result.testsRun} tests failed" if failed else f"view: all {result.testsRun} tests hold")

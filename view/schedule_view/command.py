@@ -7,6 +7,8 @@ import pathlib
 import sys
 from typing import Callable, List, Optional
 
+from reasons.page import page_lines
+
 from .amounts import MILLION, whole
 from .certificate import Certificate, read_certificate
 from .files import read_file, refuse_shared, write_file
@@ -69,11 +71,14 @@ def _run(given: argparse.Namespace) -> None:
     """Everything is read, checked and drawn before the first file is written."""
     inputs = [path for path in (given.instance, given.report, given.certificate, given.uplift) if path is not None]
     refuse_shared(inputs, [path for path in (given.page, given.table) if path is not None])
-    instance = read_instance(given.instance, read_file(given.instance))
+    data = read_file(given.instance)
+    instance = read_instance(given.instance, data)
     report = read_report(given.report, read_file(given.report))
     certificate: Optional[Certificate] = None
+    certificate_data = b""
     if given.certificate is not None:
-        certificate = read_certificate(given.certificate, read_file(given.certificate))
+        certificate_data = read_file(given.certificate)
+        certificate = read_certificate(given.certificate, certificate_data)
     penalty = _penalty(given, certificate)
     check_report(instance, report, penalty)
     if given.gap is not None:
@@ -81,7 +86,8 @@ def _run(given: argparse.Namespace) -> None:
     if certificate:
         check_certificate(instance, report, certificate)
     uplift = _uplift(given, instance, report, penalty)
-    drawn = page(instance, report, certificate, pathlib.PurePath(given.instance).name, given.gap, penalty, uplift)
+    why = page_lines(given.instance, data, report, given.certificate, certificate_data)
+    drawn = page(instance, report, certificate, pathlib.PurePath(given.instance).name, given.gap, penalty, uplift, why)
     table = io.StringIO()
     write_table(instance, report.schedule, certificate.prices if certificate else None, table)
     write_file(given.page, drawn)

@@ -40,11 +40,15 @@ def page(
     gap: Optional[int] = None,
     penalty: Penalty = NO_PENALTY,
     uplift: Optional[Uplift] = None,
+    why: Optional[List[str]] = None,
 ) -> str:
-    """The whole page; the name is the instance's, the gap that which was asked for, in parts per million."""
+    """The whole page; the name is the instance's, the gap that which was asked for, in parts per million.
+
+    The lines of why are the reason that no schedule exists or was found; those that begin with a blank tell more of the one before.
+    """
     schedule = report.schedule
     short = shortages(schedule, instance.periods, penalty) if schedule else None
-    parts = [element("h1", text(f"Schedule of {name}" if schedule else name)), *_outcome(report, certificate)]
+    parts = [element("h1", text(f"Schedule of {name}" if schedule else name)), *_outcome(report, certificate, why or [])]
     parts.append(_head(instance, report, gap, [it for it in short or () if it.price]))
     parts += _charts(instance, schedule, short) if schedule and short else _demand(instance, report)
     if uplift:
@@ -62,16 +66,34 @@ def page(
     return f'<!DOCTYPE html>\n<html lang="en">{element("head", head)}{element("body", element("main", "".join(parts) + foot))}</html>\n'
 
 
-def _outcome(report: Report, certificate: Optional[Certificate]) -> List[str]:
+def _outcome(report: Report, certificate: Optional[Certificate], why: List[str]) -> List[str]:
     """What came out, and why where there is no schedule."""
     found = [element("p", OUTCOMES[report.outcome], class_="outcome")]
     if report.stuck:
         found.append(element("p", "Why none was found: " + element("code", text(report.stuck.text))))
+    found += [_why(line) for line in why]
     if report.stopped:
         found.append(element("p", text(_window(report.stopped))))
-    if report.outcome is Outcome.INFEASIBLE and certificate:
-        found.append(element("p", "The certificate's reason: " + text(_reason(certificate.leaves))))
+    if report.outcome is Outcome.INFEASIBLE:
+        found += _certificate_reason(certificate, bool(why))
     return found
+
+
+def _why(line: str) -> str:
+    """A line of the reason, with the parts between backquotes as code."""
+    parts = text(line.strip()).split("`")
+    words = "".join(element("code", part) if n % 2 else part for n, part in enumerate(parts))
+    return element("p", words, class_="more" if line.startswith(" ") else "why")
+
+
+def _certificate_reason(certificate: Optional[Certificate], is_told: bool) -> List[str]:
+    """What the certificate names as the reason, and whether it was put into words; without it there is none to tell."""
+    if not certificate:
+        return [element("p", "The certificate has the reason. Draw it with its certificate to see why.")]
+    words = "The certificate's reason: " + text(_reason(certificate.leaves))
+    if not is_told:
+        words += " The instance doesn't bear this out: <code>uc check</code> refuses such a certificate."
+    return [element("p", words)]
 
 
 def _window(stopped: Stopped) -> str:
