@@ -23,7 +23,8 @@ sys.dont_write_bytecode = True
 HERE = pathlib.Path(__file__).resolve().parent
 sys.path.insert(0, str(HERE))
 
-from instance_table import command, program  # noqa: E402
+from instance_table import command  # noqa: E402
+from program_runs import program  # noqa: E402
 
 COAST = HERE / "tests/coast.report"
 SHORT = HERE / "tests/coast_short.report"

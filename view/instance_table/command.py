@@ -7,13 +7,13 @@ import sys
 import tempfile
 from typing import Dict, List, Optional, Tuple
 
+from program_runs.options import MOST_UNITS, UNITS, add_search_options, number_of, search_options
+from program_runs.program import add_program, built_program
 from schedule_view.files import make_folder, move_file, read_file, refuse_shared, remove_file
 from schedule_view.refusal import Refusal
 from schedule_view.report import Report, read_report
 
 from .cases import cases, certificate_paths
-from .options import MOST_UNITS, UNITS, add_search_options, number_of, search_options
-from .program import add_program, built_program
 from .progress import Progress
 from .rows import STATUS_OF, row_of
 from .runs import Ended, Task, run_all, stops_held
