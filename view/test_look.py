@@ -89,7 +89,12 @@ def c_off(**changes: object) -> List[Edit]:
 
 def large_c(most: int) -> List[Edit]:
     """The last unit with such a maximum, and a demand that isn't far below it."""
-    changes = {"power_output_maximum": most, "ramp_up_limit": most, "ramp_down_limit": most, "piecewise_production": points((10, 300), (most, 40 * most))}
+    changes = {
+        "power_output_maximum": most,
+        "ramp_up_limit": most,
+        "ramp_down_limit": most,
+        "piecewise_production": points((10, 300), (most, 40 * most)),
+    }
     return [*fields(*C, **changes), (("demand", 3), 1100)]
 
 

@@ -17,8 +17,8 @@ from schedule_view.report import Schedule, read_report
 from .state import state_after
 from .value import behind, next_value, read_hours, text_of
 
-ABOUT = """Writes the instance that goes on from an hour of a schedule: each unit begins in the state in which the schedule leaves it there, and the
-hours are those behind, or those of a file of demand. What keeps its rules, behind the hours before it, keeps those of the whole."""
+ABOUT = """Writes the instance that goes on from an hour of a schedule: each unit begins in the state in which the schedule leaves it there,
+and the hours are those behind, or those of a file of demand. A schedule of it goes on from the one before by the same rules."""
 
 
 def main(words: List[str]) -> int:

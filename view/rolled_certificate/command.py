@@ -19,8 +19,8 @@ from schedule_view.shortages import Penalty
 
 from .text import Basis, basis_of, certificate_text, zero_basis
 
-ABOUT = """Writes the certificate of a schedule of `uc roll`, which has none, and prints what `uc check` says of it. The bound is that of a certificate
-of the same instance, or without one that of prices of 0. A certificate that `uc check` refuses isn't written."""
+ABOUT = """Writes the certificate of a schedule of `uc roll`, which has none, and prints what `uc check` says of it. The bound is that of a
+certificate of the same instance, or without one that of prices of 0. A certificate that `uc check` refuses isn't written."""
 
 
 def main(words: List[str]) -> int:
