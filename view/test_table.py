@@ -46,7 +46,7 @@ RUNS = (
     ("spent", f"cat {COAST}\nexit 1\n", "1,5046.666668,4793.333330,50199,1", ""),
     ("none", NO_SCHEDULE, "2,,7.500000,,12", ""),
     ("infeasible", INFEASIBLE, "3,,,,0", ""),
-    ("refused", "echo 'instance: I1 demand' >&2\nexit 4\n", "4,,,,", "status 4: instance: I1 demand"),
+    ("refused", "echo 'uc: a note' >&2\necho 'instance: I1 demand' >&2\nexit 4\n", "4,,,,", "status 4: instance: I1 demand"),
     ("killed", "kill -9 $$\n", "-9,,,,", "signal 9"),
     ("other", INFEASIBLE.replace("exit 3", "exit 0"), "0,,,,", "status 0: the report says infeasible"),
     ("broken", CLOSED.replace("2.999999", "3"), "0,,,,", 'status 0: the report: line 4: "3" is no amount of money'),
@@ -320,6 +320,8 @@ class Refused(TableTest):
             self.assertEqual(said.getvalue(), f"uc-table: {script}: ended with 70, and gave no program\n")
             script.write_text("#!/bin/sh\nexit 0\n")
             self.assertEqual(command.main(words), 0)
+            with unittest.mock.patch.dict(os.environ, UC_BUILD="unproved"):
+                self.assertEqual(program.built_program(None), str(script))
         self.assertEqual((self.folder / "uc.words").read_text(), "demo 0\n")
         self.assertEqual(len(self.calls()), 1)
 

@@ -8,7 +8,7 @@ import tempfile
 from typing import Dict, List, Optional, Tuple
 
 from program_runs.options import MOST_UNITS, UNITS, add_search_options, number_of, search_options
-from program_runs.program import add_program, built_program
+from program_runs.program import add_program, built_program, last_line
 from schedule_view.files import make_folder, move_file, read_file, refuse_shared, remove_file
 from schedule_view.refusal import Refusal
 from schedule_view.report import Report, read_report
@@ -136,7 +136,7 @@ class Book:
 def _answer(run: Ended) -> Tuple[Optional[Report], str]:
     """The report of a run that came to an answer; else what is wrong."""
     if run.status not in STATUS_OF.values():
-        told = read_file(str(run.task.errors)).decode("utf-8", "replace").partition("\n")[0]
+        told = last_line(read_file(str(run.task.errors)))
         what = f"signal {-run.status}" if run.status < 0 else f"status {run.status}"
         return None, f"{what}: {told}" if told else what
     try:

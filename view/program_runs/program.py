@@ -11,7 +11,7 @@ from schedule_view.files import cause
 from schedule_view.refusal import Refusal
 
 TOP = pathlib.Path(__file__).resolve().parent.parent.parent
-BUILT = "crates/uc/out/uc"
+BUILT, PROVED = "crates/uc/out/uc", "proved"
 # the statuses of an answer of `uc demo`
 ANSWERS = range(4)
 
@@ -22,7 +22,10 @@ def add_program(parser: argparse.ArgumentParser) -> None:
 
 
 def built_program(path: Optional[str]) -> str:
-    """The program to run: that of the words, or the one of this repository, which is built first where it isn't there."""
+    """The program to run: that of the words, or the one of this repository, which is built first where it isn't there.
+
+    Where UC_BUILD asks `./uc` for another build, `./uc` knows where that is, and is run itself.
+    """
     if path is not None:
         if not (os.path.isfile(path) and os.access(path, os.X_OK)):
             raise Refusal(path, "", "no program that can be run")
@@ -34,4 +37,9 @@ def built_program(path: Optional[str]) -> str:
         raise Refusal(script, "", f"can't be run: {cause(error)}") from None
     if tried.returncode not in ANSWERS:
         raise Refusal(script, "", f"ended with {tried.returncode}, and gave no program")
-    return str(TOP / BUILT)
+    return str(TOP / BUILT) if os.environ.get("UC_BUILD", PROVED) == PROVED else script
+
+
+def last_line(errors: bytes) -> str:
+    """What a run that failed says of its cause, which is the last line of its error output."""
+    return errors.decode("utf-8", "replace").rstrip("\n").rpartition("\n")[2]

@@ -8,7 +8,7 @@ from typing import List, Optional, Tuple
 
 from instance_check.units import System, read_system
 from program_runs.draft import draft_of
-from program_runs.program import add_program, built_program
+from program_runs.program import add_program, built_program, last_line
 from schedule_view.certificate import Certificate, read_certificate
 from schedule_view.command import price_of
 from schedule_view.files import cause, read_file, refuse_shared, write_file
@@ -100,6 +100,6 @@ def _checked(program: str, instance: str, certificate: str, penalty: Penalty) ->
     except OSError as error:
         raise Refusal(program, "", f"can't be run: {cause(error)}") from None
     if run.returncode:
-        told = run.stderr.decode("utf-8", "replace").partition("\n")[0]
+        told = last_line(run.stderr)
         raise Refusal(instance, "", f"`uc check` refuses the certificate with {run.returncode}{': ' + told if told else ''}")
     return run.stdout.decode("utf-8", "replace")

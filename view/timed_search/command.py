@@ -13,7 +13,7 @@ from instance_table.rows import STATUS_OF
 from instance_table.runs import stops_held
 from program_runs.draft import Draft, draft_of
 from program_runs.options import MOST_UNITS, add_search_options, number_of, search_options
-from program_runs.program import add_program, built_program
+from program_runs.program import add_program, built_program, last_line
 from schedule_view.files import cause, read_file, refuse_shared
 from schedule_view.refusal import Refusal, printable
 
@@ -149,7 +149,7 @@ class Search:
         if status in STATUS_OF.values():
             self._keep(answer_of(budget, status, read_file(str(task.report))))
             return True
-        told = read_file(str(task.errors)).decode("utf-8", "replace").partition("\n")[0]
+        told = last_line(read_file(str(task.errors)))
         what = f"signal {-status}" if status < 0 else f"status {status}"
         _tell(f"budget {budget}: {what}{': ' + told if told else ''}")
         self._status = status if status > 0 else 128 - status
