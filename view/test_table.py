@@ -4,6 +4,7 @@ from __future__ import annotations
 import contextlib
 import fcntl
 import io
+import itertools
 import json
 import os
 import pathlib
@@ -23,6 +24,7 @@ HERE = pathlib.Path(__file__).resolve().parent
 sys.path.insert(0, str(HERE))
 
 from instance_table import command  # noqa: E402
+from program_runs import program  # noqa: E402
 
 COAST = HERE / "tests/coast.report"
 SHORT = HERE / "tests/coast_short.report"
@@ -32,7 +34,8 @@ for word; do case $word in --cert=*) certificate=${word#--cert=} ;; esac; file=$
 case $file in /*) ;; *) file=./$file ;; esac
 . "$file"
 """
-HEAD = "name,status,cost,bound,gap,evaluations,seconds,memory"
+HEAD = "name,status,cost,bound,gap,evaluations,seconds,memory,options"
+OPTIONS = "--units=1000 --workers=1 --gap=1000"
 SIZES = "echo periods 1 thermal 0 renewable 0 rounded 0\n"
 NO_SCHEDULE = SIZES + "echo budget spent, no schedule found\necho bound 7.500000\necho evaluations 12\nexit 2\n"
 INFEASIBLE = SIZES + "echo infeasible\necho evaluations 0\nexit 3\n"
@@ -43,7 +46,7 @@ RUNS = (
     ("spent", f"cat {COAST}\nexit 1\n", "1,5046.666668,4793.333330,50199,1", ""),
     ("none", NO_SCHEDULE, "2,,7.500000,,12", ""),
     ("infeasible", INFEASIBLE, "3,,,,0", ""),
-    ("refused", "echo 'instance: I1 demand' >&2\nexit 4\n", "4,,,,", "status 4: instance: I1 demand"),
+    ("refused", "echo 'uc: a note' >&2\necho 'instance: I1 demand' >&2\nexit 4\n", "4,,,,", "status 4: instance: I1 demand"),
     ("killed", "kill -9 $$\n", "-9,,,,", "signal 9"),
     ("other", INFEASIBLE.replace("exit 3", "exit 0"), "0,,,,", "status 0: the report says infeasible"),
     ("broken", CLOSED.replace("2.999999", "3"), "0,,,,", 'status 0: the report: line 4: "3" is no amount of money'),
@@ -54,11 +57,12 @@ BROKEN_TABLES = (
     ("t.csv", "name,status\n", "line 1: not what a table of instances begins with"),
     ("t.csv", "notes", "line 1: not what a table of instances begins with"),
     ("t.jsonl", "notes", "line 1: not what a table of instances begins with"),
-    ("t.csv", HEAD + "\nx\ny", "line 2: 1 cells, where there are 8 columns"),
-    ("t.csv", HEAD + "\nx,0,1.000000,1.000000,0,1,0.000000\n", "line 2: 7 cells, where there are 8 columns"),
-    ("t.csv", HEAD + "\nx,,,,,,0.000000,1.000000\n", "line 2: no status of a row"),
-    ("t.csv", HEAD + "\nx,0,1.0,1.000000,0,1,0.000000,1.000000\n", "line 2: no cost of a row"),
-    ("t.csv", HEAD + "\nx,4,,,,,0.000000,1.000000\nx,4,,,,,0.000000,1.000000\n", "line 3: a second row of x"),
+    ("t.csv", HEAD + "\nx\ny", "line 2: 1 cells, where there are 9 columns"),
+    ("t.csv", HEAD + "\nx,0,1.000000,1.000000,0,1,0.000000\n", "line 2: 7 cells, where there are 9 columns"),
+    ("t.csv", HEAD + "\nx,,,,,,0.000000,1.000000,--gap=0\n", "line 2: no status of a row"),
+    ("t.csv", HEAD + "\nx,0,1.0,1.000000,0,1,0.000000,1.000000,--gap=0\n", "line 2: no cost of a row"),
+    ("t.csv", HEAD + "\nx,4,,,,,0.000000,1.000000,\n", "line 2: no options of a row"),
+    ("t.csv", HEAD + "\nx,4,,,,,0.000000,1.000000,-\nx,4,,,,,0.000000,1.000000,-\n", "line 3: a second row of x"),
     ("t.csv", HEAD + '\n"x,4\n', "line 2: "),
     ("t.jsonl", "[]\n", "line 1: no object of the columns in their order"),
     ("t.jsonl", '{"name": "x"\n', "line 1: "),
@@ -130,7 +134,7 @@ class Rows(TableTest):
         self.assertEqual(len(rows), len(RUNS))
         for name, _, cells, told in RUNS:
             with self.subTest(name):
-                self.assertRegex(rows[str(files[name])], rf"^{re.escape(cells)},\d\.\d{{6}},\d+\.\d{{6}}$")
+                self.assertRegex(rows[str(files[name])], rf"^{re.escape(cells)},\d\.\d{{6}},\d+\.\d{{6}},{OPTIONS}$")
                 self.assertEqual(f"uc-table: {files[name]}: {told}\n" in said, bool(told))
         self.assertEqual(said.count("\n"), sum(bool(told) for _, _, _, told in RUNS))
 
@@ -143,19 +147,20 @@ class Rows(TableTest):
             self.assertEqual(",".join(row), HEAD)
             self.assertEqual(row["name"], str(files[name]))
             self.assertEqual(",".join(cell or "" for cell in list(row.values())[1:6]), cells)
+            self.assertEqual(row["options"], OPTIONS)
 
     def test_folders_and_names(self) -> None:
         for name in ("more/b.json", 'more/a, "1".json', "more/c.txt", "-x.json"):
             self.put(name, CLOSED)
         with working_in(self.folder):
             self.assertEqual(self.run_table("more", "more/../more/b.json", "./-x.json"), (0, ""))
-        self.assertEqual([line.rsplit(",", 7)[0] for line in self.lines()], ["name", '"more/a, ""1"".json"', "more/b.json", "-x.json"])
+        self.assertEqual([line.rsplit(",", 8)[0] for line in self.lines()], ["name", '"more/a, ""1"".json"', "more/b.json", "-x.json"])
 
     def test_time_and_memory_are_those_of_the_run(self) -> None:
         busy = self.put("busy.json", "n=0; while [ $n -lt 100000 ]; do n=$((n + 1)); done\n" + CLOSED)
         large = self.put("large.json", f"{sys.executable} -c 'bytearray(100000000).find(1)'\n" + CLOSED)
         self.assertEqual(self.run_table(busy, large), (0, ""))
-        (seconds, small), (_, memory) = (map(float, line.split(",")[-2:]) for line in self.lines()[1:])
+        (seconds, small), (_, memory) = (map(float, line.split(",")[-3:-1]) for line in self.lines()[1:])
         self.assertGreater(seconds, 0.005)
         # less than an interpreter that runs these tests takes itself
         self.assertLess(small, 8)
@@ -169,6 +174,7 @@ class Rows(TableTest):
         (call,) = self.calls()
         options = "--units=7 --workers=2 --gap=0 --shed=1000 --spill-reserve=100 --exact --exact-units"
         self.assertRegex(call, rf"^solve --cert=[^ ]+ {options} -- {re.escape(str(case))}$")
+        self.assertTrue(self.lines()[1].endswith(f",{options}"))
 
 
 class Goings(TableTest):
@@ -269,6 +275,26 @@ class Refused(TableTest):
                 self.refused(f"{self.table}: {place}", case)
                 self.assertEqual(self.table.read_text(), text)
 
+    def test_tables_of_other_options(self) -> None:
+        cases = [self.put(f"{name}.json", CLOSED) for name in "ab"]
+        for table, words in itertools.product(("t.csv", "t.jsonl"), (("--units", 7), ("--exact",), ("--shed", 500, "--gap", 0))):
+            self.table = self.folder / table
+            self.table.unlink() if self.table.exists() else None
+            self.assertEqual(self.run_table(cases[0], *words), (0, ""))
+            before = self.table.read_bytes(), self.calls()
+            status, said = self.run_table(*cases)
+            self.assertEqual((status, said.count("\n")), (1, 1))
+            self.assertTrue(said.startswith(f"uc-table: {self.table}: row of {cases[0]}: its options are --"), said)
+            self.assertTrue(said.endswith(f", and those of the words {OPTIONS}\n"), said)
+            self.assertEqual((self.table.read_bytes(), self.calls()), before)
+            self.assertEqual(self.run_table(*cases, *words), (0, ""))
+
+    def test_defaults_are_no_other_options(self) -> None:
+        case = self.put("a.json", CLOSED)
+        self.assertEqual(self.run_table(case), (0, ""))
+        self.assertEqual(self.run_table(case, "--gap", 1000, "--workers", 1, "--units", 1000), (0, ""))
+        self.assertEqual(len(self.calls()), 1)
+
     def test_tables_in_use(self) -> None:
         case = self.put("a.json", CLOSED)
         with self.table.open("ab") as other:
@@ -288,12 +314,14 @@ class Refused(TableTest):
         case, script = self.put("a.json", CLOSED), self.put("uc", '#!/bin/sh\necho "$@" > "$0.words"\nexit 70\n')
         script.chmod(0o755)
         words = [str(case), "-o", str(self.table)]
-        with unittest.mock.patch.object(command, "TOP", self.folder), unittest.mock.patch.object(command, "BUILT", "program"):
+        with unittest.mock.patch.object(program, "TOP", self.folder), unittest.mock.patch.object(program, "BUILT", "program"):
             with contextlib.redirect_stderr(io.StringIO()) as said:
                 self.assertEqual(command.main(words), 1)
             self.assertEqual(said.getvalue(), f"uc-table: {script}: ended with 70, and gave no program\n")
             script.write_text("#!/bin/sh\nexit 0\n")
             self.assertEqual(command.main(words), 0)
+            with unittest.mock.patch.dict(os.environ, UC_BUILD="unproved"):
+                self.assertEqual(program.built_program(None), str(script))
         self.assertEqual((self.folder / "uc.words").read_text(), "demo 0\n")
         self.assertEqual(len(self.calls()), 1)
 

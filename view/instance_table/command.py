@@ -2,15 +2,14 @@
 from __future__ import annotations
 
 import argparse
-import os
 import pathlib
-import subprocess
 import sys
 import tempfile
-from typing import Callable, Dict, List, Optional, Tuple
+from typing import Dict, List, Optional, Tuple
 
-from schedule_view.command import gap_of, price_of
-from schedule_view.files import cause, make_folder, move_file, read_file, refuse_shared, remove_file
+from program_runs.options import MOST_UNITS, UNITS, add_search_options, number_of, search_options
+from program_runs.program import add_program, built_program, last_line
+from schedule_view.files import make_folder, move_file, read_file, refuse_shared, remove_file
 from schedule_view.refusal import Refusal
 from schedule_view.report import Report, read_report
 
@@ -20,12 +19,10 @@ from .rows import STATUS_OF, row_of
 from .runs import Ended, Task, run_all, stops_held
 from .table_file import TableFile
 
-TOP = pathlib.Path(__file__).resolve().parent.parent.parent
-BUILT = "crates/uc/out/uc"
-MOST_UNITS, MOST_WORKERS, MOST_AT_ONCE, STOPPED = 1_000_000, 64, 4096, 130
+MOST_AT_ONCE, STOPPED = 4096, 130
 ABOUT = """Runs `uc solve` on instances and writes a row of a table for each: name, status, cost, bound, gap in parts per million,
-evaluations, seconds of the processor, and memory in megabytes. Rows that the table has are kept, and their instances aren't run
-again."""
+evaluations, seconds of the processor, memory in megabytes, and the options. Rows that the table has are kept, and their instances
+aren't run again; a table of other options is refused."""
 
 
 def main(words: List[str]) -> int:
@@ -46,28 +43,12 @@ def _parser() -> argparse.ArgumentParser:
     parser = argparse.ArgumentParser(prog="uc-table", description=ABOUT)
     parser.add_argument("cases", metavar="FILE", nargs="+", help="an instance, or a folder, whose files that end in .json are taken")
     parser.add_argument("-o", dest="table", metavar="TABLE", required=True, help="the table, OUT.csv, or OUT.jsonl for JSON lines")
-    parser.add_argument("-j", dest="most", metavar="N", type=_number(MOST_AT_ONCE), default=1, help="how many run at once; 1")
+    parser.add_argument("-j", dest="most", metavar="N", type=number_of(MOST_AT_ONCE), default=1, help="how many run at once; 1")
     parser.add_argument("--certs", metavar="FOLDER", help="where certificates are kept, NAME.cert of NAME.json")
-    parser.add_argument("--units", metavar="N", type=_number(MOST_UNITS), help="goes to `uc solve`")
-    parser.add_argument("--gap", metavar="PPM", type=gap_of, help="goes to `uc solve`")
-    parser.add_argument("--workers", metavar="N", type=_number(MOST_WORKERS), help="goes to `uc solve`, whose run takes so many processors")
-    for option in ("--exact", "--exact-units"):
-        parser.add_argument(option, action="store_true", help="goes to `uc solve`")
-    for option in ("--shed", "--spill-reserve"):
-        parser.add_argument(option, metavar="PRICE", type=price_of, help="goes to `uc solve`")
-    parser.add_argument("--program", metavar="UC", help=f"the program that is run; {BUILT}, as ./uc builds it")
+    parser.add_argument("--units", metavar="N", type=number_of(MOST_UNITS), default=UNITS, help=f"goes to `uc solve`; {UNITS}")
+    add_search_options(parser)
+    add_program(parser)
     return parser
-
-
-def _number(most: int) -> Callable[[str], int]:
-    """What reads a whole number from 1 to the greatest one; a word that is none is an error of the words."""
-
-    def read(text: str) -> int:
-        if not (text.isascii() and text.isdigit() and 1 <= int(text) <= most):
-            raise argparse.ArgumentTypeError(f"{text} is not a whole number from 1 to {most}")
-        return int(text)
-
-    return read
 
 
 def _run(given: argparse.Namespace) -> bool:
@@ -77,21 +58,34 @@ def _run(given: argparse.Namespace) -> bool:
     kept = certificate_paths(given.certs, names) if given.certs is not None else {}
     table = TableFile(given.table)
     try:
+        _refuse_mixed(table, " ".join(_options(given)))
         missing = [name for name in names if name not in table.rows]
         if missing:
             with tempfile.TemporaryDirectory() as folder:
                 tasks = _tasks(given, missing, pathlib.Path(folder), kept)
                 failed = sum(name in table.rows and not table.rows[name].is_answered for name in names)
                 progress = Progress(sys.stderr, len(names), len(names) - len(missing), failed)
-                _run_tasks(tasks, given.most, Book(table, progress, kept))
+                _run_tasks(tasks, given.most, Book(table, progress, kept, " ".join(_options(given))))
         return all(table.rows[name].is_answered for name in names)
     finally:
         table.close()
 
 
+def _options(given: argparse.Namespace) -> List[str]:
+    """The options that go to `uc solve`, and into the rows."""
+    return [f"--units={given.units}", *search_options(given)]
+
+
+def _refuse_mixed(table: TableFile, options: str) -> None:
+    """Refused where a row of the table comes of other options."""
+    for row in table.rows.values():
+        if row.options != options:
+            raise Refusal(table.path, f"row of {row.name}", f"its options are {row.options}, and those of the words {options}")
+
+
 def _tasks(given: argparse.Namespace, names: List[str], folder: pathlib.Path, kept: Dict[str, str]) -> List[Task]:
     """What is to be run. A certificate that is to be kept is first written beside its place."""
-    program = _program(given.program)
+    program = built_program(given.program)
     if given.certs is not None:
         make_folder(given.certs)
     options = _options(given)
@@ -102,36 +96,6 @@ def _tasks(given: argparse.Namespace, names: List[str], folder: pathlib.Path, ke
             files[2] = pathlib.Path(kept[name] + ".part")
         tasks.append(Task(name, [program, "solve", f"--cert={files[2]}", *options, "--", name], *files))
     return tasks
-
-
-def _options(given: argparse.Namespace) -> List[str]:
-    """The options that go to `uc solve`."""
-    numbers = (
-        ("units", given.units),
-        ("workers", given.workers),
-        ("gap", given.gap),
-        ("shed", given.shed),
-        ("spill-reserve", given.spill_reserve),
-    )
-    switches = (("exact", given.exact), ("exact-units", given.exact_units))
-    options = [f"--{option}={value}" for option, value in numbers if value is not None]
-    return options + [f"--{option}" for option, is_given in switches if is_given]
-
-
-def _program(path: Optional[str]) -> str:
-    """The program to run: that of the words, or the one of this repository, which is built first where it isn't there."""
-    if path is not None:
-        if not (os.path.isfile(path) and os.access(path, os.X_OK)):
-            raise Refusal(path, "", "no program that can be run")
-        return os.path.abspath(path)
-    script = str(TOP / "uc")
-    try:
-        tried = subprocess.run([script, "demo", "0"], stdin=subprocess.DEVNULL, stdout=subprocess.DEVNULL, check=False)
-    except OSError as error:
-        raise Refusal(script, "", f"can't be run: {cause(error)}") from None
-    if tried.returncode not in STATUS_OF.values():
-        raise Refusal(script, "", f"ended with {tried.returncode}, and gave no program")
-    return str(TOP / BUILT)
 
 
 def _run_tasks(tasks: List[Task], most: int, book: Book) -> None:
@@ -147,9 +111,9 @@ def _run_tasks(tasks: List[Task], most: int, book: Book) -> None:
 class Book:
     """Takes what ended runs leave: a row for the table, the certificate, and a word of a failure."""
 
-    def __init__(self, table: TableFile, progress: Progress, kept: Dict[str, str]) -> None:
+    def __init__(self, table: TableFile, progress: Progress, kept: Dict[str, str], options: str) -> None:
         self.progress = progress
-        self._table, self._kept = table, kept
+        self._table, self._kept, self._options = table, kept, options
 
     def began(self, task: Task) -> None:
         """A run was begun."""
@@ -163,7 +127,7 @@ class Book:
             move_file(str(run.task.certificate), self._kept[name])
         for path in (run.task.report, run.task.errors, run.task.certificate):
             remove_file(str(path))
-        self._table.append(row_of(name, run.status, report, (run.microseconds, run.memory)))
+        self._table.append(row_of(name, run.status, report, (run.microseconds, run.memory), self._options))
         self.progress.ended(name, report is not None)
         if fault:
             self.progress.say(f"uc-table: {name}: {fault}")
@@ -172,7 +136,7 @@ class Book:
 def _answer(run: Ended) -> Tuple[Optional[Report], str]:
     """The report of a run that came to an answer; else what is wrong."""
     if run.status not in STATUS_OF.values():
-        told = read_file(str(run.task.errors)).decode("utf-8", "replace").partition("\n")[0]
+        told = last_line(read_file(str(run.task.errors)))
         what = f"signal {-run.status}" if run.status < 0 else f"status {run.status}"
         return None, f"{what}: {told}" if told else what
     try:

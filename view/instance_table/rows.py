@@ -18,7 +18,8 @@ class Row:
     """What a run answered and took; None where it has no such number.
 
     Cost and bound are in micro-dollars, the gap in parts per million of the cost, rounded up. The status is that of the program, or
-    the number of the signal that ended it, below 0. Microseconds are those of the processor, bytes the greatest resident memory.
+    the number of the signal that ended it, below 0. Microseconds are those of the processor, bytes the greatest resident memory. The
+    options are the words that the program was given.
     """
 
     name: str
@@ -29,6 +30,7 @@ class Row:
     evaluations: Optional[int]
     seconds: int
     memory: int
+    options: str
 
     @property
     def is_answered(self) -> bool:
@@ -36,13 +38,13 @@ class Row:
         return self.evaluations is not None
 
 
-def row_of(name: str, status: int, report: Optional[Report], used: Tuple[int, int]) -> Row:
-    """The row of a run that ended, with its report if it has one, and the microseconds and bytes that it used."""
+def row_of(name: str, status: int, report: Optional[Report], used: Tuple[int, int], options: str) -> Row:
+    """The row of a run that ended, with its report if it has one, the microseconds and bytes that it used, and its options."""
     if report is None:
-        return Row(name, status, None, None, None, None, *used)
+        return Row(name, status, None, None, None, None, *used, options)
     cost = report.schedule.cost if report.schedule else None
     gap = None if cost is None or report.bound is None else gap_parts(cost, report.bound)
-    return Row(name, status, cost, report.bound, gap, report.evaluations, *used)
+    return Row(name, status, cost, report.bound, gap, report.evaluations, *used, options)
 
 
 # the columns in their order, with what writes a cell and what reads it; None is a text that is no such cell
@@ -55,7 +57,9 @@ _COLUMNS = (
     ("evaluations", str, signed),
     ("seconds", amount_text, amount),
     ("memory", amount_text, amount),
+    ("options", str, lambda text: text or None),
 )
+_TEXTS = {"name", "options"}
 _MAY_LACK = {"cost", "bound", "gap", "evaluations"}
 HEAD = [name for name, _, _ in _COLUMNS]
 assert HEAD == [field.name for field in fields(Row)]
@@ -117,7 +121,7 @@ class JsonLines:
     @staticmethod
     def line(row: Row) -> str:
         """The line of a row."""
-        words = (json.dumps(cell, ensure_ascii=False) if name == "name" else cell for name, cell in zip(HEAD, _cells(row)))
+        words = (json.dumps(cell, ensure_ascii=False) if name in _TEXTS else cell for name, cell in zip(HEAD, _cells(row)))
         return "{" + ", ".join(f'"{name}": {word or "null"}' for name, word in zip(HEAD, words)) + "}\n"
 
     @staticmethod
@@ -128,7 +132,7 @@ class JsonLines:
             raise ValueError("no object of the columns in their order")
         cells: Cells = []
         for name, cell in value.items():
-            if cell is not None and not (isinstance(cell, str) and isinstance(cell, _Number) == (name != "name")):
+            if cell is not None and not (isinstance(cell, str) and isinstance(cell, _Number) == (name not in _TEXTS)):
                 raise ValueError(f"no {name} of a row")
             cells.append(None if cell is None else str(cell))
         return _row(cells)

@@ -16,7 +16,7 @@ class TableFile:
 
     def __init__(self, path: str) -> None:
         """Opens the table, or makes it. Refused where it is none, or another run writes it."""
-        self._path = path
+        self.path = path
         self._form = _form(path)
         self.rows: Dict[str, Row] = {}
         try:
@@ -43,7 +43,7 @@ class TableFile:
         try:
             fcntl.flock(self._file, fcntl.LOCK_EX | fcntl.LOCK_NB)
         except BlockingIOError:
-            raise Refusal(self._path, "", "another run writes it") from None
+            raise Refusal(self.path, "", "another run writes it") from None
         except OSError:
             # the file system has no locks: then nothing keeps two runs apart
             pass
@@ -56,7 +56,7 @@ class TableFile:
         lines, rest = self._decoded(data[:cut]).split("\n")[:-1], data[cut:]
         head, opening = self._form.head.splitlines(), self._form.opening.encode("utf-8")
         if lines[: len(head)] != head[: len(lines)] or not (lines or opening.startswith(rest) or rest.startswith(opening)):
-            raise Refusal(self._path, "line 1", "not what a table of instances begins with")
+            raise Refusal(self.path, "line 1", "not what a table of instances begins with")
         for number, line in enumerate(lines[len(head) :], len(head) + 1):
             self._add(number, line)
         self._file.truncate(cut)
@@ -67,15 +67,15 @@ class TableFile:
         try:
             return data.decode("utf-8")
         except UnicodeDecodeError:
-            raise Refusal(self._path, "", "not UTF-8") from None
+            raise Refusal(self.path, "", "not UTF-8") from None
 
     def _add(self, number: int, line: str) -> None:
         try:
             row = self._form.row(line)
         except ValueError as error:
-            raise Refusal(self._path, f"line {number}", str(error)) from None
+            raise Refusal(self.path, f"line {number}", str(error)) from None
         if row.name in self.rows:
-            raise Refusal(self._path, f"line {number}", f"a second row of {row.name}")
+            raise Refusal(self.path, f"line {number}", f"a second row of {row.name}")
         self.rows[row.name] = row
 
     def _put(self, text: str) -> None:
@@ -84,7 +84,7 @@ class TableFile:
             while data:
                 data = data[self._file.write(data) :]
         except OSError as error:
-            raise Refusal(self._path, "", f"can't be written: {cause(error)}") from None
+            raise Refusal(self.path, "", f"can't be written: {cause(error)}") from None
 
 
 def _form(path: str) -> Form:

@@ -1,0 +1,1 @@
+"""Runs of `uc solve` with growing budgets, until the time is over."""
