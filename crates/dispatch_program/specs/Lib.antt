@@ -1,0 +1,4 @@
+pub mod Programs
+pub mod LastRows
+pub mod ProgramValues
+pub mod LastTables
