@@ -35,13 +35,13 @@ pulled m n b f w =
 
 module _ (p : Program) (v : ℕ → ℤ) (solves : Solves (start_rows p) v) where
   -- values of slack columns, 0 where there is none
-  abbrev slack_at : ℕ → ℤ
+  abbrev pub slack_at : ℕ → ℤ
   slack_at j = if is_limit p j then v (place p (Slack j)) else pos 0
 
-  abbrev own_sum : ℕ → ℤ
+  abbrev pub own_sum : ℕ → ℤ
   own_sum i = sum_below p.unknowns (λ c. rule_number p i (Unknown c) *ℤ v c)
 
-  abbrev slack_sum : ℕ → ℤ
+  abbrev pub slack_sum : ℕ → ℤ
   slack_sum i = sum_below p.rules (λ j. rule_number p i (Slack j) *ℤ slack_at j)
 
   abbrev rest_of : ℕ → ℤ

@@ -1,12 +1,12 @@
 -- The rows that the table of a program has at the start, column by column.
 -- Cite by `use Rattle.dispatch_program.proofs.Starts.{start_is}`.
-use Rattle.std.proofs.Common.{◌≡◌, ℕ, zero, suc, ◌+◌, ◌<◌, ◌≤◌, Bool, true, false, ⊎_elim, refl, sym, ap, subst, ◌∙◌, arith, List, [], ◌∷◌, ◌++◌, map, length, slice_index_or, pos, if◌then◌else◌}
-use Rattle.std.proofs.lemmas.Bool.{cond-true, cases_lt}
+use Rattle.std.proofs.Common.{◌≡◌, ℕ, zero, suc, ◌+◌, ◌-◌, ◌<◌, ◌≤◌, Bool, true, false, ⊎_elim, refl, sym, ap, subst, ◌∙◌, arith, List, [], ◌∷◌, ◌++◌, map, length, slice_index_or, pos, IsTrue, if◌then◌else◌}
+use Rattle.std.proofs.lemmas.Bool.{cond-true, cases_Bool, cases_lt}
 use Rattle.std.proofs.lemmas.List.{length-append, length-map, get_or-map, get_or_append_left, get_or-append-add}
 use Rattle.pivot_run.specs.Rows.{entry}
 use Rattle.pivot_run.specs.Pivots.{row_at}
 use Rattle.pivot_run.specs.Tables.{basic}
-use Rattle.dispatch_program.specs.Programs.{Program, Column, Unknown, Slack, Artificial, SumValue, CostValue, RightSide, Line, RuleLine, SumLine, CostLine, line_number, picked, bump, counted, all, is_limit, has_artificial, columns_of, lines_of, start_rows, place, slacks, artificials, HasColumn, own_column, basic_column, start_table}
+use Rattle.dispatch_program.specs.Programs.{Program, Column, Unknown, Slack, Artificial, SumValue, CostValue, RightSide, Line, RuleLine, SumLine, CostLine, line_number, picked, bump, counted, all, is_limit, has_artificial, columns_of, lines_of, start_rows, place, slacks, artificials, HasColumn, own_column, basic_column, start_table, free_columns}
 use Rattle.dispatch_program.proofs.Combined.{AreStart}
 
 -- ---- picked places
@@ -48,6 +48,17 @@ picked_at test f (suc n) i d h e = ⊎_elim
     ∙ ap (λ xs. slice_index_or xs 0 d) (cond-true (test n) (f n ∷ []) [] (ap test (sym same) ∙ e))
     ∙ ap f (sym same))
     (cases_lt i n)
+
+-- the place of each that is counted
+counted_has : (test : ℕ → Bool) (n c : ℕ) → c < counted test n → (i : ℕ) × (i < n) × (test i ≡ true) × (counted test i ≡ c)
+counted_has test zero c h = absurd (omega arith)
+counted_has test (suc n) c h = ⊎_elim
+    (λ (less : c < counted test n). let found = counted_has test n c less in (found.0, omega (arith, found.1), found.2, found.3))
+    (λ (most : counted test n ≤ c). ⊎_elim
+    (λ (here : test n ≡ true). let one : bump (test n) ≡ 1 = ap bump here in (n, omega arith, here, omega arith))
+    (λ (none : test n ≡ false). let nothing : bump (test n) ≡ 0 = ap bump none in absurd (omega arith))
+    (cases_Bool (test n)))
+    (cases_lt c (counted test n))
 
 pub counted-all : (n : ℕ) → counted all n ≡ n
 counted-all zero = refl
@@ -208,3 +219,17 @@ module _ (p : Program) where
   row_long k h =
       ap length (get_or-map (λ l. map (line_number p l) (columns_of p)) (lines_of p) k CostLine [] (subst (λ m. k < m) (sym lines_long) h))
       ∙ length-map (columns_of p) (line_number p (slice_index_or (lines_of p) k CostLine)) ∙ (let long = columns_long in omega arith)
+
+-- ---- the columns that may enter
+abbrev pub IsFree : Program → Column → Type 0
+IsFree p (Unknown c) = c < p.unknowns
+IsFree p (Slack i) = (i < p.rules) × IsTrue (is_limit p i)
+IsFree p _ = ⊥
+
+pub free_column : (p : Program) (j : ℕ) → j < free_columns p → (column : Column) × IsFree p column × (place p column ≡ j)
+free_column p j h = ⊎_elim
+    (λ (less : j < p.unknowns). (Unknown j, less, refl))
+    (λ (most : p.unknowns ≤ j).
+    let found = counted_has (is_limit p) p.rules (j - p.unknowns) (omega arith) in
+    (Slack found.0, (found.1, found.2), omega (arith, found.3)))
+    (cases_lt j p.unknowns)

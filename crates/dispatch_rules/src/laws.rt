@@ -1,0 +1,33 @@
+//! The laws of a commitment's table. Each is the contract of a function that does nothing.
+
+ghost use Rattle.dispatch_rules.specs.Dispatch.{LimitsAdd, LimitsAreOnce};
+ghost use Rattle.dispatch_rules.specs.Duals.{LastRowsBound};
+ghost use Rattle.dispatch_rules.specs.Primals.{NodeCoversDispatch, ValuesDispatch};
+ghost use Rattle.dispatch_rules.specs.Rays.{CostsGoOn, NoRays};
+
+/// Each limit is a rule of the program once, and the rules are these limits alone: so multipliers are read off by limits.
+pub fn limits_are_rules()
+    ensures once { LimitsAreOnce }
+    ensures sum { LimitsAdd }
+{}
+
+/// The value of the commitment's node, at the table that is read off a last row, is at least what the row's right side says.
+pub fn last_rows_bound()
+    ensures { LastRowsBound }
+{}
+
+/// Values of 0 or above that solve the start of the table, with artificial columns of 0, obey the rules of a dispatch.
+pub fn values_are_dispatches()
+    ensures { ValuesDispatch }
+{}
+
+/// The value of the commitment's node is at least K times what the dispatch of these values costs, where they balance the last row.
+pub fn nodes_cover_dispatches()
+    ensures { NodeCoversDispatch }
+{}
+
+/// The table has no ray but of slack beside artificial columns; so wherever a column enters by the row of the cost, a row leaves.
+pub fn tables_have_no_rays()
+    ensures rays { NoRays }
+    ensures rows { CostsGoOn }
+{}
