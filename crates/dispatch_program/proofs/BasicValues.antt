@@ -46,7 +46,7 @@ module _ (t : Table) (basis : IsBasic t) (column : ℕ) (whole : ℤ) (share : �
       omega (arith, linear)
 
   -- two rows don't share a basic column
-  two_columns : (k l : ℕ) → k < length t.rows → l < length t.rows → k ≢ l → basic t k ≢ basic t l
+  pub two_columns : (k l : ℕ) → k < length t.rows → l < length t.rows → k ≢ l → basic t k ≢ basic t l
   two_columns k l h m other same =
       let own = basis.own l m in
       let none : number t l (basic t l) ≡ pos 0 = ap (number t l) (sym same) ∙ basis.others k l h m (λ e. other (sym e)) in

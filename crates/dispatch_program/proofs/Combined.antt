@@ -10,8 +10,8 @@ use Rattle.pivot_run.specs.Rows.{entry}
 use Rattle.pivot_run.specs.Pivots.{row_at}
 use Rattle.pivot_run.specs.Solutions.{dot, Solves}
 use Rattle.pivot_run.specs.Values.{at_column}
-use Rattle.dispatch_program.specs.Programs.{Program, Column, Unknown, Slack, Artificial, SumValue, CostValue, RightSide, sign, one_at, is_limit, is_negated, has_artificial, rule_number, rules_off, sum_number, cost_number, place, HasColumn, own_column, multiplier}
 use Rattle.pivot_run.proofs.Values.{dot-add, dot-at_column}
+use Rattle.dispatch_program.specs.Programs.{Program, Column, Unknown, Slack, Artificial, SumValue, CostValue, RightSide, sign, one_at, is_limit, is_negated, has_artificial, rule_number, rules_off, sum_number, cost_number, place, HasColumn, own_column, multiplier}
 
 -- what the rows of the start hold, column by column
 pub record AreStart (p : Program) (rows : List (List ℤ)) : Type 0 where

@@ -6,3 +6,6 @@ pub mod Lines
 pub mod BasicValues
 pub mod LastTables
 pub mod Entering
+pub mod Targets
+pub mod RunningTables
+pub mod ProgramRuns

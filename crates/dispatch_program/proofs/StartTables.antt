@@ -1,14 +1,14 @@
 -- The start is a table with a basis: each own column is 1 in its row, and 0 in the others.
 -- Cite by `use Rattle.dispatch_program.proofs.StartTables.{starts_are_tables}`.
-use Rattle.std.proofs.Common.{◌≡◌, ◌≢◌, ℕ, ◌+◌, ◌-◌, ◌<◌, ◌≤◌, ⊎_elim, refl, sym, subst, ◌∙◌, arith, length, ℤ, pos, ◌*ℤ◌, neg_ℤ, ◌≤ℤ◌, ◌<ℤ◌, int_lt, if◌then◌else◌}
-use Rattle.std.proofs.lemmas.Bool.{cases_lt, cases_eq, cond_both}
+use Rattle.std.proofs.Common.{◌≡◌, ◌≢◌, ℕ, ◌+◌, ◌-◌, ◌<◌, ◌≤◌, ⊎_elim, true, false, refl, sym, ap, subst, ◌∙◌, arith, length, ℤ, pos, ◌*ℤ◌, neg_ℤ, ◌≤ℤ◌, ◌<ℤ◌, int_lt, if◌then◌else◌}
+use Rattle.std.proofs.lemmas.Bool.{cases_lt, cases_eq, cases_Bool, cond_both, cond-true, cond-false}
 use Rattle.uc_model.proofs.Ring.{linear, one-mul, neg-mul}
 use Rattle.pivot_run.specs.Tables.{IsBasic, basic, number}
 use Rattle.pivot_run.proofs.Orders.{int_lt-true, int_lt-false}
-use Rattle.dispatch_program.specs.Programs.{Program, Column, SumValue, CostValue, RightSide, HasColumn, rule_number, sum_number, cost_number, start_rows, place, own_column, start_table}
+use Rattle.dispatch_program.specs.Programs.{Program, Column, Slack, Artificial, SumValue, CostValue, RightSide, HasColumn, is_limit, has_artificial, rule_number, sum_number, cost_number, start_rows, place, own_column, start_table}
 use Rattle.dispatch_program.specs.LastTables.{IsStart, StartsAreTables}
 use Rattle.dispatch_program.proofs.Combined.{one_at-same, one_at-other, own_there, own_in_rule, own_in_sum, own_in_cost}
-use Rattle.dispatch_program.proofs.Starts.{start_is, rows_long, row_long, basis_long, rule_basic, sum_basic, cost_basic, place-lt, columns_long}
+use Rattle.dispatch_program.proofs.Starts.{start_is, rows_long, row_long, basis_long, counted-le, rule_basic, sum_basic, cost_basic, place-lt, columns_long}
 
 module _ (p : Program) where
   -- a row is a rule's, the sum's or the cost's
@@ -82,6 +82,21 @@ module _ (p : Program) where
     where
       right_last : (n : ℕ) → n ≡ n + 1 - 1
       right_last n = omega arith
+
+-- the right side isn't basic
+pub rule_column : (p : Program) (i : ℕ) → i < p.rules → basic (start_table p) i ≢ place p RightSide
+rule_column p i h e = ⊎_elim
+    (λ (there : has_artificial p i ≡ true).
+    let at = counted-le (has_artificial p) i p.rules h there in
+    let own : place p (Artificial i) ≡ place p RightSide = ap (place p) (sym (cond-true (has_artificial p i) (Artificial i) (Slack i) there)) ∙ sym (rule_basic p i h) ∙ e in
+    absurd (omega arith))
+    (λ (none : has_artificial p i ≡ false).
+    let at = own_there p i h in
+    let own : place p (Slack i) ≡ place p RightSide = ap (place p) (sym (cond-false (has_artificial p i) (Artificial i) (Slack i) none)) ∙ sym (rule_basic p i h) ∙ e in
+    let there = subst (HasColumn p) (cond-false (has_artificial p i) (Artificial i) (Slack i) none) at in
+    let less = counted-le (is_limit p) i p.rules h there.1 in
+    absurd (omega arith))
+    (cases_Bool (has_artificial p i))
 
 pub starts_are_tables : StartsAreTables
 starts_are_tables p = start_is_table p

@@ -50,7 +50,7 @@ picked_at test f (suc n) i d h e = ⊎_elim
     (cases_lt i n)
 
 -- the place of each that is counted
-counted_has : (test : ℕ → Bool) (n c : ℕ) → c < counted test n → (i : ℕ) × (i < n) × (test i ≡ true) × (counted test i ≡ c)
+pub counted_has : (test : ℕ → Bool) (n c : ℕ) → c < counted test n → (i : ℕ) × (i < n) × (test i ≡ true) × (counted test i ≡ c)
 counted_has test zero c h = absurd (omega arith)
 counted_has test (suc n) c h = ⊎_elim
     (λ (less : c < counted test n). let found = counted_has test n c less in (found.0, omega (arith, found.1), found.2, found.3))

@@ -2,3 +2,4 @@ pub mod Programs
 pub mod LastRows
 pub mod ProgramValues
 pub mod LastTables
+pub mod ProgramRuns

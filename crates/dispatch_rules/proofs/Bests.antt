@@ -1,4 +1,6 @@
--- The value of the commitment's node is at least the scale times what the dispatch costs.
+-- The value of the commitment's node is at least the scale times what the dispatch costs: the bound of the last row at the values, segment by
+-- segment.
+-- Cite by `use Rattle.dispatch_rules.proofs.Bests.{node_covers_dispatch}`.
 use Rattle.std.proofs.Common.{◌≡◌, ℕ, ◌<◌, ◌==◌, nat_lt, Bool, true, false, ◌&&◌, ⊎_elim, refl, sym, ap, ◌∙◌, arith, length, ℤ, pos, ◌+ℤ◌, ◌*ℤ◌, neg_ℤ, ◌≤ℤ◌, IsTrue}
 use Rattle.std.proofs.lemmas.Bool.{cases_Bool, cond_both, eq-eqb, ne_eqb, and_parts, ltb-true, ltb-false}
 use Rattle.uc_model.specs.Sums.{sum_below}

@@ -1,4 +1,5 @@
--- The multipliers of a cell's rules bound it.
+-- The multipliers of a cell's limits bound it: at each point of its hull, and so between them.
+-- Cite by `use Rattle.dispatch_rules.proofs.Cells.{bounds_cell}`.
 use Rattle.std.proofs.Common.{◌≡◌, ℕ, zero, suc, ◌-◌, ◌<◌, ◌≤◌, ⊎_elim, sym, ap, ◌∙◌, arith, List, length, ℤ, pos, ◌+ℤ◌, ◌-ℤ◌, ◌*ℤ◌, neg_ℤ, ◌≤ℤ◌, ◌<ℤ◌}
 use Rattle.std.proofs.lemmas.Int.{by_lt_z}
 use Rattle.std.proofs.lemmas.Bool.{cases_lt}

@@ -1,4 +1,5 @@
--- Each limit of the program is there once: how often it stands in a row is what its own rule says.
+-- Each limit of the program is there once: the limits that are the same as one add up to 1.
+-- Cite by `use Rattle.dispatch_rules.proofs.Distinct.{limits_are_once}`.
 use Rattle.std.proofs.Common.{◌≡◌, ℕ, zero, suc, ◌+◌, ◌<◌, ◌≤◌, true, ◌&&◌, ⊎_elim, refl, sym, ap, ◌∙◌, arith, List, [], ◌∷◌, ◌++◌, length, slice_index_or, ℤ, pos, ◌+ℤ◌, ◌≤ℤ◌}
 use Rattle.std.proofs.lemmas.Bool.{cases_lt, cond-true, cond_both, eq-eqb}
 use Rattle.std.proofs.lemmas.List.{length-append, get_or_append_left, get_or-append-add}

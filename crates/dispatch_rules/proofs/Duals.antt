@@ -1,4 +1,5 @@
--- The last row of a run bounds each on cell.
+-- A last row bounds each on cell: its columns of lengths and reserve have no number below 0.
+-- Cite by `use Rattle.dispatch_rules.proofs.Duals.{bounds_on}`.
 use Rattle.std.proofs.Common.{◌≡◌, ℕ, suc, ◌<◌, nat_lt, false, not, refl, sym, ap, subst, ◌∙◌, arith, List, [], ◌∷◌, ◌++◌, ℤ, pos, ◌+ℤ◌, ◌*ℤ◌, neg_ℤ, ◌≤ℤ◌, IsTrue}
 use Rattle.std.specs.Int.{int_min}
 use Rattle.std.proofs.lemmas.Bool.{cond-true, cond-false, cond_both}

@@ -1,4 +1,5 @@
--- What stands in a list in order.
+-- What stands in a list in order: each member comes from a place, and each place gives its members.
+-- Cite by `use Rattle.dispatch_rules.proofs.Listed.{stands_listed}`.
 use Rattle.std.proofs.Common.{◌≡◌, ℕ, zero, suc, ◌+◌, ◌-◌, ◌<◌, ◌≤◌, ⊎_elim, refl, sym, ap, subst, ◌∙◌, arith, List, [], ◌∷◌, ◌++◌, length, slice_index_or}
 use Rattle.std.proofs.lemmas.Bool.{cases_lt}
 use Rattle.std.proofs.lemmas.List.{length-append, get_or_append_left, get_or-append-add}

@@ -1,4 +1,5 @@
 -- Sums over the rules of a dispatch's program, by its limits.
+-- Cite by `use Rattle.dispatch_rules.proofs.Multipliers.{amount}`.
 use Rattle.std.proofs.Common.{◌≡◌, ℕ, zero, suc, ◌+◌, ◌<◌, ◌==◌, Bool, true, false, ◌&&◌, refl, sym, ap, subst, ◌∙◌, arith, List, [], ◌∷◌, length, ℤ, pos, ◌+ℤ◌, ◌*ℤ◌, ◌≤ℤ◌, IsTrue, if◌then◌else◌}
 use Rattle.std.proofs.lemmas.Bool.{cond-true, cond_both, eqb-true, eq-eqb, and_parts}
 use Rattle.uc_model.specs.Sums.{sum_below}

@@ -1,4 +1,5 @@
--- The value of the commitment's node is at least what the right side of the last row says.
+-- The value of the commitment's node is at least what the right side of the last row says, part by part.
+-- Cite by `use Rattle.dispatch_rules.proofs.NodeBounds.{last_rows_bound}`.
 use Rattle.std.proofs.Common.{◌≡◌, ℕ, suc, ◌<◌, ◌≤◌, nat_lt, Bool, true, false, ⊎_elim, refl, sym, ap, subst, ◌∙◌, arith, List, [], ◌∷◌, length, ℤ, pos, ◌+ℤ◌, ◌-ℤ◌, ◌*ℤ◌, neg_ℤ, ◌≤ℤ◌, IsTrue, int_lt, if◌then◌else◌}
 use Rattle.std.specs.Int.{int_min, int_max}
 use Rattle.std.proofs.lemmas.Int.{ints}

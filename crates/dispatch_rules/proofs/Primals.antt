@@ -1,4 +1,5 @@
--- Values that solve the start of a commitment's table are a dispatch of it.
+-- Values that solve the start of a commitment's table are a dispatch of it: each rule is an equation of the amounts' parts, kind by kind.
+-- Cite by `use Rattle.dispatch_rules.proofs.Primals.{values_dispatch_is}`.
 use Rattle.std.proofs.Common.{◌≡◌, ◌≢◌, ℕ, zero, suc, ◌<◌, ◌==◌, nat_lt, Bool, true, false, ◌&&◌, ⊎_elim, refl, sym, ap, subst, ◌∙◌, arith, List, [], ◌∷◌, length, ℤ, pos, ◌+ℤ◌, ◌-ℤ◌, ◌*ℤ◌, neg_ℤ, ◌≤ℤ◌, IsTrue, if◌then◌else◌}
 use Rattle.std.proofs.lemmas.Bool.{cond-true, cond_both, cases_eq, eq-eqb, ne_eqb, eqb-true, and_parts, true≢false, lt-ltb}
 use Rattle.uc_model.specs.Sums.{sum_below, bit}

@@ -1,4 +1,5 @@
--- Lengths on the segments of a hull cost at least what the hull costs at their sum.
+-- Lengths on the segments of a hull cost at least what the hull costs at their sum, as its slopes rise.
+-- Cite by `use Rattle.dispatch_rules.proofs.SegmentCosts.{lengths_cost}`.
 use Rattle.std.proofs.Common.{◌≡◌, ℕ, zero, suc, ◌+◌, ◌-◌, ◌<◌, ◌≤◌, ⊎_elim, sym, ap, subst, ◌∙◌, arith, List, length, ℤ, pos, ◌+ℤ◌, ◌-ℤ◌, ◌*ℤ◌, ◌≤ℤ◌, ◌<ℤ◌}
 use Rattle.std.proofs.lemmas.Bool.{cases_lt}
 use Rattle.uc_model.specs.Sums.{sum_below}

@@ -1,4 +1,5 @@
 -- The bounds of the cells and the other parts of a node's value sum to the right side of the last row.
+-- Cite by `use Rattle.dispatch_rules.proofs.Totals.{total_whole}`.
 use Rattle.std.proofs.Common.{◌≡◌, ◌≢◌, ℕ, zero, suc, ◌<◌, nat_lt, Bool, true, false, not, ◌&&◌, ⊎_elim, refl, sym, ap, ◌∙◌, arith, List, ℤ, pos, ◌+ℤ◌, ◌-ℤ◌, ◌*ℤ◌, neg_ℤ, IsTrue}
 use Rattle.std.proofs.lemmas.Bool.{cases_Bool, cond-true, cond-false, true≢false}
 use Rattle.uc_model.specs.Sums.{sum_below, bit}

@@ -1,13 +1,15 @@
 -- A commitment's table has no rays, so a row leaves wherever a column enters by the cost's row.
 -- Source: the rays of a linear program (G. B. Dantzig, "Linear Programming and Extensions", 1963).
-use Rattle.std.specs.Prelude.{◌≡◌, ℕ, ◌<◌, ℤ, pos, ◌≤ℤ◌, IsSome, IsTrue, if◌then◌else◌}
+use Rattle.std.specs.Prelude.{◌≡◌, ℕ, ◌<◌, ◌⊎◌, ℤ, pos, ◌≤ℤ◌, IsSome, None, IsTrue, if◌then◌else◌}
 use Rattle.uc_model.specs.Commitment.{start_cap}
 use Rattle.uc_model.specs.Schedule.{thermal_unit, thermal_count}
 use Rattle.uc_model.specs.Limits.{IsLawfulInstance}
 use Rattle.pivot_run.specs.Tables.{Table, leaving}
+use Rattle.pivot_run.specs.Stages.{plan_at}
 use Rattle.dispatch_program.specs.Programs.{Unknown, Slack, Artificial, is_limit, has_artificial, place, free_columns}
 use Rattle.dispatch_program.specs.ProgramValues.{IsRay}
 use Rattle.dispatch_program.specs.LastTables.{IsLastTable, HasZeros}
+use Rattle.dispatch_program.specs.ProgramRuns.{state_at, SumIsLeft, IsCheapest}
 use Rattle.dispatch_rules.specs.Dispatch.{Task, program}
 use Rattle.dispatch_rules.specs.Duals.{IsTask}
 
@@ -30,3 +32,10 @@ abbrev pub CostsGoOn : Type 0
 CostsGoOn =
     (task : Task) (t : Table) (j : ℕ) → IsLawfulInstance task.instance → IsTask task → HasRoom task → IsLastTable (program task) t
     → j < free_columns (program task) → HasZeros (program task) t j → IsSome (leaving t j t.constraints)
+
+-- so a run from the start ends with a sum that is left, or at a cheapest basis
+abbrev pub RunsEndLast : Type 0
+RunsEndLast =
+    (task : Task) (n : ℕ) → IsLawfulInstance task.instance → IsTask task → HasRoom task
+    → plan_at (free_columns (program task)) (state_at (program task) n) ≡ None
+    → SumIsLeft (program task) (state_at (program task) n).table ⊎ IsCheapest (program task) (state_at (program task) n).table

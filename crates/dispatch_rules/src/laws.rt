@@ -3,7 +3,7 @@
 ghost use Rattle.dispatch_rules.specs.Dispatch.{LimitsAdd, LimitsAreOnce};
 ghost use Rattle.dispatch_rules.specs.Duals.{LastRowsBound};
 ghost use Rattle.dispatch_rules.specs.Primals.{NodeCoversDispatch, ValuesDispatch};
-ghost use Rattle.dispatch_rules.specs.Rays.{CostsGoOn, NoRays};
+ghost use Rattle.dispatch_rules.specs.Rays.{CostsGoOn, NoRays, RunsEndLast};
 
 /// Each limit is a rule of the program once, and the rules are these limits alone: so multipliers are read off by limits.
 pub fn limits_are_rules()
@@ -26,8 +26,10 @@ pub fn nodes_cover_dispatches()
     ensures { NodeCoversDispatch }
 {}
 
-/// The table has no ray but of slack beside artificial columns; so wherever a column enters by the row of the cost, a row leaves.
+/// The table has no ray but of slack beside artificial columns; so wherever a column enters by the row of the cost, a row leaves, and a run from
+/// the start ends with a sum that is left or at a cheapest basis.
 pub fn tables_have_no_rays()
     ensures rays { NoRays }
     ensures rows { CostsGoOn }
+    ensures runs { RunsEndLast }
 {}
