@@ -12,7 +12,7 @@ use Rattle.pivot_run.proofs.Solutions.{no_factor}
 use Rattle.pivot_run.proofs.Values.{at_column-nonneg, values_solve}
 use Rattle.dispatch_program.specs.Programs.{Program, Artificial, SumValue, RightSide, Slack, HasColumn, is_limit, has_artificial, place, start_rows, free_columns}
 use Rattle.dispatch_program.specs.ProgramValues.{IsRay, artificial_sum}
-use Rattle.dispatch_program.specs.LastTables.{IsLastTable, AreShares, SumsGoOn, HasZeros, IsRayOf, EnteringGivesRays}
+use Rattle.dispatch_program.specs.LastTables.{IsReached, AreShares, SumsGoOn, HasZeros, IsRayOf, EnteringGivesRays}
 use Rattle.dispatch_program.proofs.Starts.{counted-le}
 use Rattle.dispatch_program.proofs.Lines.{sum_is}
 use Rattle.dispatch_program.proofs.BasicValues.{at_own, at_other, value_none, value_basic, value_low, share_positive, shares_exist}
@@ -21,7 +21,7 @@ use Rattle.dispatch_program.proofs.LastTables.{count, sum_column, early_rule, ri
 abbrev NoneLeaves : Program → Table → ℕ → Type 0
 NoneLeaves p t j = (k : ℕ) → k < p.rules → number t k j ≤ℤ pos 0
 
-module _ (p : Program) (t : Table) (is : IsLastTable p t) (j : ℕ) (early : j < place p SumValue) (w : ℤ) (share : ℕ → ℤ) (are : AreShares t w share) where
+module _ (p : Program) (t : Table) (is : IsReached p t) (j : ℕ) (early : j < place p SumValue) (w : ℤ) (share : ℕ → ℤ) (are : AreShares t w share) where
   abbrev values : ℕ → ℤ
   values = values_of t j w share (length t.rows)
 

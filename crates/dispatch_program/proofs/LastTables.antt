@@ -15,12 +15,12 @@ use Rattle.pivot_run.proofs.Values.{values_solve}
 use Rattle.dispatch_program.specs.Programs.{Program, Slack, Artificial, SumValue, CostValue, RightSide, HasColumn, is_limit, has_artificial, place, start_rows}
 use Rattle.dispatch_program.specs.LastRows.{IsLastRow}
 use Rattle.dispatch_program.specs.ProgramValues.{AreValues}
-use Rattle.dispatch_program.specs.LastTables.{IsLastTable, NoneEnters, EndsAreLast, HasNoArtificial, NoSumIsLeft, SumsAreLow, NoSumNoArtificial, AreShares, basis_values, BasesGiveValues}
+use Rattle.dispatch_program.specs.LastTables.{IsReached, NoneEnters, EndsAreLast, HasNoArtificial, NoSumIsLeft, SumsAreLow, NoSumNoArtificial, AreShares, basis_values, BasesGiveValues}
 use Rattle.dispatch_program.proofs.Starts.{counted-le, rows_long, sum_basic, cost_basic}
 use Rattle.dispatch_program.proofs.Lines.{sum_is}
 use Rattle.dispatch_program.proofs.BasicValues.{at_own, at_other, value_none, value_basic, value_low, share_positive, shares_exist}
 
-module _ (p : Program) (t : Table) (is : IsLastTable p t) where
+module _ (p : Program) (t : Table) (is : IsReached p t) where
   pub count : length t.rows ≡ p.rules + 2
   count = is.keeps.rows ∙ rows_long p
 

@@ -1,4 +1,4 @@
--- The run of a program's table: pivot by pivot it is at a last table, in which, past the sum, none is left, and the rows behind are done.
+-- The run of a program's table: pivot by pivot it reaches a table in which, past the sum, none is left, and the rows behind are done.
 -- Cite by `use Rattle.dispatch_program.proofs.ProgramRuns.{runs_come, runs_end}`.
 use Rattle.std.proofs.Common.{◌≡◌, ◌⊎◌, ⊎_elim, inl, inr, ℕ, zero, suc, ◌+◌, ◌-◌, ◌<◌, ◌≤◌, true, false, IsSome, Option, None, Some, refl, subst, arith, pos, ◌≤ℤ◌, ◌<ℤ◌, int_lt}
 use Rattle.std.specs.Option.{option_and_then, option_map}
@@ -13,8 +13,8 @@ use Rattle.pivot_run.proofs.Orders.{int_lt-true, int_lt-false}
 use Rattle.pivot_run.proofs.PivotKeeps.{keeps_itself, next_parts}
 use Rattle.pivot_run.proofs.Ratios.{IsLeast, IsLeaving, leaving_is}
 use Rattle.dispatch_program.specs.Programs.{Program, RightSide, Slack, is_limit, place, start_table, free_columns}
-use Rattle.dispatch_program.specs.LastTables.{IsLastTable, NoSumIsLeft, NoneEnters, HasZeros}
-use Rattle.dispatch_program.specs.ProgramRuns.{state_at, RunsComeToLastTables, SumIsLeft, IsCheapest, IsStuck, RunsEnd}
+use Rattle.dispatch_program.specs.LastTables.{IsReached, NoSumIsLeft, NoneEnters, HasZeros}
+use Rattle.dispatch_program.specs.ProgramRuns.{state_at, RunsReachTables, SumIsLeft, IsCheapest, IsStuck, RunsEnd}
 use Rattle.dispatch_program.proofs.Starts.{counted-le}
 use Rattle.dispatch_program.proofs.StartTables.{start_is_table, rule_column}
 use Rattle.dispatch_program.proofs.LastTables.{no_sum_no_artificial, sums_are_low}
@@ -23,7 +23,7 @@ use Rattle.dispatch_program.proofs.Targets.{IsAt, IsDone, by_target, enters_belo
 use Rattle.dispatch_program.proofs.RunningTables.{artificial_column, done_kept, entered, drove, sum_stays, sum_stays_zero}
 
 record IsRunning (p : Program) (s : State) : Type 0 where
-  last : IsLastTable p s.table
+  last : IsReached p s.table
   sum : (k : ℕ) → s.stage ≡ suc k → NoSumIsLeft p s.table
   done : (k r : ℕ) → s.stage ≡ suc k → r < k → r < p.rules → IsDone (free_columns p) s.table r
 
@@ -187,7 +187,7 @@ running : (p : Program) (n : ℕ) → IsRunning p (state_at p n)
 running p zero = started p
 running p (suc n) = advances p (state_at p n) (running p n)
 
-pub runs_come : RunsComeToLastTables
+pub runs_come : RunsReachTables
 runs_come p n = (running p n).last
 
 pub runs_end : RunsEnd

@@ -1,4 +1,4 @@
--- One pivot of a program's run keeps a last table, that no sum is left, and the rows that are done.
+-- One pivot of a program's run reaches a table, and keeps that no sum is left and which rows are done.
 -- Cite by `use Rattle.dispatch_program.proofs.RunningTables.{entered, drove}`.
 use Rattle.std.proofs.Common.{◌≡◌, ◌≢◌, ⊎_elim, inl, inr, ℕ, ◌+◌, ◌-◌, ◌<◌, ◌≤◌, Some, sym, ap, subst, ◌∙◌, arith, length, pos, ◌≤ℤ◌}
 use Rattle.std.specs.Ordering.{int_eq}
@@ -13,7 +13,7 @@ use Rattle.pivot_run.proofs.Basis.{basic_other, basis_kept}
 use Rattle.pivot_run.proofs.PivotKeeps.{pivot_keeps, table_kept}
 use Rattle.pivot_run.proofs.ZeroSides.{zero_sides_kept}
 use Rattle.dispatch_program.specs.Programs.{Program, Artificial, SumValue, CostValue, RightSide, HasColumn, has_artificial, place, start_table, free_columns}
-use Rattle.dispatch_program.specs.LastTables.{IsLastTable, NoSumIsLeft, HasZeros}
+use Rattle.dispatch_program.specs.LastTables.{IsReached, NoSumIsLeft, HasZeros}
 use Rattle.dispatch_program.proofs.Starts.{counted_has}
 use Rattle.dispatch_program.proofs.BasicValues.{two_columns, shares_exist}
 use Rattle.dispatch_program.proofs.LastTables.{count, sum_column, cost_column, sums_are_low}
@@ -26,7 +26,7 @@ row_stays t i j r h other none =
     row-pivoted_other t.rows i j r h other
     ∙ cond-true (int_eq (number t r j) (pos 0)) (row_at t.rows r) (reduced (cleared (pivot_row t.rows i j) j (row_at t.rows r))) (ap (λ x. int_eq x (pos 0)) none)
 
-module _ (p : Program) (t : Table) (is : IsLastTable p t) where
+module _ (p : Program) (t : Table) (is : IsReached p t) where
   right_place : t.columns - 1 ≡ place p RightSide
   right_place = let size = is.keeps.columns in omega arith
 
@@ -72,7 +72,7 @@ module _ (p : Program) (t : Table) (is : IsLastTable p t) where
         (cases_eq r i)
 
     -- ---- a pivot by the ratio test
-    pub entered : leaving t j t.constraints ≡ Some i → IsLastTable p (pivoted_table t i j)
+    pub entered : leaving t j t.constraints ≡ Some i → IsReached p (pivoted_table t i j)
     entered found = record { keeps = pivot_keeps (start_table p) t i j is.keeps in_columns found; apart = apart_kept }
 
     pub sum_stays : NoSumIsLeft p t → HasZeros p t j → NoSumIsLeft p (pivoted_table t i j)
@@ -104,7 +104,7 @@ module _ (p : Program) (t : Table) (is : IsLastTable p t) where
           (record { columns = is.keeps.basis.columns; own = is.keeps.basis.own; others = is.keeps.basis.others })
           (omega arith) in_columns apart (ap (number t i) right_place ∙ zero_side) sides_with_sum k h
 
-      pub drove : IsLastTable p (pivoted_table t i j)
+      pub drove : IsReached p (pivoted_table t i j)
       drove = record {
         keeps = record {
           table = table_kept t i j is.keeps.table in_rows;

@@ -18,8 +18,8 @@ pub record IsStart (t : Table) : Type 0 where
 abbrev pub StartsAreTables : Type 0
 StartsAreTables = (p : Program) → IsStart (start_table p)
 
--- a table that a run from the start comes to: it has what runs keep, and the right side is no rule's basic column
-pub record IsLastTable (p : Program) (t : Table) : Type 0 where
+-- a table that a run from the start reaches: it has what runs keep, and the right side is no rule's basic column
+pub record IsReached (p : Program) (t : Table) : Type 0 where
   pub keeps : Keeps (start_table p) t
   pub apart : (k : ℕ) → k < p.rules → basic t k ≢ place p RightSide
 
@@ -31,12 +31,12 @@ pub record NoneEnters (p : Program) (t : Table) (o : ℕ) : Type 0 where
 -- the row of the sum and the row of the cost are last rows, where none enters by them
 abbrev pub EndsAreLast : Type 0
 EndsAreLast =
-    (p : Program) (t : Table) (o : ℕ) → IsLastTable p t → p.rules ≤ o → o < p.rules + 2 → NoneEnters p t o → IsLastRow p (row_at t.rows o)
+    (p : Program) (t : Table) (o : ℕ) → IsReached p t → p.rules ≤ o → o < p.rules + 2 → NoneEnters p t o → IsLastRow p (row_at t.rows o)
 
 -- ---- no sum is left
 -- the sum's right side isn't above 0; where it is 0, a rule's row whose basic column is artificial has the right side 0
 abbrev pub SumsAreLow : Type 0
-SumsAreLow = (p : Program) (t : Table) → IsLastTable p t → number t p.rules (place p RightSide) ≤ℤ pos 0
+SumsAreLow = (p : Program) (t : Table) → IsReached p t → number t p.rules (place p RightSide) ≤ℤ pos 0
 
 abbrev pub HasNoArtificial : Program → Table → Type 0
 HasNoArtificial p t =
@@ -46,7 +46,7 @@ abbrev pub NoSumIsLeft : Program → Table → Type 0
 NoSumIsLeft p t = number t p.rules (place p RightSide) ≡ pos 0
 
 abbrev pub NoSumNoArtificial : Type 0
-NoSumNoArtificial = (p : Program) (t : Table) → IsLastTable p t → NoSumIsLeft p t → HasNoArtificial p t
+NoSumNoArtificial = (p : Program) (t : Table) → IsReached p t → NoSumIsLeft p t → HasNoArtificial p t
 
 -- ---- the values of a basis
 -- shares of d: the number in a row's basic column and its share make up d
@@ -64,7 +64,7 @@ basis_values p t d share = values_of t (place p RightSide) (neg_ℤ d) (λ k. ne
 -- they solve the start, and balance the row of the cost, where no sum is left
 abbrev pub BasesGiveValues : Type 0
 BasesGiveValues =
-    (p : Program) (t : Table) (d : ℤ) (share : ℕ → ℤ) → IsLastTable p t → NoSumIsLeft p t → AreShares t d share
+    (p : Program) (t : Table) (d : ℤ) (share : ℕ → ℤ) → IsReached p t → NoSumIsLeft p t → AreShares t d share
     → AreValues p d (basis_values p t d share)
     × (d *ℤ number t (p.rules + 1) (place p RightSide) ≡ number t (p.rules + 1) (place p CostValue) *ℤ basis_values p t d share (place p CostValue))
 
@@ -72,7 +72,7 @@ BasesGiveValues =
 -- where a column before the values has a number below 0 in the sum's row, a row leaves
 abbrev pub SumsGoOn : Type 0
 SumsGoOn =
-    (p : Program) (t : Table) (j : ℕ) → IsLastTable p t → j < place p SumValue → number t p.rules j <ℤ pos 0 → IsSome (leaving t j t.constraints)
+    (p : Program) (t : Table) (j : ℕ) → IsReached p t → j < place p SumValue → number t p.rules j <ℤ pos 0 → IsSome (leaving t j t.constraints)
 
 -- where none leaves column j, which isn't artificial, and each row whose basic column is artificial has 0 there, the table has a ray with a
 -- value above 0 in column j, and 0 in the artificial columns
@@ -86,5 +86,5 @@ pub record IsRayOf (p : Program) (j : ℕ) (v : ℕ → ℤ) : Type 0 where
 
 abbrev pub EnteringGivesRays : Type 0
 EnteringGivesRays =
-    (p : Program) (t : Table) (j : ℕ) → IsLastTable p t → j < free_columns p → HasZeros p t j → leaving t j t.constraints ≡ None
+    (p : Program) (t : Table) (j : ℕ) → IsReached p t → j < free_columns p → HasZeros p t j → leaving t j t.constraints ≡ None
     → (v : ℕ → ℤ) × IsRayOf p j v

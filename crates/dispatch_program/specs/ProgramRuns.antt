@@ -4,14 +4,14 @@ use Rattle.std.specs.Prelude.{◌≡◌, ℕ, ◌+◌, ◌<◌, ◌⊎◌, None,
 use Rattle.pivot_run.specs.Tables.{Table, leaving, number}
 use Rattle.pivot_run.specs.Stages.{State, plan_at, state_after, state_of}
 use Rattle.dispatch_program.specs.Programs.{Program, RightSide, place, start_table, free_columns}
-use Rattle.dispatch_program.specs.LastTables.{IsLastTable, NoneEnters, NoSumIsLeft, HasZeros}
+use Rattle.dispatch_program.specs.LastTables.{IsReached, NoneEnters, NoSumIsLeft, HasZeros}
 
 -- the state after n pivots
 abbrev pub state_at : Program → ℕ → State
 state_at p n = state_after (free_columns p) (state_of (start_table p) 0) n
 
-abbrev pub RunsComeToLastTables : Type 0
-RunsComeToLastTables = (p : Program) (n : ℕ) → IsLastTable p (state_at p n).table
+abbrev pub RunsReachTables : Type 0
+RunsReachTables = (p : Program) (n : ℕ) → IsReached p (state_at p n).table
 
 -- ---- the end
 -- a sum is left, and no column enters by its row: the rules can't be obeyed

@@ -2,7 +2,7 @@
 
 ghost use Rattle.dispatch_program.specs.LastRows.{RightSidesAdd, UnknownsAdd};
 ghost use Rattle.dispatch_program.specs.LastTables.{BasesGiveValues, EndsAreLast, EnteringGivesRays, NoSumNoArtificial, SharesExist, StartsAreTables, SumsAreLow, SumsGoOn};
-ghost use Rattle.dispatch_program.specs.ProgramRuns.{RunsComeToLastTables, RunsEnd};
+ghost use Rattle.dispatch_program.specs.ProgramRuns.{RunsReachTables, RunsEnd};
 ghost use Rattle.dispatch_program.specs.ProgramValues.{SumIsArtificial, ValuesObey};
 
 /// The start of each program's table is a table with a basis, and right sides of 0 or above.
@@ -43,9 +43,9 @@ pub fn entering_columns_go_on()
     ensures rays { EnteringGivesRays }
 {}
 
-/// Each table of a program's run is a last table. Where the run ends, either a sum is left and no column enters by its row, or none
+/// A run from the start reaches tables that keep its solutions. Where it ends, either a sum is left and no column enters by its row, or none
 /// is left and no column enters by the row of the cost, or one does that finds no row.
 pub fn runs_end()
-    ensures tables { RunsComeToLastTables }
+    ensures tables { RunsReachTables }
     ensures ends { RunsEnd }
 {}

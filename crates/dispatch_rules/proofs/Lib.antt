@@ -10,3 +10,4 @@ pub mod Bests
 pub mod Distinct
 pub mod Rays
 pub mod Going
+pub mod RunEnds

@@ -8,7 +8,7 @@ use Rattle.pivot_run.specs.Tables.{Table, leaving}
 use Rattle.pivot_run.specs.Stages.{plan_at}
 use Rattle.dispatch_program.specs.Programs.{Unknown, Slack, Artificial, is_limit, has_artificial, place, free_columns}
 use Rattle.dispatch_program.specs.ProgramValues.{IsRay}
-use Rattle.dispatch_program.specs.LastTables.{IsLastTable, HasZeros}
+use Rattle.dispatch_program.specs.LastTables.{IsReached, HasZeros}
 use Rattle.dispatch_program.specs.ProgramRuns.{state_at, SumIsLeft, IsCheapest}
 use Rattle.dispatch_rules.specs.Dispatch.{Task, program}
 use Rattle.dispatch_rules.specs.Duals.{IsTask}
@@ -30,7 +30,7 @@ NoRays =
 -- where a column enters that isn't artificial, and each row whose basic column is artificial has 0 there, a row leaves
 abbrev pub CostsGoOn : Type 0
 CostsGoOn =
-    (task : Task) (t : Table) (j : ℕ) → IsLawfulInstance task.instance → IsTask task → HasRoom task → IsLastTable (program task) t
+    (task : Task) (t : Table) (j : ℕ) → IsLawfulInstance task.instance → IsTask task → HasRoom task → IsReached (program task) t
     → j < free_columns (program task) → HasZeros (program task) t j → IsSome (leaving t j t.constraints)
 
 -- so a run from the start ends with a sum that is left, or at a cheapest basis

@@ -4,6 +4,7 @@ ghost use Rattle.dispatch_rules.specs.Dispatch.{LimitsAdd, LimitsAreOnce};
 ghost use Rattle.dispatch_rules.specs.Duals.{LastRowsBound};
 ghost use Rattle.dispatch_rules.specs.Primals.{NodeCoversDispatch, ValuesDispatch};
 ghost use Rattle.dispatch_rules.specs.Rays.{CostsGoOn, NoRays, RunsEndLast};
+ghost use Rattle.dispatch_rules.specs.RunEnds.{RunsGiveDispatches, RunsGiveRays};
 
 /// Each limit is a rule of the program once, and the rules are these limits alone: so multipliers are read off by limits.
 pub fn limits_are_rules()
@@ -32,4 +33,11 @@ pub fn tables_have_no_rays()
     ensures rays { NoRays }
     ensures rows { CostsGoOn }
     ensures runs { RunsEndLast }
+{}
+
+/// At the end of a run: where a sum is left, the prices of its row are a ray that excludes the commitment, and else the values of the
+/// basis are a dispatch whose cost the value of the commitment's node covers.
+pub fn ends_give_rays_or_dispatches()
+    ensures rays { RunsGiveRays }
+    ensures dispatches { RunsGiveDispatches }
 {}
