@@ -1,0 +1,5 @@
+pub mod Programs
+pub mod LastRows
+pub mod ProgramValues
+pub mod LastTables
+pub mod ProgramRuns

@@ -1,0 +1,13 @@
+pub mod Cells
+pub mod Listed
+pub mod Multipliers
+pub mod Duals
+pub mod Totals
+pub mod NodeBounds
+pub mod Primals
+pub mod SegmentCosts
+pub mod Bests
+pub mod Distinct
+pub mod Rays
+pub mod Going
+pub mod RunEnds
