@@ -243,7 +243,7 @@ CHECKS = {
         fields(*B, ramp_up_limit=1.6),
         'thermal "b" ramp_up_limit: 1.6 MW an hour, where the minimum and the maximum are 40 MW apart; from one to the other takes 25 hours; a '
         "limit by the minute would be 60 times as much",
-        fields(*B, ramp_up_limit=1.7),
+        fields(*B, ramp_up_limit=2, power_output_maximum=58, piecewise_production=points((10, 200), (58, 1170))),
     ),
     "long minimum time": (
         fields(*A, time_up_minimum=169, time_up_t0=200),
@@ -412,6 +412,10 @@ CHECKS = {
 }
 # what other findings come with: the edits, and the place and effect of each finding
 TOGETHER = (
+    (
+        fields(*A, power_output_t0=-40, ramp_up_limit=60),
+        (("power_output_t0", "the ramp up counts from there, so output and reserve are at most 20 MW in hour 1"),),
+    ),
     (
         fields(*A, power_output_t0=100, piecewise_production=points((20, 200), (60, 600)), ramp_down_limit=39),
         (("power_output_t0", "no schedule exists, on or off: the ramp down of 39 MW (M12) doesn't reach the points in hour 1"),),
