@@ -3,6 +3,7 @@ use Rattle.std.proofs.Common.{◌≡◌, ◌∙◌, FitsSigned, arith, sym, subs
 use Rattle.std.specs.Int.{w64, w128}
 use Rattle.std.proofs.lemmas.Int.{to_z-of_z}
 use Rattle.uc_model.specs.Division.{IsFloor}
+use Rattle.dual_model.specs.declared.node.Node.{Node}
 use Rattle.dual_model.specs.NodeValue.{IsNodeValue}
 use Rattle.thread_tests.proofs.books.bound.Goals as goal
 
@@ -20,7 +21,6 @@ returns-in-Ok c =
     (subst (λ (z : ℤ). IsFloor (to_z w128 (of_z w128 total)) z c.floor_div.result) scale c.floor_div.ensures) in
     record {
       value = total;
-      is_value = subst (λ fixings. IsNodeValue c.args.instance.now (record { fixings = fixings }) c.args.table.now total)
-          (c.from_vec.ensures ∙ c.new.ensures.items) c.in-Ok.ensures.value.total;
+      is_value = subst (λ (node : Node). IsNodeValue c.args.instance.now node c.args.table.now total) c.root-root.ensures c.in-Ok.ensures.value.total;
       quotient = subst (IsFloor total k) (sym quotient) is;
     }
