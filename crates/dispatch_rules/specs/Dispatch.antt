@@ -10,6 +10,8 @@ use Rattle.uc_model.specs.Schedule.{thermal_unit, thermal_count, renewable_count
 use Rattle.uc_model.specs.declared.instance.Instance.{Instance}
 use Rattle.cost_curves.specs.LowerHull.{Point}
 use Rattle.dispatch_program.specs.Programs.{Program}
+pub use Rattle.dispatch_rules.specs.declared.amount.Amount.{Amount}
+pub use Rattle.dispatch_rules.specs.declared.amount.Amount.TheVariants.{Length, Held, Given, Shed, Short}
 use Rattle.dispatch_rules.specs.Cells.{width_at, rise_at, segments}
 
 -- a commitment of an instance, the corners of each unit's hull, and the number by which costs are multiplied to be whole
@@ -18,15 +20,6 @@ pub record Task : Type 0 where
   pub on : ℕ → Commitment
   pub corners : ℕ → List Point
   pub scale : ℤ
-
--- an amount: how much of a segment of unit g is used in period t, the unit's reserve, what a renewable unit gives above its least, and what is
--- missing of demand and of reserve
-pub data Amount : Type 0 where
-  Length : ℕ → ℕ → ℕ → Amount
-  Held : ℕ → ℕ → Amount
-  Given : ℕ → ℕ → Amount
-  Shed : ℕ → Amount
-  Short : ℕ → Amount
 
 -- a limit: a rule at a unit and a period, of M8 also at a segment
 pub record Limit : Type 0 where

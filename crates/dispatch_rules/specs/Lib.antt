@@ -1,7 +1,9 @@
 pub mod Cells
 pub mod Dispatch
+pub mod CommitmentTask
 pub mod Duals
 pub mod Primals
+pub mod Prints
 pub mod Rays
 pub mod RunEnds
 pub mod Examples

@@ -3,5 +3,10 @@
 //! `laws`, and a worked example that of `examples`.
 #![tactic(auto)]
 
+mod amount;
 pub mod examples;
 pub mod laws;
+mod limit;
+
+pub use amount::Amount;
+pub use limit::{LimitAt, LimitRule};

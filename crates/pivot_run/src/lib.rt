@@ -18,10 +18,11 @@ pub use laws::{
     bases_solve, basic_values_are_not_negative, pivots_keep_bases, pivots_keep_right_sides,
     pivots_keep_solutions, runs_keep,
 };
+pub use numbers::{common_divisor, quotient};
 pub use pivots::MAX_PIVOTS;
 pub use row::Row;
 pub use stages::run;
 pub use stop::{Stop, What};
 pub use tableau::Tableau;
 pub use target::Target;
-pub use wide::Wide;
+pub use wide::{Wide, product};
