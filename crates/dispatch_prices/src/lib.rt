@@ -1,0 +1,5 @@
+//! What the end of a run on a commitment's table gives, as prices and as a schedule: the prices are read off the last row, and the laws say what both
+//! are worth.
+#![tactic(auto)]
+
+pub mod laws;
