@@ -1,2 +1,4 @@
 pub mod Scaled
 pub mod Obeying
+pub mod HullCosts
+pub mod CellCosts

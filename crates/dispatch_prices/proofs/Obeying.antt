@@ -146,7 +146,7 @@ module _ (task : Task) (d : ℤ) (v : ℕ → ℤ) (printed : Printed) (lawful :
       let sums = dispatch.output g t in
       omega (arith, linear)
 
-  holds_cell : (g t : ℕ) → g < thermal_count task.instance → t < task.instance.periods
+  pub holds_cell : (g t : ℕ) → g < thermal_count task.instance → t < task.instance.periods
       → Holds (watts.over printed.denominator) (unit g) (watts.cell (watts.row_of printed g) t)
   holds_cell g t hg ht =
       let on = prints.on g t hg ht in record {
