@@ -1,9 +1,8 @@
 -- What a cell of the printed schedule costs, beside what the dispatch pays for it.
 -- Cite by `use Rattle.dispatch_prices.proofs.CellCosts.{cell_costs}`.
-use Rattle.std.proofs.Common.{◌≡◌, ℕ, zero, suc, ◌+◌, ◌-◌, ◌*◌, ◌/◌, ◌<◌, ◌≤◌, ◌⊎◌, inl, inr, ⊎_elim, true, false, refl, sym, ap, subst, ◌∙◌, arith, List, length, ℤ, pos, ◌+ℤ◌, ◌-ℤ◌, ◌*ℤ◌, ◌≤ℤ◌, ◌<ℤ◌, IsTrue, Option, Some, None, nat_lt, int_le, ◌&&◌, if◌then◌else◌}
+use Rattle.std.proofs.Common.{◌≡◌, ℕ, zero, suc, ◌-◌, ◌*◌, ◌/◌, ◌<◌, ◌≤◌, ⊎_elim, true, false, sym, ap, subst, ◌∙◌, arith, List, length, ℤ, pos, ◌+ℤ◌, ◌-ℤ◌, ◌*ℤ◌, ◌≤ℤ◌, ◌<ℤ◌, IsTrue, Some, nat_lt, int_le, ◌&&◌, if◌then◌else◌}
 use Rattle.std.specs.Ordering.{int_eq}
 use Rattle.std.proofs.lemmas.Bool.{cases_Bool, cases_lt, cond-true, cond-false, cond_both, true≢false, lt-ltb, le-ltb, and_right, and_from}
-use Rattle.uc_model.specs.Sums.{sum_below}
 use Rattle.uc_model.specs.Points.{point_of, output_of, weighted_cost}
 use Rattle.uc_model.specs.Cost.{production_cost}
 use Rattle.uc_model.specs.Hull.{Segment, segment_at, segment_width}
@@ -15,7 +14,7 @@ use Rattle.uc_model.specs.declared.schedule.Cell.{Cell}
 use Rattle.uc_model.proofs.Sums.{sum_below-same, sum_below-zero}
 use Rattle.uc_model.proofs.Tests.{int_le-true, le-int_le, eq-int_eq}
 use Rattle.uc_model.proofs.PrintedCosts.{denominator-factor}
-use Rattle.cost_curves.specs.LowerHull.{Point, IsLowerHull, width_of}
+use Rattle.cost_curves.specs.LowerHull.{Point}
 use Rattle.cost_curves.proofs.HullExists.{segment-there}
 use Rattle.cost_curves.proofs.HullValues.{whole_width}
 use Rattle.dispatch_rules.specs.Cells.{width_at, rise_at, segments}
@@ -27,7 +26,7 @@ use Rattle.dispatch_rules.specs.Prints.{Printed, Prints}
 use Rattle.dispatch_prices.specs.Dispatched.{IsAllowedTask}
 use Rattle.dispatch_prices.proofs.HullCosts.{chord_cost, point_cost, share_times}
 use Rattle.dispatch_prices.proofs.Obeying.{holds_cell}
-use Rattle.uc_model.proofs.Ring.{linear, le_trans, mul_comm, mul_assoc, mul_left_comm, mul-add, mul-sub, sub-mul, add-mul, mul-zero, zero-mul, mul_nonneg, mul-le-mul_left, le_from_mul, le_or_lt, pos_nonneg, pos-mul}
+use Rattle.uc_model.proofs.Ring.{linear, mul_comm, mul_assoc, mul_left_comm, mul-add, mul-sub, mul-zero, mul-le-mul_left, le_from_mul, le_or_lt}
 
 -- over plain numbers: what the chord bounds, the slope by which the dispatch pays bounds, too
 by_slope : (d scale wc q n e ci c0 w r slope given xi p : ℤ) → pos 0 <ℤ w → pos 0 ≤ℤ scale → pos 0 ≤ℤ d → q ≡ n *ℤ e → slope *ℤ w ≡ scale *ℤ r

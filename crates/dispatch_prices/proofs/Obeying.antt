@@ -1,24 +1,23 @@
 -- The printed schedule of a dispatch obeys: each rule holds of its numerators, as it holds of the dispatch's values over their denominator.
 -- Cite by `use Rattle.dispatch_prices.proofs.Obeying.{dispatches_obey}`.
-use Rattle.std.proofs.Common.{◌≡◌, ℕ, zero, suc, ◌-◌, ◌<◌, ◌≤◌, ⊎_elim, true, false, not, refl, sym, ap, subst, ◌∙◌, arith, List, length, ◌+ℤ◌, ◌-ℤ◌, ◌*ℤ◌, ◌≤ℤ◌, ◌<ℤ◌, IsTrue, nat_lt, int_le, ◌==◌, ◌&&◌, ◌||◌, ℤ, pos}
+use Rattle.std.proofs.Common.{◌≡◌, ℕ, zero, suc, ◌<◌, ⊎_elim, false, not, sym, ap, subst, ◌∙◌, arith, List, ◌+ℤ◌, ◌-ℤ◌, ◌*ℤ◌, ◌≤ℤ◌, ◌<ℤ◌, IsTrue, nat_lt, int_le, ◌==◌, ◌&&◌, ◌||◌, ℤ, pos}
 use Rattle.std.specs.Int.{int_max}
 use Rattle.std.specs.Ordering.{int_eq}
 use Rattle.std.proofs.lemmas.Int.{ints, clamps}
-use Rattle.std.proofs.lemmas.Bool.{and_parts, and_from, ltb-true, or_left, or_right, cases_Bool, cond-true, cond-false, true≢false}
+use Rattle.std.proofs.lemmas.Bool.{and_parts, and_from, ltb-true, or_left, or_right, cases_Bool, cond-true, cond-false}
 use Rattle.uc_model.specs.Sums.{sum_below, bit}
-use Rattle.uc_model.specs.Points.{point_of, output_of}
-use Rattle.uc_model.specs.Commitment.{Commitment, starts, start_cap, stop_cap, initial_p, initial_stop_holds, must_run_at, initial_up_at, initial_down_at, minimum_up_at, minimum_down_at, is_allowed, is_allowed_at}
-use Rattle.uc_model.specs.StartCategory.{is_category_allowed}
-use Rattle.uc_model.specs.Schedule.{thermal_unit, thermal_count, renewable_count, renewable_maximum, demand_at, reserve_at, most_shed, most_short}
+use Rattle.uc_model.specs.Points.{output_of}
+use Rattle.uc_model.specs.Commitment.{Commitment, starts, start_cap, stop_cap, initial_p, must_run_at, initial_up_at, initial_down_at, minimum_up_at, minimum_down_at, is_allowed, is_allowed_at}
+use Rattle.uc_model.specs.Schedule.{thermal_unit, thermal_count, renewable_count, renewable_maximum, demand_at, reserve_at}
 use Rattle.uc_model.specs.Rules as model
 use Rattle.uc_model.specs.Rules.{Obeys}
 use Rattle.uc_model.specs.PrintedSchedule.{cell_at, shed_at, short_at}
 use Rattle.uc_model.specs.Limits.{IsLawfulInstance}
 use Rattle.uc_model.proofs.Ring.{linear, mul_nonneg, pos_nonneg}
-use Rattle.uc_model.proofs.Sums.{sum_below-le, sum_below-mul_left, sum_below-same, sum_below_nonneg}
+use Rattle.uc_model.proofs.Sums.{sum_below-le, sum_below-mul_left, sum_below_nonneg}
 use Rattle.uc_model.proofs.Tests.{le-int_le, eq-int_eq, all_below-at}
 use Rattle.cost_curves.proofs.HullValues.{whole_width}
-use Rattle.cost_curves.specs.LowerHull.{Point, IsLowerHull, width_of}
+use Rattle.cost_curves.specs.LowerHull.{Point, width_of}
 use Rattle.dual_model.proofs.Locality.{SameBelow, starts-same, stops-same, is_allowed-same, category_allowed-same}
 use Rattle.schedule_check.specs.FirstBroken.{HoldsThroughout}
 use Rattle.schedule_check.specs.WholeWatts as watts

@@ -1,7 +1,5 @@
 -- Rule by rule.
 use Rattle.dispatch_prices.proofs.Obeying.{dispatches_obey}
-use Rattle.dispatch_prices.proofs.HullCosts as hull
-use Rattle.dispatch_prices.proofs.CellCosts as cells
 use Rattle.dispatch_prices.proofs.laws.dispatches_obey.Goals as goal
 
 pub returns : goal.returns
