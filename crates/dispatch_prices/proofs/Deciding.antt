@@ -12,6 +12,7 @@ use Rattle.dual_model.specs.declared.node.Fixing.{Fixing}
 use Rattle.dual_model.specs.declared.node.Node.{Node}
 use Rattle.dispatch_rules.specs.Dispatch.{Task, listed}
 use Rattle.dispatch_prices.specs.Dispatched.{IsDecided}
+use Rattle.dispatch_prices.proofs.Listing.{all_listed}
 
 -- ---- agreement
 keeps_same : (fixing : Fixing) (first second : Commitment) → first fixing.t ≡ second fixing.t → nodes.keeps fixing first ≡ nodes.keeps fixing second
@@ -43,11 +44,7 @@ row_of task g = listed task.instance.periods (λ t. fixing_of task g t ∷ [])
 abbrev pub deciding : Task → Node
 deciding task = record { fixings = listed (thermal_count task.instance) (row_of task) }
 
--- what holds of each part holds of the whole list, and the other way round
-all_listed : (P : Fixing → Type 0) (n : ℕ) (f : ℕ → List Fixing) → ((k : ℕ) → k < n → All P (f k)) → All P (listed n f)
-all_listed P zero f each = All-nil P
-all_listed P (suc n) f each = All-append P (listed n f) (f n) (all_listed P n f (λ k h. each k (omega arith))) (each n (omega arith))
-
+-- what each part passes the whole list passes, and the other way round
 passes_listed : (p : Fixing → Bool) (n : ℕ) (f : ℕ → List Fixing) → ((k : ℕ) → k < n → IsTrue (list_all p (f k))) → IsTrue (list_all p (listed n f))
 passes_listed p zero f each = refl
 passes_listed p (suc n) f each =

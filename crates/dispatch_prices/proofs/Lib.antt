@@ -2,6 +2,12 @@ pub mod Scaled
 pub mod Obeying
 pub mod HullCosts
 pub mod CellCosts
+pub mod Listing
 pub mod Payments
 pub mod Deciding
 pub mod Worth
+pub mod Places
+pub mod MultiplierList
+pub mod TimesBy
+pub mod RampRows
+pub mod PriceList

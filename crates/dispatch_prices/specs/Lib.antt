@@ -1,1 +1,4 @@
 pub mod Dispatched
+pub mod ReadOff
+pub mod Readings
+pub mod PricedLimits

@@ -3,3 +3,9 @@
 #![tactic(auto)]
 
 pub mod laws;
+mod multipliers;
+mod table;
+mod unfit;
+
+pub use multipliers::End;
+pub use unfit::Unfit;

@@ -1,0 +1,62 @@
+-- What the code holds of the end of a run, and what keeps it from reading prices off.
+use Rattle.std.specs.Prelude.{◌≡◌, ℕ, ◌+◌, ◌<◌, ◌≤◌, ◌⊎◌, Bool, List, length, slice_index_or, ℤ, pos, neg_ℤ, unsigned_abs, IsTrue, if◌then◌else◌}
+use Rattle.pivot_run.specs.Pivots.{IsWide, row_at}
+use Rattle.dispatch_program.specs.Programs.{Program, RightSide, Slack, Artificial, place, multiplier}
+use Rattle.dispatch_rules.specs.CommitmentTask.{limit_of}
+use Rattle.dispatch_rules.specs.Dispatch.{Task}
+use Rattle.dispatch_prices.specs.ReadOff.{IsEndOf, IsLargeMultiplier, ReadingForms, is_priced, limit_in, rules_of}
+use Rattle.dispatch_rules.specs.declared.limit.LimitAt.{LimitAt}
+pub use Rattle.dispatch_prices.specs.declared.multipliers.End.{End}
+pub use Rattle.dispatch_prices.specs.declared.multipliers.Places.{Places}
+pub use Rattle.dispatch_prices.specs.declared.unfit.Unfit.{Unfit}
+use Rattle.dispatch_prices.specs.declared.unfit.Unfit.TheVariants.{Product, Multiplier, NoMemory}
+
+-- the rules of the table
+abbrev pub rules_at : End → Program
+rules_at end = rules_of end.unknowns end.limits.now end.rights.now
+
+-- the table has a column for each unknown, slack and artificial one, the two values and the right side, and a row for each rule, the sum and the cost
+pub record HasSize (end : End) : Type 0 where
+  pub columns : end.table.now.columns ≡ place (rules_at end) RightSide + 1
+  pub rows : length end.table.now.rows ≡ length end.limits.now + 2
+  pub rights : length end.rights.now ≡ length end.limits.now
+
+-- the end is that of a run on the commitment's table
+abbrev pub IsEndAt : Task → End → Type 0
+IsEndAt task end = IsEndOf task end.unknowns end.limits.now end.rights.now end.table.now
+
+-- the columns of the slack and of the artificial column of rule i, where it has one
+pub record ArePlaces (p : Program) (i : ℕ) (places : Places) : Type 0 where
+  pub slack : places.slack ≡ place p (Slack i)
+  pub artificial : places.artificial ≡ place p (Artificial i)
+
+-- the multiplier of rule i, where that is a price, and within the limit
+pub record IsMultiplierAt (p : Program) (listed_limits : List LimitAt) (row : List ℤ) (i : ℕ) (m : ℤ) : Type 0 where
+  pub is : IsTrue (is_priced (limit_of (limit_in listed_limits i))) → m ≡ multiplier p row i
+  pub within : unsigned_abs m ≤ 100000000000000
+
+abbrev pub IsUnfit : Program → List LimitAt → List ℤ → Unfit → Type 0
+IsUnfit p listed_limits row (Product wide) = ReadingForms p row wide.size wide.other × IsWide wide.size wide.other
+IsUnfit p listed_limits row (Multiplier z) = IsLargeMultiplier p listed_limits row z
+IsUnfit p listed_limits row NoMemory = Unit {0}
+
+-- the product of the two numbers is too large
+abbrev pub IsProductOf : ℤ → ℤ → Unfit → Type 0
+IsProductOf a b (Product wide) = (wide.size ≡ a) × ((wide.other ≡ b) × IsWide a b)
+IsProductOf a b (Multiplier z) = ⊥
+IsProductOf a b NoMemory = ⊥
+
+abbrev pub IsProductOfEither : ℤ → ℤ → ℤ → Unfit → Type 0
+IsProductOfEither a b c (Product wide) = (wide.size ≡ a) × (((wide.other ≡ b) ⊎ (wide.other ≡ c)) × IsWide wide.size wide.other)
+IsProductOfEither a b c (Multiplier z) = ⊥
+IsProductOfEither a b c NoMemory = ⊥
+
+-- 1, and -1 for a rule that is negated
+abbrev pub sign_of : Bool → ℤ
+sign_of negated = if negated then neg_ℤ (pos 1) else pos 1
+
+-- the number is above 10^14 in size
+abbrev pub IsLarge : ℤ → Unfit → Type 0
+IsLarge number (Product wide) = ⊥
+IsLarge number (Multiplier z) = (z ≡ number) × (100000000000000 < unsigned_abs number)
+IsLarge number NoMemory = ⊥
