@@ -2,7 +2,7 @@
 -- Cite by `use Rattle.dispatch_prices.proofs.Deciding.{deciding, is_decided, agrees_there}`.
 use Rattle.std.proofs.Common.{◌≡◌, ℕ, zero, suc, ◌<◌, ◌≤◌, ⊎_elim, Bool, true, false, not, ◌&&◌, ◌==◌, refl, sym, ap, subst, ◌∙◌, arith, List, [], ◌∷◌, IsTrue, if◌then◌else◌}
 use Rattle.std.specs.List.{All, list_all}
-use Rattle.std.proofs.lemmas.List.Elements.{All-head, All-tail, All-cons, All-nil, All-append}
+use Rattle.std.proofs.lemmas.List.Elements.{All-head, All-tail, All-cons, All-nil}
 use Rattle.std.proofs.lemmas.List.Folds.{list_all-append}
 use Rattle.std.proofs.lemmas.Bool.{and_parts, and_from, or_cases, cases_Bool, cases_lt, cond-true, cond-false, eq-eqb, true≢false}
 use Rattle.uc_model.specs.Schedule.{Schedule, thermal_count}

@@ -11,3 +11,5 @@ pub mod MultiplierList
 pub mod TimesBy
 pub mod RampRows
 pub mod PriceList
+pub mod SameRules
+pub mod ReadOffs

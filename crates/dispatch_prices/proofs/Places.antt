@@ -1,6 +1,6 @@
 -- The columns of the slacks and of the artificial columns lie within the table.
 -- Cite by `use Rattle.dispatch_prices.proofs.Places.{counted_most}`.
-use Rattle.std.proofs.Common.{◌≡◌, ℕ, zero, suc, ◌+◌, ◌<◌, ◌≤◌, Bool, true, false, ⊎_elim, refl, sym, ap, subst, ◌∙◌, arith, ℤ}
+use Rattle.std.proofs.Common.{◌≡◌, ℕ, zero, suc, ◌+◌, ◌<◌, ◌≤◌, Bool, true, ⊎_elim, ap, arith}
 use Rattle.std.proofs.lemmas.Bool.{cases_lt}
 use Rattle.dispatch_program.specs.Programs.{Program, bump, counted, is_limit, has_artificial, place, RightSide, SumValue, Slack, Artificial}
 use Rattle.dispatch_program.proofs.Starts.{counted-le}

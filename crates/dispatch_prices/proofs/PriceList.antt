@@ -1,6 +1,6 @@
 -- One price more.
 -- Cite by `use Rattle.dispatch_prices.proofs.PriceList.{prices_more}`.
-use Rattle.std.proofs.Common.{◌≡◌, ℕ, ◌+◌, ◌<◌, ◌≤◌, ⊎_elim, sym, ap, subst, ◌∙◌, arith, List, [], ◌∷◌, ◌++◌, length, ℤ, pos, unsigned_abs, slice_index_or}
+use Rattle.std.proofs.Common.{◌≡◌, ℕ, ◌+◌, ◌<◌, ◌≤◌, ⊎_elim, sym, subst, ◌∙◌, arith, List, [], ◌∷◌, ◌++◌, ℤ, pos, unsigned_abs, slice_index_or}
 use Rattle.std.specs.Int.{w64}
 use Rattle.std.proofs.Common.{to_z, of_z}
 use Rattle.std.proofs.lemmas.Int.{to_z-of_z, fits_signed_from_abs}

@@ -1,6 +1,6 @@
 -- The rows of the ramps' prices: within the size, rising, and found by a look-up.
 -- Cite by `use Rattle.dispatch_prices.proofs.RampRows.{rows_within, rows_rising, up_found, down_found}`.
-use Rattle.std.proofs.Common.{◌≡◌, ℕ, zero, suc, ◌+◌, ◌<◌, ◌≤◌, ◌≢◌, ◌⊎◌, inl, inr, ⊎_elim, Bool, true, false, not, ◌&&◌, ◌==◌, refl, sym, ap, subst, ◌∙◌, arith, List, [], ◌∷◌, ◌++◌, length, ℤ, pos, IsTrue, slice_index_or, if◌then◌else◌}
+use Rattle.std.proofs.Common.{◌≡◌, ℕ, zero, suc, ◌<◌, ◌≤◌, ◌≢◌, ◌⊎◌, inl, inr, ⊎_elim, false, ◌&&◌, ◌==◌, refl, sym, ap, subst, ◌∙◌, arith, List, [], ◌∷◌, ◌++◌, ℤ, pos, IsTrue, if◌then◌else◌}
 use Rattle.std.specs.Ordering.{int_eq}
 use Rattle.std.specs.List.{All}
 use Rattle.std.proofs.lemmas.Bool.{and_parts, and_from, and_left, and_right, cases_Bool, cases_lt, cond-true, cond-false, cond_both, eq-eqb, ne_eqb, true≢false}
@@ -8,7 +8,6 @@ use Rattle.std.proofs.lemmas.List.Elements.{All-head, All-tail, All-cons, All-ni
 use Rattle.uc_model.proofs.Tests.{int_eq-true, eq-int_eq}
 use Rattle.dual_model.specs.Prices.{AreRising, IsRowBefore, IsRowWithin, row_of}
 use Rattle.dual_model.specs.declared.table.RampRow.{RampRow}
-use Rattle.dispatch_rules.specs.Dispatch.{listed}
 use Rattle.dispatch_prices.specs.ReadOff.{all_rows, is_nothing, kept, ramp_row, rows_in}
 use Rattle.dispatch_prices.proofs.Listing.{all_listed}
 
@@ -21,9 +20,10 @@ IsChain (row ∷ rows) = All (IsRowBefore row) rows × IsChain rows
 chain_append : (xs ys : List RampRow) → IsChain xs → IsChain ys → All (λ x. All (IsRowBefore x) ys) xs → IsChain (xs ++ ys)
 unfolding IsChain
 chain_append [] ys first second before = second
-chain_append (x ∷ xs) ys first second before =
-    (All-append (IsRowBefore x) xs ys first.0 (All-head (λ r. All (IsRowBefore r) ys) x xs before),
-    chain_append xs ys first.1 second (All-tail (λ r. All (IsRowBefore r) ys) x xs before))
+chain_append (x ∷ xs) ys first second before = (
+  All-append (IsRowBefore x) xs ys first.0 (All-head (λ r. All (IsRowBefore r) ys) x xs before),
+  chain_append xs ys first.1 second (All-tail (λ r. All (IsRowBefore r) ys) x xs before),
+)
 
 chain_rising : (rows : List RampRow) → IsChain rows → AreRising rows
 unfolding IsChain

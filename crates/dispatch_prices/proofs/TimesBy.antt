@@ -1,7 +1,7 @@
 -- How often a limit stands in a row, by the list of the limits.
 -- Cite by `use Rattle.dispatch_prices.proofs.TimesBy.{times_at, times_none, times_of-is}`.
-use Rattle.std.proofs.Common.{◌≡◌, ℕ, zero, suc, ◌+◌, ◌<◌, ◌≤◌, true, false, ◌&&◌, ◌==◌, refl, sym, ap, subst, ◌∙◌, arith, List, map, length, ℤ, pos, IsTrue, slice_index_or, if◌then◌else◌}
-use Rattle.std.proofs.lemmas.Bool.{cond-true, cond-false}
+use Rattle.std.proofs.Common.{◌≡◌, ℕ, zero, suc, ◌<◌, ◌≤◌, ◌⊎◌, inl, inr, ⊎_elim, unsigned_abs, Bool, true, false, ◌&&◌, ◌==◌, sym, ap, subst, ◌∙◌, arith, List, map, length, ℤ, pos, slice_index_or, if◌then◌else◌}
+use Rattle.std.proofs.lemmas.Bool.{cases_Bool, cases_lt, cond-false}
 use Rattle.std.proofs.lemmas.List.{length-map}
 use Rattle.std.proofs.Math.ListN.{get_or-map}
 use Rattle.uc_model.specs.Rules as model
@@ -37,6 +37,30 @@ pub times_none : (listed_limits : List LimitAt) (times : ℕ → ℤ) (l : Limit
 times_none listed_limits times l none =
     sum_below-zero (length listed_limits) (λ k. if is_same (limit_of (limit_in listed_limits k)) l then times k else pos 0)
     (λ k h. cond-false (is_same (limit_of (limit_in listed_limits k)) l) (times k) (pos 0) (none k h))
+
+-- the first n numbers have one that passes, or have none
+some_or_none : (test : ℕ → Bool) (n : ℕ) → ((i : ℕ) × ((i < n) × (test i ≡ true))) ⊎ ((k : ℕ) → k < n → test k ≡ false)
+some_or_none test zero = inr (λ k h. absurd (omega arith))
+some_or_none test (suc n) = ⊎_elim
+    (λ (found : (i : ℕ) × ((i < n) × (test i ≡ true))). inl (found.0, (omega (arith, found.1.0), found.1.1)))
+    (λ (none : (k : ℕ) → k < n → test k ≡ false). ⊎_elim
+    (λ (here : test n ≡ true). inl (n, (omega arith, here)))
+    (λ (nor : test n ≡ false). inr (λ k h. ⊎_elim
+    (λ (less : k < n). none k less)
+    (λ (most : n ≤ k). let same : n ≡ k = omega arith in subst (λ j. test j ≡ false) same nor)
+    (cases_lt k n)))
+    (cases_Bool (test n)))
+    (some_or_none test n)
+
+-- so it is no larger than the greatest of them
+pub times_within : (listed_limits : List LimitAt) (times : ℕ → ℤ) (l : Limit) (most : ℕ) → AreOnce listed_limits → ((i : ℕ) → unsigned_abs (times i) ≤ most)
+    → unsigned_abs (times_by listed_limits times l) ≤ most
+times_within listed_limits times l most once within = ⊎_elim
+    (λ (found : (i : ℕ) × ((i < length listed_limits) × (is_same (limit_of (limit_in listed_limits i)) l ≡ true))).
+    subst (λ z. unsigned_abs z ≤ most) (sym (times_at listed_limits times l found.0 once found.1.0 found.1.1)) (within found.0))
+    (λ (none : (k : ℕ) → k < length listed_limits → is_same (limit_of (limit_in listed_limits k)) l ≡ false).
+    subst (λ z. unsigned_abs z ≤ most) (sym (times_none listed_limits times l none)) (omega arith))
+    (some_or_none (λ i. is_same (limit_of (limit_in listed_limits i)) l) (length listed_limits))
 
 -- ---- a commitment's limits
 module _ (task : Task) (listed_limits : List LimitAt) (are : map limit_of listed_limits ≡ limits task) where

@@ -1,6 +1,7 @@
 -- The prices among the multipliers of the limits, and the table that they make.
 -- Source: the simplex multipliers (G. B. Dantzig, "Linear Programming and Extensions", 1963) as prices of demand, of reserve and of ramps.
 use Rattle.std.specs.Prelude.{◌≡◌, ℕ, ◌<◌, ◌≤◌, List, length, slice_index_or, ℤ, pos, neg_ℤ, unsigned_abs}
+use Rattle.dual_model.specs.Prices.{IsWellFormed}
 use Rattle.dual_model.specs.declared.table.Table.{Table}
 use Rattle.dispatch_rules.specs.CommitmentTask.{rule_of}
 use Rattle.dispatch_rules.specs.Dispatch.{limit}
@@ -39,6 +40,7 @@ pub record ArePrices (price : ℕ → ℤ) (n : ℕ) (prices : List ℤ) : Type 
   pub within : (t : ℕ) → unsigned_abs (slice_index_or prices t (pos 0)) ≤ 100000000000000
 
 pub record IsTableOf (priced : Priced) (units periods : ℕ) (k : ℤ) (table : Table) : Type 0 where
+  pub form : IsWellFormed table
   pub units_are : table.units ≡ units
   pub scale : table.k ≡ k
   pub demand : ArePrices (demand_price priced) periods table.pi

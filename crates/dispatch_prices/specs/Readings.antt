@@ -1,9 +1,13 @@
 -- What the code holds of the end of a run, and what keeps it from reading prices off.
-use Rattle.std.specs.Prelude.{◌≡◌, ℕ, ◌+◌, ◌<◌, ◌≤◌, ◌⊎◌, Bool, List, length, slice_index_or, ℤ, pos, neg_ℤ, unsigned_abs, IsTrue, if◌then◌else◌}
-use Rattle.pivot_run.specs.Pivots.{IsWide, row_at}
+use Rattle.std.specs.Prelude.{◌≡◌, ℕ, ◌+◌, ◌<◌, ◌≤◌, ◌⊎◌, Bool, List, length, ℤ, pos, neg_ℤ, unsigned_abs, IsTrue, if◌then◌else◌}
+use Rattle.pivot_run.specs.Pivots.{IsWide}
 use Rattle.dispatch_program.specs.Programs.{Program, RightSide, Slack, Artificial, place, multiplier}
 use Rattle.dispatch_rules.specs.CommitmentTask.{limit_of}
+use Rattle.std.specs.List.{All}
+use Rattle.dual_model.specs.Prices.{IsPrice, IsRowPriced}
+use Rattle.dual_model.specs.declared.table.Table.{Table}
 use Rattle.dispatch_rules.specs.Dispatch.{Task}
+use Rattle.dispatch_rules.specs.Duals.{IsReadOff, scale_of}
 use Rattle.dispatch_prices.specs.ReadOff.{IsEndOf, IsLargeMultiplier, ReadingForms, is_priced, limit_in, rules_of}
 use Rattle.dispatch_rules.specs.declared.limit.LimitAt.{LimitAt}
 pub use Rattle.dispatch_prices.specs.declared.multipliers.End.{End}
@@ -60,3 +64,11 @@ abbrev pub IsLarge : ℤ → Unfit → Type 0
 IsLarge number (Product wide) = ⊥
 IsLarge number (Multiplier z) = (z ≡ number) × (100000000000000 < unsigned_abs number)
 IsLarge number NoMemory = ⊥
+
+-- the table has the scale k, prices within the limits, and the prices of the row, where that is the row's scale
+pub record IsPriceTable (task : Task) (row : List ℤ) (k : ℤ) (table : Table) : Type 0 where
+  pub scale : table.k ≡ k
+  pub demand : All IsPrice table.pi
+  pub reserve : All IsPrice table.mu
+  pub ramps : All IsRowPriced table.ramps
+  pub read : k ≡ scale_of task row → IsReadOff task row table

@@ -1,16 +1,55 @@
 //! The table of prices at the end of a run.
-ghost use Rattle.std.specs.Prelude.{◌≡◌, ℕ, [], ◌∷◌, ◌++◌, ◌+◌, ◌<◌, ◌≤◌, length, pos, neg_ℤ, unsigned_abs, IfOk, OnOk, slice_index_or, ◌≤ℤ◌};
+ghost use Rattle.std.specs.Prelude.{◌≡◌, ℕ, [], ◌∷◌, ◌++◌, ◌+◌, ◌<◌, ◌≤◌, length, pos, unsigned_abs, IfErr, IfOk, OnOk, slice_index_or, ◌≤ℤ◌};
+ghost use Rattle.uc_model.specs.Limits.{IsLawfulInstance};
+ghost use Rattle.pivot_run.specs.Pivots.{IsNarrow, row_at};
 ghost use Rattle.dispatch_rules.specs.CommitmentTask.{limit_of, rule_of};
-ghost use Rattle.dispatch_rules.specs.Dispatch.{is_same, limit};
-ghost use Rattle.dispatch_prices.specs.ReadOff.{AreOnce, all_rows, kept, ramp_row as cell_row, times_by};
+ghost use Rattle.dispatch_rules.specs.Dispatch.{Task, is_same, limit, program};
+ghost use Rattle.dispatch_prices.specs.ReadOff.{ReadingForms, all_rows, kept, ramp_row as cell_row};
+ghost use Rattle.dispatch_prices.specs.Readings.{IsEndAt, IsPriceTable, IsUnfit};
 ghost use Rattle.dispatch_prices.specs.PricedLimits.{ArePrices, IsLawfulPriced, IsTableOf, demand_price, down_price, price_of, reserve_price, up_price};
 
+use crate::multipliers::End;
+use crate::unfit::Unfit;
 use dispatch_rules::{LimitAt, LimitRule};
 use dual_model::{RampRow, Table};
 use std::alloc::Global;
-use uc_model::NoMemory;
+use uc_model::{Instance, NoMemory};
+
+impl End<'_> {
+    /// The table of the prices that row `o` gives, at the scale `k`: the multipliers of demand, of the reserve and of the ramps.
+    pub fn prices(
+        &self,
+        alloc: Global,
+        instance: &Instance,
+        o: usize,
+        k: i64,
+    ) -> Result<Table, Unfit>
+        requires lawful { IsLawfulInstance instance.now }
+        requires end { (task : Task) × ((task.instance ≡ instance.now) × IsEndAt task self.now) }
+        requires row { o < length self.now.table.now.rows }
+        requires scale { pos 0 ≤ℤ k }
+        ensures table { IfOk result (λ table. (task : Task) → task.instance ≡ instance.now → IsEndAt task self.now → IsPriceTable task (row_at self.now.table.now.rows o) k table) }
+        ensures narrow { OnOk result ((task : Task) → IsEndAt task self.now → IsNarrow (ReadingForms (program task) (row_at self.now.table.now.rows o))) }
+        ensures unfit { IfErr result (λ unfit. (task : Task) → IsEndAt task self.now → IsUnfit (program task) self.now.limits.now (row_at self.now.table.now.rows o) unfit) }
+    {
+        let times = match self.multipliers(alloc, o) {
+            Ok(times) => times,
+            Err(unfit) => return Err(unfit),
+        };
+        let priced = Priced {
+            limits: self.limits,
+            times: &times,
+        };
+        let units = instance.thermal.as_slice().len() as u32;
+        match table_of(alloc, units, instance.periods, k, &priced) {
+            Ok(table) => Ok(table),
+            Err(NoMemory) => Err(Unfit::NoMemory),
+        }
+    }
+}
 
 // The priced limits, each with its multiplier.
+#[derive(Clone, Copy)]
 pub(crate) struct Priced<'a> {
     pub limits: &'a [LimitAt],
     pub times: &'a [i64],

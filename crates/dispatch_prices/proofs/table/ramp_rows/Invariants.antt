@@ -1,6 +1,5 @@
 -- The units before have their rows, and so have this unit's periods before.
 use Rattle.std.proofs.Common.{◌≡◌, ◌++◌}
-use Rattle.dispatch_rules.specs.Dispatch.{listed}
 use Rattle.dispatch_prices.specs.PricedLimits.{up_price, down_price}
 use Rattle.dispatch_prices.specs.ReadOff.{all_rows, rows_in}
 use Rattle.dispatch_prices.proofs.table.ramp_rows.Given as goal

@@ -1,5 +1,5 @@
 -- One price more.
-use Rattle.std.proofs.Common.{◌≡◌, ◌≤◌, arith, unsigned_abs}
+use Rattle.std.proofs.Common.{arith}
 use Rattle.std.proofs.lemmas.Int.{ints}
 use Rattle.dispatch_prices.specs.PricedLimits.{reserve_price}
 use Rattle.dispatch_prices.proofs.PriceList.{pushed}

@@ -1,5 +1,5 @@
 -- The prices of each period, and rows that rise.
-use Rattle.std.proofs.Common.{◌≡◌, ◌≤ℤ◌, ◌∙◌, sym, ap, subst, pos, length, arith, All}
+use Rattle.std.proofs.Common.{◌≤ℤ◌, ◌∙◌, sym, ap, subst, pos, length, All}
 use Rattle.std.specs.Int.{w64}
 use Rattle.std.proofs.lemmas.Int.{to_z-of_z}
 use Rattle.dual_model.specs.Prices.{AreRising, IsRowWithin}

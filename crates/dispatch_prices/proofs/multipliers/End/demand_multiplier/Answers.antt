@@ -1,5 +1,5 @@
 -- An equality has an artificial column, before that of the sum.
-use Rattle.std.proofs.Common.{◌≡◌, ◌<◌, arith}
+use Rattle.std.proofs.Common.{arith}
 use Rattle.std.proofs.lemmas.Bool.{or_left}
 use Rattle.dispatch_program.specs.Programs.{is_negated}
 use Rattle.dispatch_prices.specs.Readings.{rules_at}

@@ -1,5 +1,5 @@
 -- A rule that is no equality has a slack column.
-use Rattle.std.proofs.Common.{◌≡◌, ◌<◌, ap, sym, ◌∙◌, not, arith}
+use Rattle.std.proofs.Common.{ap, sym, ◌∙◌, not, arith}
 use Rattle.dispatch_prices.specs.Readings.{rules_at}
 use Rattle.dispatch_prices.proofs.Places.{slack_within}
 use Rattle.dispatch_prices.proofs.multipliers.End.multiplier.Goals as goal

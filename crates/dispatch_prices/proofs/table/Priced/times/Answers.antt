@@ -1,12 +1,12 @@
 -- The limit is found, or isn't there.
-use Rattle.std.proofs.Common.{◌≡◌, ◌<◌, ◌≤◌, pos, ◌∙◌, sym, ap, subst, slice_index_or, unsigned_abs, arith}
+use Rattle.std.proofs.Common.{◌≤◌, pos, ◌∙◌, sym, ap, subst, slice_index_or, unsigned_abs, arith}
 use Rattle.std.specs.Int.{w64}
 use Rattle.std.proofs.lemmas.Int.{to_z-of_z, fits_signed_from_abs}
 use Rattle.std.proofs.lemmas.List.{get_or_default}
 use Rattle.dispatch_rules.specs.CommitmentTask.{limit_of, rule_of}
 use Rattle.dispatch_rules.specs.declared.limit.LimitAt.{LimitAt}
 use Rattle.dispatch_rules.specs.Dispatch.{is_same, limit}
-use Rattle.dispatch_prices.proofs.TimesBy.{times_at, times_none, times_of-is}
+use Rattle.dispatch_prices.proofs.TimesBy.{times_at, times_none}
 use Rattle.dispatch_prices.proofs.table.Priced.times.Goals as goal
 
 pub returns-then-is_at : goal.returns-then-is_at
