@@ -1,0 +1,8 @@
+//! The table of a commitment's dispatch at its start: the rows of the simplex method (G. B. Dantzig, "Linear Programming and Extensions", 1963) in
+//! whole numbers, with the amounts and limits that its columns and rows stand for.
+#![tactic(auto)]
+
+mod amounts;
+mod given;
+mod limits;
+mod times;
