@@ -1,2 +1,4 @@
 pub mod Corners
+pub mod LimitReads
 pub mod Pushed
+pub mod Scales

@@ -1,11 +1,14 @@
 -- The task of an instance with a pattern and a curve for each thermal unit.
-use Rattle.std.specs.Prelude.{◌≡◌, ℕ, List, [], ◌∷◌, length, ℤ, pos}
+use Rattle.std.specs.Prelude.{◌≡◌, ℕ, suc, ◌<◌, ◌≤◌, ◌*◌, List, [], ◌∷◌, length, ℤ, pos, ◌*ℤ◌, int_div, unsigned_abs}
 use Rattle.uc_model.specs.Limits.{IsLawfulInstance}
 use Rattle.uc_model.specs.Schedule.{thermal_count}
 use Rattle.cost_curves.specs.LowerHull.{Point}
 use Rattle.cost_curves.specs.UnitCurves.{AreCurvesOf, curve_in}
-use Rattle.dispatch_rules.specs.CommitmentTask.{Instance, Pattern, commitment_at}
-use Rattle.uc_model.specs.Rules.{Rule}
+use Rattle.dispatch_rules.specs.CommitmentTask.{Instance, Pattern, commitment_at, cost_fraction}
+use Rattle.uc_model.specs.declared.limits.TheConstants.{MAX_POWER, MAX_UNITS}
+use Rattle.uc_model.specs.Rules.{Rule, rule_units}
+use Rattle.dispatch_rules.specs.declared.amount.Amount.{Amount}
+use Rattle.dispatch_rules.specs.declared.amount.Amount.TheVariants.{Length}
 use Rattle.dispatch_rules.specs.Dispatch.{Task, Limit, limit, listed, copies}
 pub use Rattle.dispatch_table.specs.declared.given.Given.{Given}
 
@@ -29,3 +32,27 @@ cell_limits task rule g t = listed (copies task rule g t) (λ k. limit rule g t 
 
 abbrev pub unit_limits : Task → Rule → ℕ → List Limit
 unit_limits task rule g = listed task.instance.periods (cell_limits task rule g)
+
+-- a limit at a unit, a period and a segment that its rule has
+pub record IsLimitIn (task : Task) (l : Limit) : Type 0 where
+  pub unit : l.unit < rule_units l.rule task.instance
+  pub period : l.period < task.instance.periods
+  pub segment : l.segment < copies task l.rule l.unit l.period
+
+-- an amount of a unit and a segment that there are
+abbrev pub IsAmountIn : Task → Amount → Type 0
+IsAmountIn task (Length g t k) = (g < thermal_count task.instance) × (suc k < length (task.corners g))
+IsAmountIn task _ = Unit {0}
+
+-- as large as a sum of the outputs of all thermal or all renewable units
+abbrev pub IsOutputSum : ℤ → Type 0
+IsOutputSum z = unsigned_abs z ≤ MAX_UNITS * MAX_POWER
+
+-- ---- costs
+-- what an amount costs, times a scale: the numerator as often as the denominator stands in the scale
+abbrev pub scaled_cost : Task → ℤ → Amount → ℤ
+scaled_cost task scale amount = (cost_fraction task amount).numerator *ℤ int_div scale (cost_fraction task amount).denominator
+
+-- making it forms the product of these two numbers
+abbrev pub FormsCost : Task → ℤ → Amount → ℤ → ℤ → Type 0
+FormsCost task scale amount a b = (a ≡ (cost_fraction task amount).numerator) × (b ≡ int_div scale (cost_fraction task amount).denominator)

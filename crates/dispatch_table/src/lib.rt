@@ -5,4 +5,7 @@
 mod amounts;
 mod given;
 mod limits;
+mod outputs;
+mod rights;
+mod scale;
 mod times;
