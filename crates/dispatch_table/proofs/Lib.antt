@@ -1,3 +1,4 @@
+pub mod ColumnLists
 pub mod Corners
 pub mod LimitReads
 pub mod Pushed

@@ -3,9 +3,14 @@
 #![tactic(auto)]
 
 mod amounts;
+mod basis;
+mod column;
+mod columns;
 mod given;
 mod limits;
 mod outputs;
+mod program;
 mod rights;
+mod rows;
 mod scale;
 mod times;
