@@ -13,7 +13,7 @@ use Rattle.dispatch_table.specs.declared.column.Column.{Column as ColumnName}
 use Rattle.dispatch_table.specs.Numbers.{column_of}
 
 -- ---- the columns that there are
-each_picked : {A : Type 0} (P : A → Type 0) (test : ℕ → Bool) (f : ℕ → A) (n : ℕ) → ((i : ℕ) → i < n → test i ≡ true → P (f i)) → Each P (picked test f n)
+pub each_picked : {A : Type 0} (P : A → Type 0) (test : ℕ → Bool) (f : ℕ → A) (n : ℕ) → ((i : ℕ) → i < n → test i ≡ true → P (f i)) → Each P (picked test f n)
 each_picked P test f zero h = each_none P
 each_picked P test f (suc n) h =
     each_append P (picked test f n) (if test n then f n ∷ [] else []) (each_picked P test f n (λ i l e. h i (omega arith) e)) (last (test n) (h n (omega arith)))

@@ -14,6 +14,7 @@ use uc_model::limits::{MAX_COST, MAX_POWER};
 use uc_model::{Instance, Pattern, Point, Thermal};
 
 /// An instance, with a pattern and a curve for each of its thermal units.
+#[derive(Drop)]
 pub(crate) struct Given<'a> {
     pub instance: &'a Instance,
     pub patterns: &'a [Pattern],

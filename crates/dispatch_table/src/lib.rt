@@ -8,9 +8,15 @@ mod column;
 mod columns;
 mod given;
 mod limits;
+mod made;
+mod making;
 mod outputs;
 mod program;
 mod rights;
 mod rows;
 mod scale;
+mod table;
 mod times;
+
+pub use made::{Made, Start};
+pub use making::start;
