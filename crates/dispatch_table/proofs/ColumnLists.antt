@@ -7,7 +7,7 @@ use Rattle.std.specs.Int.{w128}
 use Rattle.uc_model.specs.Sums.{sum_below}
 use Rattle.uc_model.proofs.Sizes.{abs_add, wide}
 use Rattle.pivot_run.specs.Rows.{IsSmall, entry}
-use Rattle.dispatch_program.specs.Programs.{Program, Column, RightSide, HasColumn, Line, RuleLine, SumLine, CostLine, SumValue, CostValue, all, basic_column, columns_of, counted, has_artificial, is_limit, lines_of, picked, place, slacks}
+use Rattle.dispatch_program.specs.Programs.{Program, RightSide, HasColumn, Line, RuleLine, SumLine, CostLine, SumValue, CostValue, all, basic_column, columns_of, counted, has_artificial, is_limit, lines_of, picked, place, slacks}
 use Rattle.dispatch_rules.proofs.Listed.{Each, each_none, each_one, each_append}
 use Rattle.dispatch_table.specs.declared.column.Column.{Column as ColumnName}
 use Rattle.dispatch_table.specs.Numbers.{column_of}

@@ -1,6 +1,6 @@
 -- A unit's curve has no more corners than the unit has points.
 -- Cite by `use Rattle.dispatch_table.proofs.Corners.{few_corners}`.
-use Rattle.std.proofs.Common.{◌≡◌, ℕ, zero, suc, ◌<◌, ◌≤◌, ⊎_elim, arith, subst, ap, sym, ◌∙◌, List, length, ℤ, ◌≤ℤ◌, ◌<ℤ◌}
+use Rattle.std.proofs.Common.{◌≡◌, ℕ, zero, suc, ◌<◌, ◌≤◌, ⊎_elim, arith, subst, ap, sym, List, length, ℤ, ◌≤ℤ◌}
 use Rattle.std.proofs.lemmas.Bool.{cases_lt}
 use Rattle.uc_model.specs.Points.{point_of}
 use Rattle.uc_model.proofs.Ring.{linear, le_refl}

@@ -1,6 +1,6 @@
 -- The limits of a task, by the list that stands for them.
 -- Cite by `use Rattle.dispatch_table.proofs.LimitReads.{read_limit}`.
-use Rattle.std.proofs.Common.{◌≡◌, ℕ, ◌<◌, sym, ap, subst, ◌∙◌, List, [], ◌∷◌, map, length, get_or, refl}
+use Rattle.std.proofs.Common.{◌≡◌, ℕ, ◌<◌, sym, ap, subst, ◌∙◌, List, map, length, get_or}
 use Rattle.std.proofs.lemmas.List.{get_or-map, length-map}
 use Rattle.uc_model.specs.Rules.{Rule, Demand, rule_units}
 use Rattle.dispatch_rules.specs.declared.limit.LimitAt.{LimitAt}

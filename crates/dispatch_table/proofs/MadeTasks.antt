@@ -1,6 +1,6 @@
 -- The task of an instance, its patterns and its curves, with its scale.
 -- Cite by `use Rattle.dispatch_table.proofs.MadeTasks.{is_task_of}`.
-use Rattle.std.proofs.Common.{◌≡◌, ℕ, suc, ◌-◌, ◌<◌, ◌≤◌, ◌⊎◌, ⊎_elim, inl, inr, refl, sym, ap, subst, ◌∙◌, arith, List, [], ◌∷◌, map, length, slice_index_or, ℤ, pos, unsigned_abs, IsTrue, ◌<ℤ◌}
+use Rattle.std.proofs.Common.{◌≡◌, ℕ, ◌<◌, ⊎_elim, refl, sym, ap, subst, ◌∙◌, arith, List, [], ◌∷◌, map, length, ℤ, pos, unsigned_abs, IsTrue, ◌<ℤ◌}
 use Rattle.std.specs.Int.{◌∣◌}
 use Rattle.std.proofs.lemmas.Bool.{cond-true}
 use Rattle.std.proofs.lemmas.List.{get_or-map}
@@ -13,11 +13,11 @@ use Rattle.dispatch_rules.specs.declared.amount.Amount.{Amount}
 use Rattle.dispatch_rules.specs.declared.amount.Amount.TheVariants.{Length, Held, Shed}
 use Rattle.dispatch_rules.specs.Cells.{segments}
 use Rattle.dispatch_rules.specs.CommitmentTask.{CostForms, IsTaskOf, MakingForms, ScaleForms, cost_fraction, scale_to}
-use Rattle.dispatch_rules.specs.Dispatch.{Task, Limit, limit, limits, limit_at, amounts, amounts_in, amount_at, listed, program, right_of, unit_amounts}
+use Rattle.dispatch_rules.specs.Dispatch.{Task, Limit, limit, limits, amounts, amounts_in, amount_at, listed, program, right_of, unit_amounts}
 use Rattle.dispatch_rules.specs.Duals.{IsTask}
 use Rattle.dispatch_rules.proofs.Listed.{StandsIn, stands_alone, stands_left, stands_listed}
 use Rattle.dispatch_table.specs.Numbers.{program_from}
-use Rattle.dispatch_table.specs.Start.{AreCosts, IsScale}
+use Rattle.dispatch_table.specs.Start.{AreCosts}
 use Rattle.dispatch_table.specs.Tasks.{Given, IsGiven, task_of, task_with}
 use Rattle.dispatch_table.proofs.SameTables.{same_table}
 use Rattle.dispatch_table.proofs.Scales.{amount_in, cost_is, cost-whole, divides_scale, scale_positive}

@@ -1,6 +1,6 @@
 -- Lists to which the parts of a list in order are added.
 -- Cite by `use Rattle.dispatch_table.proofs.Pushed.{push_listed}`.
-use Rattle.std.proofs.Common.{◌≡◌, ℕ, ◌+◌, ◌^◌, ◌<◌, refl, sym, ap, subst, ◌∙◌, arith, List, [], ◌∷◌, ◌++◌, length, slice_set, ℤ, pos, to_z, of_z, unsigned_abs, append_assoc, add-one, below_more, get_or-set_other, get_or-set_same}
+use Rattle.std.proofs.Common.{◌≡◌, ℕ, ◌+◌, ◌^◌, ◌<◌, sym, ap, subst, ◌∙◌, arith, List, ◌++◌, length, slice_set, ℤ, pos, to_z, of_z, unsigned_abs, append_assoc, add-one, below_more, get_or-set_other, get_or-set_same}
 use Rattle.std.specs.Int.{w128}
 use Rattle.uc_model.proofs.Sizes.{wide}
 use Rattle.pivot_run.specs.Rows.{entry}

@@ -1,6 +1,6 @@
 -- The scale of a task is a multiple of each denominator, so the costs are whole.
 -- Cite by `use Rattle.dispatch_table.proofs.Scales.{fraction_positive}`.
-use Rattle.std.proofs.Common.{◌≡◌, ℕ, zero, suc, ◌*◌, ◌<◌, ◌≤◌, ⊎_elim, refl, sym, ap, subst, ◌∙◌, arith, List, length, slice_index_or, ℤ, pos, negsuc, ◌*ℤ◌, ◌<ℤ◌, int_div, unsigned_abs}
+use Rattle.std.proofs.Common.{◌≡◌, ℕ, zero, suc, ◌<◌, ◌≤◌, ⊎_elim, sym, ap, subst, ◌∙◌, arith, List, length, slice_index_or, ℤ, pos, negsuc, ◌*ℤ◌, ◌<ℤ◌, int_div, unsigned_abs}
 use Rattle.std.specs.Int.{◌∣◌}
 use Rattle.std.proofs.Math.Nat.{dvd-mul_left}
 use Rattle.std.proofs.lemmas.Nat.Gcd.{dvd_trans}

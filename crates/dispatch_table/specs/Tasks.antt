@@ -2,9 +2,8 @@
 use Rattle.std.specs.Prelude.{◌≡◌, ℕ, suc, ◌<◌, ◌≤◌, ◌*◌, List, [], ◌∷◌, length, ℤ, pos, ◌*ℤ◌, int_div, unsigned_abs}
 use Rattle.uc_model.specs.Limits.{IsLawfulInstance}
 use Rattle.uc_model.specs.Schedule.{thermal_count}
-use Rattle.cost_curves.specs.LowerHull.{Point}
 use Rattle.cost_curves.specs.UnitCurves.{AreCurvesOf, curve_in}
-use Rattle.dispatch_rules.specs.CommitmentTask.{Instance, Pattern, commitment_at, cost_fraction}
+use Rattle.dispatch_rules.specs.CommitmentTask.{commitment_at, cost_fraction}
 use Rattle.uc_model.specs.declared.limits.TheConstants.{MAX_POWER, MAX_UNITS}
 use Rattle.uc_model.specs.Rules.{Rule, rule_units}
 use Rattle.dispatch_rules.specs.declared.amount.Amount.{Amount}

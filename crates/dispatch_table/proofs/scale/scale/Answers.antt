@@ -1,5 +1,5 @@
 -- Each amount is the task's.
-use Rattle.std.proofs.Common.{◌≡◌, suc, ◌*◌, ◌+◌, ◌^◌, ◌<◌, ◌≤◌, refl, length, arith, sym, subst, ap, ◌∙◌, pos, ◌<ℤ◌, ◌*ℤ◌, to_z, unsigned_abs, below_more, add-one}
+use Rattle.std.proofs.Common.{◌^◌, ◌<◌, ◌≤◌, refl, length, arith, sym, subst, ap, ◌∙◌, pos, ◌<ℤ◌, to_z, unsigned_abs, below_more, add-one}
 use Rattle.std.specs.Int.{w128}
 use Rattle.std.proofs.lemmas.Int.{unsigned_abs-mul}
 use Rattle.pivot_run.specs.Pivots.{IsNarrow}

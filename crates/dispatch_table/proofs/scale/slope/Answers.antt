@@ -5,7 +5,7 @@ use Rattle.uc_model.specs.declared.limits.TheConstants.{MAX_COST, MAX_POWER}
 use Rattle.uc_model.proofs.Sizes.{narrow}
 use Rattle.cost_curves.specs.UnitCurves.{curve_in}
 use Rattle.fractions.specs.Fractions.{lowest}
-use Rattle.dispatch_rules.specs.Cells.{rise_at, width_at}
+use Rattle.dispatch_rules.specs.Cells.{width_at}
 use Rattle.dispatch_table.specs.Tasks.{task_of}
 use Rattle.dispatch_table.proofs.Scales.{width_positive}
 use Rattle.dispatch_table.proofs.scale.slope.Goals as goal
