@@ -1,0 +1,25 @@
+//! What the making of a table answers.
+
+use dispatch_rules::{Amount, LimitAt};
+use pivot_run::{Tableau, Wide};
+
+/// The table of a commitment's dispatch at its start, with what its columns and rows stand for.
+#[derive(Debug, Drop)]
+pub struct Start {
+    pub table: Tableau,
+    /// In the order of the unknown columns.
+    pub amounts: Vec<Amount>,
+    /// In the order of the rules' rows.
+    pub limits: Vec<LimitAt>,
+    /// By which costs are multiplied to be whole.
+    pub scale: i128,
+    /// How many columns may enter: those of the amounts and the slacks.
+    pub free: usize,
+}
+
+/// The start, or the product that isn't below the limit in size.
+#[derive(Debug, Drop)]
+pub enum Made {
+    Start(Start),
+    Wide(Wide),
+}
