@@ -1,10 +1,11 @@
 -- The values of the columns by a basis: each is its value over the shares' denominator in lowest terms, and its own denominator divides the least
 -- common multiple of all.
--- Cite by `use Rattle.dispatch_schedule.proofs.ColumnValues.{has_values, value_positive, value_lowest, value_ratio, denominator_positive, denominator_divides}`.
+-- Cite by `use Rattle.dispatch_schedule.proofs.ColumnValues.{has_values, value_positive, value_coprime, value_ratio, denominator_positive, denominator_divides}`.
 use Rattle.std.proofs.Common.{◌≡◌, ◌≢◌, ℕ, zero, suc, ◌+◌, ◌-◌, ◌<◌, ◌==◌, ◌⊎◌, ⊎_elim, inl, inr, refl, sym, ap, subst, ◌∙◌, arith, length, ℤ, pos, ◌*ℤ◌, neg_ℤ, ◌<ℤ◌, unsigned_abs}
 use Rattle.std.specs.Int.{◌∣◌}
 use Rattle.std.proofs.lemmas.Bool.{cases_eq, cond-true, cond-false, eq-eqb, ne_eqb}
 use Rattle.std.proofs.lemmas.Nat.Gcd.{dvd_trans}
+use Rattle.std.proofs.Math.Nat.{eq-one_of_dvd-one}
 use Rattle.uc_model.proofs.Ring.{linear, mul_comm, mul_assoc, mul-neg, zero-mul}
 use Rattle.uc_model.proofs.Sums.{below_or_last}
 use Rattle.fractions.specs.declared.fraction.Fraction.{Fraction}
@@ -46,10 +47,10 @@ value_comes t c (suc n) = ⊎_elim
     (cases_eq (basic t n) c)
 
 module _ (p : Program) (t : Table) (reached : IsReached p t) where
-  rule_row : (k : ℕ) → k < p.rules → k < length t.rows
+  pub rule_row : (k : ℕ) → k < p.rules → k < length t.rows
   rule_row k h = let size = count p t reached in omega arith
 
-  constraints : t.constraints ≡ p.rules
+  pub constraints : t.constraints ≡ p.rules
   constraints = reached.keeps.count
 
   pub has_values : HasValues t
@@ -68,6 +69,14 @@ module _ (p : Program) (t : Table) (reached : IsReached p t) where
   value_positive c = ⊎_elim
       (λ (row : (k : ℕ) × IsOfRow t c t.constraints k). subst (λ (f : Fraction). pos 0 <ℤ f.denominator) (sym row.1.value) (row_lowest row.0 row.1.within).positive)
       (λ (none : IsNothing t c t.constraints). subst (λ (f : Fraction). pos 0 <ℤ f.denominator) (sym none.value) (omega (arith, linear)))
+      (value_comes t c t.constraints)
+
+  pub value_coprime : (c m : ℕ) → m ∣ unsigned_abs (column_value t c).numerator → m ∣ unsigned_abs (column_value t c).denominator → m ≡ 1
+  value_coprime c m = ⊎_elim
+      (λ (row : (k : ℕ) × IsOfRow t c t.constraints k).
+      subst (λ (f : Fraction). m ∣ unsigned_abs f.numerator → m ∣ unsigned_abs f.denominator → m ≡ 1) (sym row.1.value) ((row_lowest row.0 row.1.within).coprime m))
+      (λ (none : IsNothing t c t.constraints).
+      subst (λ (f : Fraction). m ∣ unsigned_abs f.numerator → m ∣ unsigned_abs f.denominator → m ≡ 1) (sym none.value) (λ first second. eq-one_of_dvd-one second))
       (value_comes t c t.constraints)
 
   -- ---- the least common multiple
@@ -102,6 +111,12 @@ module _ (p : Program) (t : Table) (reached : IsReached p t) where
         let whole : v (basic t k) ≡ right_side t k *ℤ share k = omega (arith, linear) in
         ap v (sym same) ∙ whole
 
+    pub value_nothing : (c : ℕ) → c < p.unknowns → IsNothing t c t.constraints → v c ≡ pos 0
+    value_nothing c h none =
+        value_none t reached.keeps.basis (place p RightSide) (neg_ℤ d) (λ l. neg_ℤ (share l)) c
+        (λ k m same. absurd (none.none k (subst (λ n. k < n) (sym constraints) (early_rule p t reached k c m (omega arith) same)) same))
+        ∙ at_other (place p RightSide) (neg_ℤ d) c (λ e. absurd (omega arith))
+
     pub value_ratio : (c : ℕ) → c < p.unknowns → v c *ℤ (column_value t c).denominator ≡ (column_value t c).numerator *ℤ d
     value_ratio c h = ⊎_elim
         (λ (row : (k : ℕ) × IsOfRow t c t.constraints k).
@@ -113,12 +128,8 @@ module _ (p : Program) (t : Table) (reached : IsReached p t) where
         ∙ crossed (right_side t row.0) (share row.0) (row_value t row.0).denominator (row_value t row.0).numerator (number t row.0 (basic t row.0)) own.same
         ∙ ap (λ z. (row_value t row.0).numerator *ℤ z) (are.whole row.0 (rule_row row.0 rule))))
         (λ (none : IsNothing t c t.constraints).
-        let nothing_is : v c ≡ pos 0 =
-        value_none t reached.keeps.basis (place p RightSide) (neg_ℤ d) (λ l. neg_ℤ (share l)) c
-        (λ k m same. absurd (none.none k (subst (λ n. k < n) (sym constraints) (early_rule p t reached k c m (omega arith) same)) same))
-        ∙ at_other (place p RightSide) (neg_ℤ d) c (λ e. absurd (omega arith)) in
         subst (λ (f : Fraction). v c *ℤ f.denominator ≡ f.numerator *ℤ d) (sym none.value)
-        (ap (λ z. z *ℤ pos 1) nothing_is ∙ sym (zero-mul d)))
+        (ap (λ z. z *ℤ pos 1) (value_nothing c h none) ∙ sym (zero-mul d)))
         (value_comes t c t.constraints)
       where
         crossed : (side s low high own : ℤ) → high *ℤ own ≡ side *ℤ low → (side *ℤ s) *ℤ low ≡ high *ℤ (own *ℤ s)

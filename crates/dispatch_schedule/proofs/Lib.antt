@@ -5,3 +5,6 @@ pub mod NextValues
 pub mod ColumnValues
 pub mod Powers
 pub mod Endings
+pub mod Apart
+pub mod Filling
+pub mod Wholes

@@ -4,6 +4,7 @@
 
 mod choices;
 mod chosen;
+pub mod laws;
 mod power;
 mod printing;
 mod schedules;
