@@ -6,8 +6,9 @@ use uc_model::Printed;
 /// The schedule of a cheapest basis, or why there is none to print.
 #[derive(Debug, Drop)]
 pub enum Shown {
+    /// The schedule, over the least denominator over which its powers are whole.
     Schedule(Printed),
-    /// The least denominator over which its powers are whole, above 99.
+    /// That denominator, above 99.
     Fine(i128),
     /// The factors of a product on the way to that denominator that is too large.
     Wide(Wide),

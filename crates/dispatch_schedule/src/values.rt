@@ -1,6 +1,6 @@
 //! The values of the columns of a table by its basis, and the least denominator over which they are whole.
 
-ghost use Rattle.std.specs.Prelude.{◌≡◌, ℕ, ◌<◌, length, pos, ◌≤ℤ◌, ◌<ℤ◌, slice_set, IfErr, IfOk, OnOk};
+ghost use Rattle.std.specs.Prelude.{◌≡◌, ◌<◌, length, pos, ◌≤ℤ◌, ◌<ℤ◌, slice_set, IfErr, IfOk, OnOk};
 ghost use Rattle.fractions.specs.Fractions.{lowest};
 ghost use Rattle.pivot_run.specs.Pivots.{IsNarrow, IsWide};
 ghost use Rattle.pivot_run.specs.Tables.{basic};
