@@ -14,7 +14,7 @@ nothing = record { numerator = pos 0; denominator = pos 1 }
 unfoldable pub row_value : Table → ℕ → Fraction
 row_value t k = lowest (right_side t k) (number t k (basic t k))
 
--- the value of column c by the first n constraints: that of the one whose basic column it is, and 0 where there is none
+-- the value of column c by the first n constraints: that of the one whose basic column it is, of which a basis has no two, and 0 where there is none
 abbrev pub value_to : Table → ℕ → ℕ → Fraction
 value_to t zero c = nothing
 value_to t (suc n) c = if basic t n == c then row_value t n else value_to t n c
