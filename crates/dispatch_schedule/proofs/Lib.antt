@@ -1,0 +1,10 @@
+pub mod Lists
+pub mod Totals
+pub mod Rows
+pub mod NextValues
+pub mod ColumnValues
+pub mod Powers
+pub mod Endings
+pub mod Apart
+pub mod Filling
+pub mod Wholes

@@ -1,0 +1,3 @@
+pub mod ColumnValues
+pub mod ShownSchedules
+pub mod inside
