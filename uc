@@ -5,6 +5,8 @@
 # What the program doesn't tell is told here: the page of all words, a word that is wrong, and before a search a certificate that can't
 # be written.
 set -eu
+# A file past the limit on sizes is a fault of the write, after which the program removes its draft, and no signal that ends it.
+trap '' XFSZ
 top=$(dirname -- "$(readlink -f -- "$0")")
 proved_program=$top/crates/uc/out/uc unproved_program=$top/out/unproved/uc
 program=$proved_program
@@ -218,8 +220,16 @@ refuse_without_tools() {
   exit 70
 }
 
+# The C library reserves 64 MB of addresses for each arena, which threads make. Where addresses are limited it takes a quarter at most.
+limit_arenas() {
+  local limit
+  limit=$(ulimit -v)
+  if [ "$limit" != unlimited ] && [ -z "${MALLOC_ARENA_MAX-}" ]; then export MALLOC_ARENA_MAX=$((limit / (4 * 65536) + 1)); fi
+}
+
 run() {
   if [ "$program" = "$unproved_program" ]; then say "this program is UNPROVED, compiled without proofs; ./uc without UC_BUILD proves it"; fi
+  limit_arenas
   exec "$program" "$@"
 }
 

@@ -4,6 +4,7 @@ from __future__ import annotations
 import os
 import pathlib
 import re
+import resource
 import shutil
 import signal
 import subprocess
@@ -11,7 +12,8 @@ import sys
 import tempfile
 import time
 import unittest
-from typing import Dict, Optional, Tuple
+from typing import Callable, Dict, Optional, Tuple
+from unittest import mock
 
 HERE = pathlib.Path(__file__).resolve().parent
 TOP = HERE.parent
@@ -127,11 +129,11 @@ class LauncherTest(unittest.TestCase):
         told = {"PATH": str(self.tools), "TOP": str(self.top), "TMPDIR": str(self.temporary), "HOME": str(self.folder)}
         return told if build is None else {**told, "UC_BUILD": build}
 
-    def start(self, *words: str, build: Optional[str] = None) -> "subprocess.Popen[str]":
-        """A run that goes on."""
+    def start(self, *words: str, build: Optional[str] = None, limits: Optional[Callable[[], None]] = None) -> "subprocess.Popen[str]":
+        """A run that goes on, under limits of the system where these are told."""
         pipes = {"stdout": subprocess.PIPE, "stderr": subprocess.PIPE}
         how = {"cwd": str(self.folder), "env": self.environment(build), "text": True}
-        return subprocess.Popen([str(self.top / "uc"), *words], stdin=subprocess.DEVNULL, **pipes, **how)
+        return subprocess.Popen([str(self.top / "uc"), *words], stdin=subprocess.DEVNULL, preexec_fn=limits, **pipes, **how)
 
     def run_uc(self, *words: str, build: Optional[str] = None) -> Tuple[int, str, str]:
         """The status of a run, and what it printed and said."""
@@ -402,6 +404,25 @@ class Words(LauncherTest):
                 self.assertRegex(taken, rf"\b{option[2:]}\b")
         usage = "".join(re.findall("^    ((?:usage:|      ) .*\n)", formats, re.M))
         self.assertEqual(usage, USAGE)
+
+
+class Limits(LauncherTest):
+    """What a program meets that is run under limits of the system."""
+
+    def told(self, kind: int, most: int) -> str:
+        """What a program says that writes 4096 bytes."""
+        self.built('#!/bin/sh\nhead -c 4096 /dev/zero >big 2>/dev/null\necho "$? ${MALLOC_ARENA_MAX-none}"\n')
+        run = self.start("demo", "3", limits=lambda: resource.setrlimit(kind, (most, most)))
+        return run.communicate(timeout=60)[0]
+
+    def test_a_limit_on_sizes_is_a_fault_and_no_signal(self) -> None:
+        self.assertEqual(self.told(resource.RLIMIT_FSIZE, 2048), "1 none\n")
+
+    def test_a_limit_on_addresses_is_one_on_arenas(self) -> None:
+        self.assertEqual(self.told(resource.RLIMIT_AS, 2 * 1024**3), "0 9\n")
+        self.assertEqual(self.told(resource.RLIMIT_AS, 200 * 1024**2), "0 1\n")
+        with mock.patch.object(self, "environment", lambda build: {**LauncherTest.environment(self, build), "MALLOC_ARENA_MAX": "3"}):
+            self.assertEqual(self.told(resource.RLIMIT_AS, 2 * 1024**3), "0 3\n")
 
 
 class Certificates(LauncherTest):
