@@ -208,14 +208,15 @@ has_tools() { command -v rt >/dev/null && { [ "$program" = "$proved_program" ] |
 
 # What is missing here that a build takes, with where it comes from.
 refuse_without_tools() {
-  local kit
+  local kit what="isn't built yet"
+  if [ -x "$program" ]; then what="was ${stale%%;*}"; fi
   if ! command -v rt >/dev/null; then
     kit=$(sed -nE 's/^Proved with `([^` ]+).*/\1/p' "$top/docs/PROVED.md" 2>/dev/null) || true
-    say "the program isn't built yet, and rt, which builds it, isn't on the path"
+    say "the program $what, and rt, which builds it, isn't on the path"
     say "rt comes with a Rattle kit, an archive of the makers of Rattle${kit:+; this repository is proved with $kit}"
     say "unpack it, and begin anew with PATH=KIT/bin:\$PATH, where KIT is its folder"
   else
-    say "the program isn't compiled yet, and python3, which does so, isn't on the path"
+    say "the program $what, and python3, which compiles it, isn't on the path"
   fi
   exit 70
 }

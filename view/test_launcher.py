@@ -191,6 +191,9 @@ class Building(LauncherTest):
         self.built()
         self.rt.unlink()
         self.assertEqual(self.run_uc("demo", "3"), (1, "proved demo 3\n", ""))
+        self.edit()
+        said = "uc: the program was built of other sources, and rt, which builds it, isn't on the path\n"
+        self.assertIn(said, self.run_uc("demo", "3")[2])
 
     def test_failed_build_names_its_log(self) -> None:
         (self.top / "broken").touch()
@@ -350,7 +353,7 @@ class Unproved(LauncherTest):
     def test_python_is_wanted(self) -> None:
         (self.tools / "python3").unlink()
         status, _, said = self.run_uc("demo", "1", build="unproved")
-        self.assertEqual((status, said), (70, "uc: the program isn't compiled yet, and python3, which does so, isn't on the path\n"))
+        self.assertEqual((status, said), (70, "uc: the program isn't built yet, and python3, which compiles it, isn't on the path\n"))
 
     def test_other_builds_are_none(self) -> None:
         self.assertEqual(self.run_uc("demo", "1", build="fast"), (5, "", 'uc: UC_BUILD is "fast", and takes proved or unproved\n'))
