@@ -221,7 +221,7 @@ refuse_without_tools() {
   exit 70
 }
 
-# The C library reserves 64 MB of addresses for each arena, which threads make. Where addresses are limited it takes a quarter at most.
+# The C library reserves 64 MB of addresses for each arena, which threads make. Where addresses are limited some quarter is for arenas.
 limit_arenas() {
   local limit
   limit=$(ulimit -v)
