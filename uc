@@ -1,15 +1,18 @@
 #!/usr/bin/env bash
-# Runs the program with the words given, and ends with its status. Where the program is missing or older than a source it is
-# proved and built first: how far that is stands on the error output, and status 70 says that it failed. Of runs at once one
-# builds it, and the others wait. With UC_BUILD=unproved it is another program, of the same sources and without proofs.
+# Runs the program with the words given, and ends with its status. Where the program is missing, or wasn't built of the sources as
+# they are, it is proved and built first: how far that is stands on the error output, and status 70 says that it failed. Of runs at
+# once one builds it, and the others wait. With UC_BUILD=unproved it is another program, of the same sources and without proofs.
 # What the program doesn't tell is told here: the page of all words, a word that is wrong, and before a search a certificate that can't
 # be written.
 set -eu
+# A file past the limit on sizes is a fault of the write, after which the program removes its draft, and no signal that ends it.
+trap '' XFSZ
 top=$(dirname -- "$(readlink -f -- "$0")")
 proved_program=$top/crates/uc/out/uc unproved_program=$top/out/unproved/uc
 program=$proved_program
 child='' work='' told='' crates=() uses=() began=() took=() proved=0
 . "$top/launch/words.sh"
+. "$top/launch/record.sh"
 
 # What the proof of each crate took when it was measured, in seconds of one processor.
 weights='uc_model 72 dual_model 48 outside 66 outside_system 132 decimal_json 144 instance 228 table_list 108
@@ -21,10 +24,6 @@ weights='uc_model 72 dual_model 48 outside 66 outside_system 132 decimal_json 14
   uc 210'
 
 say() { printf 'uc: %s\n' "$*" >&2; }
-is_current() {
-  [ -x "$1" ] && [ -z "$(find "$top/crates.txt" "$top/crates" -name out -prune -o \
-    \( -name '*.rt' -o -name '*.antt' -o -name crates.txt \) -newer "$1" -print -quit)" ]
-}
 
 # Runs that look at the program share the lock, with -s; one that builds it has it alone, with -x.
 take_lock() {
@@ -145,7 +144,7 @@ leave() {
 fail() {
   trap - EXIT
   tail -n 15 -- "$work/log" >&2
-  rm -rf -- "$work/uc" "$work/made" "$work/owner" "$work/child" "$work/start"
+  rm -rf -- "$work/uc" "$work/made" "$work/owner" "$work/child"
   say "the program could not be built; the log is $work/log"
   exit 70
 }
@@ -168,6 +167,7 @@ make_proved() {
   say "proving and building the program; later runs start at once"
   say "UC_BUILD=unproved ./uc .. gives a first answer in minutes, by a program without proofs"
   copy
+  note_edits
   prove || fail
   made=$work/uc/crates/uc/out/uc
 }
@@ -175,21 +175,30 @@ make_proved() {
 make_unproved() {
   say "compiling the program without proofs, which takes some three minutes"
   compile || fail
+  note_edits
   made=$work/uc
 }
 
+# What was edited while it was read may stand in the program or not, so no sources are those of the program.
+note_edits() {
+  digest_sources
+  if [ "$digest" != "$sources" ]; then sources='edited meanwhile'; fi
+}
+
 build() {
-  local made
+  local made sources kit
   tell_of_killed
-  work=$(mktemp -d -- "${TMPDIR:-/tmp}/uc-build.XXXXXX") && touch "$work/start" "$work/log" && echo $$ >"$work/owner"
+  work=$(mktemp -d -- "${TMPDIR:-/tmp}/uc-build.XXXXXX") && touch "$work/log" && echo $$ >"$work/owner"
   trap leave EXIT
   trap 'exit 143' INT TERM HUP
+  digest_sources
+  sources=$digest
+  kit=$(rt version 2>/dev/null | head -n 1)
   if [ "$program" = "$proved_program" ]; then make_proved; else make_unproved; fi
   mkdir -p "${program%/*}"
   cp "$made" "$program.new"
-  # What was edited meanwhile stays newer than the program.
-  touch -r "$work/start" "$program.new"
   mv -f "$program.new" "$program"
+  make_record "$program" "$sources" "${kit:-unknown}"
   trap - EXIT INT TERM HUP
   rm -rf -- "$work"
   say "built in $((SECONDS / 60)) min $((SECONDS % 60)) s"
@@ -199,32 +208,40 @@ has_tools() { command -v rt >/dev/null && { [ "$program" = "$proved_program" ] |
 
 # What is missing here that a build takes, with where it comes from.
 refuse_without_tools() {
-  local kit
+  local kit what="isn't built yet"
+  if [ -x "$program" ]; then what="was ${stale%%;*}"; fi
   if ! command -v rt >/dev/null; then
     kit=$(sed -nE 's/^Proved with `([^` ]+).*/\1/p' "$top/docs/PROVED.md" 2>/dev/null) || true
-    say "the program isn't built yet, and rt, which builds it, isn't on the path"
+    say "the program $what, and rt, which builds it, isn't on the path"
     say "rt comes with a Rattle kit, an archive of the makers of Rattle${kit:+; this repository is proved with $kit}"
     say "unpack it, and begin anew with PATH=KIT/bin:\$PATH, where KIT is its folder"
   else
-    say "the program isn't compiled yet, and python3, which does so, isn't on the path"
+    say "the program $what, and python3, which compiles it, isn't on the path"
   fi
   exit 70
 }
 
+# The C library reserves 64 MB of addresses for each arena, which threads make. Where addresses are limited some quarter is for arenas.
+limit_arenas() {
+  local limit
+  limit=$(ulimit -v)
+  if [ "$limit" != unlimited ] && [ -z "${MALLOC_ARENA_MAX-}" ]; then export MALLOC_ARENA_MAX=$((limit / (4 * 65536) + 1)); fi
+}
+
 run() {
   if [ "$program" = "$unproved_program" ]; then say "this program is UNPROVED, compiled without proofs; ./uc without UC_BUILD proves it"; fi
+  limit_arenas
   exec "$program" "$@"
 }
 
-# Whether a program is here, and fits the sources.
+# Whether a program is here, and of which sources, by which kit and when it was built.
 state_of() {
   if is_current "$1"; then
-    echo "built, ${1#"$top/"}"
-  elif [ -x "$1" ]; then
-    echo "older than a source; the next run builds it anew"
+    echo "built of these sources, ${1#"$top/"}"
   else
-    echo 'not built'
+    echo "$stale"
   fi
+  if [ -x "$1" ] && read_record "$1"; then echo "  sources ${record[sources]-}, kit ${record[kit]-}, built ${record[date]-}"; fi
 }
 
 tell_version() {
@@ -234,7 +251,9 @@ tell_version() {
     git -C "$top" diff --quiet HEAD || commit+=', edited'
   fi
   if path=$(command -v rt); then kit=$(head -n 1 -- "$(dirname -- "$(readlink -f -- "$path")")/../KIT-ID" 2>/dev/null) || true; fi
+  digest_sources
   echo "uc ${commit:-of no commit}"
+  echo "sources: $digest"
   echo "program: $(state_of "$proved_program")"
   echo "program without proofs: $(state_of "$unproved_program")"
   echo "kit: ${kit:-none, as rt is not on the path}"

@@ -110,6 +110,7 @@ PLAIN = (
     ("instance: more than 67108864 bytes", "longer than 67,108,864 bytes"),
     ("certificate: more than 70368744177664 bytes", "longer than 70,368,744,177,664 bytes"),
     ("uc-table: in.json: status 4: instance: I1 demand", "The instance is refused: demand is missing"),
+    ("uc: this program is UNPROVED\ninstance: I1 demand", "The instance is refused: demand is missing"),
     ('instance: I4 thermal "g1" ramp_up_limit', 'ramp_up_limit of thermal unit "g1" is past its limit: a power is at most 10,000,000 MW in size.'),
     ("instance: I4 thermal g 1 ramp_up_limit", 'ramp_up_limit of thermal unit "g 1" is past its limit'),
     ('instance: I2 thermal "g1"', 'thermal unit "g1" is of another kind than wanted: it takes an object.'),

@@ -4,6 +4,7 @@ from __future__ import annotations
 import os
 import pathlib
 import re
+import resource
 import shutil
 import signal
 import subprocess
@@ -11,11 +12,15 @@ import sys
 import tempfile
 import time
 import unittest
-from typing import Dict, Optional, Tuple
+from typing import Callable, Dict, Optional, Tuple
+from unittest import mock
 
 HERE = pathlib.Path(__file__).resolve().parent
 TOP = HERE.parent
-TOOLS = "awk bash cat chmod cp dirname env find flock git grep head mkdir mktemp mv nproc readlink rm sed setsid sh sleep tail touch".split()
+TOOLS = (
+    "awk bash cat chmod cp date dirname env find flock git grep head mkdir mktemp mv nproc readlink rm sed setsid sh sha256sum sleep sort stat "
+    "tail touch xargs"
+).split()
 USAGE = (TOP / "launch/usage.txt").read_text()
 PROGRAM = """#!/bin/sh
 case $1 in solve | check | demo) ;; *) cat "$TOP/launch/usage.txt" >&2; exit 5 ;; esac
@@ -24,6 +29,7 @@ exit 1
 """
 # what plays `rt ci`: it proves crate by crate, and waits where a file says so
 RT = """#!/bin/sh
+if [ "$1" = version ]; then echo "rattle-kit-1 logic 0"; exit; fi
 [ "$1" = ci ] || exit 9
 for name in uc_model uc; do
   mkdir -p crates/$name/out
@@ -47,6 +53,7 @@ def built(folder):
     made.chmod(0o755)
     return made
 """
+MADE = 'top=$1; . "$top/launch/record.sh"; digest_sources; make_record "$2" "$digest" "rattle-kit-1 logic 0"'
 UNPROVED = "uc: this program is UNPROVED, compiled without proofs; ./uc without UC_BUILD proves it\n"
 # words that are refused, and what is said of them
 WRONG_WORDS = (
@@ -122,11 +129,11 @@ class LauncherTest(unittest.TestCase):
         told = {"PATH": str(self.tools), "TOP": str(self.top), "TMPDIR": str(self.temporary), "HOME": str(self.folder)}
         return told if build is None else {**told, "UC_BUILD": build}
 
-    def start(self, *words: str, build: Optional[str] = None) -> "subprocess.Popen[str]":
-        """A run that goes on."""
+    def start(self, *words: str, build: Optional[str] = None, limits: Optional[Callable[[], None]] = None) -> "subprocess.Popen[str]":
+        """A run that goes on, under limits of the system where these are told."""
         pipes = {"stdout": subprocess.PIPE, "stderr": subprocess.PIPE}
         how = {"cwd": str(self.folder), "env": self.environment(build), "text": True}
-        return subprocess.Popen([str(self.top / "uc"), *words], stdin=subprocess.DEVNULL, **pipes, **how)
+        return subprocess.Popen([str(self.top / "uc"), *words], stdin=subprocess.DEVNULL, preexec_fn=limits, **pipes, **how)
 
     def run_uc(self, *words: str, build: Optional[str] = None) -> Tuple[int, str, str]:
         """The status of a run, and what it printed and said."""
@@ -134,9 +141,17 @@ class LauncherTest(unittest.TestCase):
         out, err = run.communicate(timeout=60)
         return run.returncode, out, err
 
-    def built(self) -> None:
+    def built(self, program: str = PROGRAM.replace("NAME", "proved")) -> None:
         """The proved program, as an earlier run built it."""
-        self.put("top/crates/uc/out/uc", PROGRAM.replace("NAME", "proved")).chmod(0o755)
+        path = self.put("top/crates/uc/out/uc", program)
+        path.chmod(0o755)
+        subprocess.run(["bash", "-euc", MADE, "-", str(self.top), str(path)], check=True)
+
+    def edit(self, text: str = "// edited") -> None:
+        """Another source, which has the time of the one before."""
+        time_before = self.source.stat().st_mtime_ns
+        self.source.write_text(text)
+        os.utime(self.source, ns=(time_before, time_before))
 
     def wait_for(self, name: str) -> None:
         """Waits for a file of the tree."""
@@ -148,15 +163,16 @@ class LauncherTest(unittest.TestCase):
 
 
 class Building(LauncherTest):
-    def test_program_is_built_once_and_again_for_a_newer_source(self) -> None:
+    def test_program_is_built_once_and_again_for_another_source(self) -> None:
         status, out, said = self.run_uc("check", "a b", "c")
         self.assertEqual((status, out), (1, "proved check a b c\n"))
         for words in ("uc: proving and building the program", "of 2 proved, some", "uc: built in 0 min"):
             self.assertIn(words, said)
         self.assertEqual(self.run_uc("demo", "3"), (1, "proved demo 3\n", ""))
-        os.utime(self.source, (time.time() + 5, time.time() + 5))
+        self.edit()
         self.assertIn("uc: proving", self.run_uc("demo", "3")[2])
         self.assertEqual(list(self.temporary.iterdir()), [])
+        self.assertEqual(sorted(it.name for it in (self.top / "crates/uc/out").iterdir()), ["uc", "uc.files", "uc.made"])
 
     def test_missing_rt_is_told_first(self) -> None:
         self.rt.unlink()
@@ -175,6 +191,9 @@ class Building(LauncherTest):
         self.built()
         self.rt.unlink()
         self.assertEqual(self.run_uc("demo", "3"), (1, "proved demo 3\n", ""))
+        self.edit()
+        said = "uc: the program was built of other sources, and rt, which builds it, isn't on the path\n"
+        self.assertIn(said, self.run_uc("demo", "3")[2])
 
     def test_failed_build_names_its_log(self) -> None:
         (self.top / "broken").touch()
@@ -215,7 +234,7 @@ class Building(LauncherTest):
             (self.top / "slow").unlink()
         self.built()
         (self.top / "slow").touch()
-        os.utime(self.source, (time.time() + 5, time.time() + 5))
+        self.edit()
         run = self.start("demo", "1")
         self.wait_for("waits")
         run.send_signal(signal.SIGTERM)
@@ -234,6 +253,74 @@ class Building(LauncherTest):
         self.assertIn(f"uc: a build that was killed left the folder {left}, which may be deleted\n", said)
 
 
+class Records(LauncherTest):
+    """Which programs are run, by what stands beside them of their sources."""
+
+    def state(self) -> str:
+        """What is said of the proved program."""
+        told = re.search("^program: ([^;,\n]*)", self.run_uc("version")[1], re.M)
+        return told[1] if told else ""
+
+    def test_a_program_that_was_built_otherwise_is_built_anew(self) -> None:
+        self.put("top/crates/uc/out/uc", PROGRAM.replace("NAME", "other")).chmod(0o755)
+        self.assertEqual(self.state(), "not built by ./uc")
+        self.assertEqual(self.run_uc("demo", "3")[1], "proved demo 3\n")
+        self.put("top/crates/uc/out/uc", PROGRAM.replace("NAME", "others"))
+        self.assertEqual(self.state(), "not built by ./uc")
+        self.built()
+        (self.top / "crates/uc/out/uc.made").write_text("sources\n\n[0 x\n")
+        self.assertEqual(self.state(), "not built by ./uc")
+
+    def test_each_change_of_the_sources_is_seen(self) -> None:
+        self.built()
+        first = self.source.with_name("first.antt")
+        for change in (
+            lambda: self.edit("// an edit"),
+            lambda: self.edit("// an exit"),
+            lambda: first.write_text(""),
+            lambda: first.rename(first.with_name("second.antt")),
+            lambda: first.with_name("second.antt").unlink(),
+            lambda: self.put("top/HANDLES", "Handles allowed: none.\n"),
+            lambda: self.put("top/crates.txt", "uc_model:\nuc: uc_model\n"),
+        ):
+            change()
+            self.assertEqual(self.state(), "built of other sources")
+            self.built()
+            self.assertEqual(self.state(), "built of these sources")
+
+    def test_what_changes_no_source_is_none(self) -> None:
+        self.built()
+        record = self.top / "crates/uc/out/uc.made"
+        told = record.read_text().splitlines()
+        for change in (
+            lambda: os.utime(self.source, (1, 1)),
+            lambda: self.put("top/crates/uc/must-fail/a.edit", "old"),
+            lambda: self.put("top/crates/uc_model/out/a.rt", ""),
+            lambda: (self.top / "crates/uc/out/uc.files").unlink(),
+            lambda: self.top.rename(self.folder / "moved"),
+        ):
+            change()
+            if not self.top.exists():
+                self.top = self.folder / "moved"
+                record = self.top / "crates/uc/out/uc.made"
+            self.assertEqual(self.run_uc("demo", "3"), (1, "proved demo 3\n", ""))
+            self.assertEqual(record.read_text().splitlines()[:4], told[:4])
+
+    def test_no_content_is_read_where_nothing_changed(self) -> None:
+        self.built()
+        sha256sum = self.tools / "sha256sum"
+        counting = f'#!/bin/sh\necho "$@" >> "{self.folder}/sums"\nexec {sha256sum.resolve()} "$@"\n'
+        sha256sum.unlink()
+        self.put("tools/sha256sum", counting).chmod(0o755)
+        self.assertEqual(self.run_uc("demo", "3"), (1, "proved demo 3\n", ""))
+        self.assertEqual((self.folder / "sums").read_text(), "\n")
+        os.utime(self.source, (1, 1))
+        for _ in range(2):
+            self.assertEqual(self.run_uc("demo", "3"), (1, "proved demo 3\n", ""))
+        self.assertIn("crates/uc/src/main.rt", (self.folder / "sums").read_text())
+        self.assertEqual((self.folder / "sums").read_text().count("main.rt"), 1)
+
+
 class Unproved(LauncherTest):
     def test_it_stands_elsewhere_and_is_told_on_every_run(self) -> None:
         status, out, said = self.run_uc("demo", "1", build="unproved")
@@ -246,15 +333,27 @@ class Unproved(LauncherTest):
         self.assertEqual(self.run_uc("demo", "1", build="unproved")[1], "unproved demo 1\n")
         self.assertEqual(self.run_uc("demo", "1", build="proved"), (1, "proved demo 1\n", ""))
 
-    def test_a_newer_source_is_compiled(self) -> None:
+    def test_another_source_is_compiled(self) -> None:
         self.put("top/out/unproved/uc", "").chmod(0o755)
-        os.utime(self.source, (time.time() + 5, time.time() + 5))
-        self.assertIn("uc: compiling", self.run_uc("demo", "1", build="unproved")[2])
+        for _ in range(2):
+            self.assertIn("uc: compiling", self.run_uc("demo", "1", build="unproved")[2])
+            self.assertEqual(self.run_uc("demo", "1", build="unproved")[2], UNPROVED)
+            self.edit()
+
+    def test_what_is_edited_while_it_is_compiled_is_compiled_again(self) -> None:
+        (self.top / "slow").touch()
+        run = self.start("demo", "1", build="unproved")
+        self.wait_for("waits")
+        self.edit()
+        (self.top / "slow").unlink()
+        self.assertEqual(run.communicate(timeout=60)[0], "unproved demo 1\n")
+        self.source.write_text("")
+        self.assertIn("program without proofs: built of other sources; the next run builds it anew\n", self.run_uc("version")[1])
 
     def test_python_is_wanted(self) -> None:
         (self.tools / "python3").unlink()
         status, _, said = self.run_uc("demo", "1", build="unproved")
-        self.assertEqual((status, said), (70, "uc: the program isn't compiled yet, and python3, which does so, isn't on the path\n"))
+        self.assertEqual((status, said), (70, "uc: the program isn't built yet, and python3, which compiles it, isn't on the path\n"))
 
     def test_other_builds_are_none(self) -> None:
         self.assertEqual(self.run_uc("demo", "1", build="fast"), (5, "", 'uc: UC_BUILD is "fast", and takes proved or unproved\n'))
@@ -264,8 +363,7 @@ class Words(LauncherTest):
     def test_wrong_words_are_named_above_the_usage(self) -> None:
         self.assertEqual(self.run_uc("frob"), (5, "", f'uc: "frob" is no command; ./uc help tells all words\n{USAGE}'))
         self.assertFalse((self.top / "crates/uc/out").exists())
-        self.built()
-        self.put("top/crates/uc/out/uc", '#!/bin/sh\necho "the program refuses" >&2\nexit 5\n')
+        self.built('#!/bin/sh\necho "the program refuses" >&2\nexit 5\n')
         for words, what in WRONG_WORDS:
             with self.subTest(words):
                 said = f"uc: {what}; ./uc help tells all words\nthe program refuses\n"
@@ -285,11 +383,15 @@ class Words(LauncherTest):
         self.assertEqual(self.run_uc("check", "--", "-h")[0], 5)
         _, told, said = self.run_uc("version")
         self.assertEqual(said, "")
-        self.assertIn("uc of no commit\nprogram: not built\nprogram without proofs: not built\n", told)
+        lines = told.splitlines()
+        self.assertEqual(lines[0], "uc of no commit")
+        self.assertRegex(lines[1], "^sources: [0-9a-f]{64}$")
+        self.assertEqual(lines[2:4], ["program: not built", "program without proofs: not built"])
         self.built()
-        self.assertIn("\nprogram: built, crates/uc/out/uc\n", self.run_uc("version")[1])
-        os.utime(self.source, (time.time() + 5, time.time() + 5))
-        self.assertIn("\nprogram: older than a source; the next run builds it anew\n", self.run_uc("version")[1])
+        made = rf"  {lines[1].replace(':', '')}, kit rattle-kit-1 logic 0, built \d{{4}}-\d\d-\d\d \d\d:\d\d UTC\n"
+        self.assertRegex(self.run_uc("version")[1], f"\nprogram: built of these sources, crates/uc/out/uc\n{made}")
+        self.edit()
+        self.assertRegex(self.run_uc("version")[1], f"\nprogram: built of other sources; the next run builds it anew\n{made}")
 
     def test_the_page_has_all_words_of_the_formats(self) -> None:
         formats, page = (TOP / "docs/FORMATS.md").read_text(), (TOP / "launch/help.txt").read_text()
@@ -305,6 +407,25 @@ class Words(LauncherTest):
                 self.assertRegex(taken, rf"\b{option[2:]}\b")
         usage = "".join(re.findall("^    ((?:usage:|      ) .*\n)", formats, re.M))
         self.assertEqual(usage, USAGE)
+
+
+class Limits(LauncherTest):
+    """What a program meets that is run under limits of the system."""
+
+    def told(self, kind: int, most: int) -> str:
+        """What a program says that writes 4096 bytes."""
+        self.built('#!/bin/sh\nhead -c 4096 /dev/zero >big 2>/dev/null\necho "$? ${MALLOC_ARENA_MAX-none}"\n')
+        run = self.start("demo", "3", limits=lambda: resource.setrlimit(kind, (most, most)))
+        return run.communicate(timeout=60)[0]
+
+    def test_a_limit_on_sizes_is_a_fault_and_no_signal(self) -> None:
+        self.assertEqual(self.told(resource.RLIMIT_FSIZE, 2048), "1 none\n")
+
+    def test_a_limit_on_addresses_is_one_on_arenas(self) -> None:
+        self.assertEqual(self.told(resource.RLIMIT_AS, 2 * 1024**3), "0 9\n")
+        self.assertEqual(self.told(resource.RLIMIT_AS, 200 * 1024**2), "0 1\n")
+        with mock.patch.object(self, "environment", lambda build: {**LauncherTest.environment(self, build), "MALLOC_ARENA_MAX": "3"}):
+            self.assertEqual(self.told(resource.RLIMIT_AS, 2 * 1024**3), "0 3\n")
 
 
 class Certificates(LauncherTest):

@@ -48,10 +48,10 @@ def _file(path: Optional[str]) -> Optional[Tuple[str, bytes]]:
 
 
 def _lines(given: argparse.Namespace) -> List[str]:
-    """The lines that are to be explained; those of the usage behind its first one go with it."""
+    """The lines that are to be explained; those of the usage behind its first one go with it, and `./uc` speaks plainly by itself."""
     text = " ".join(given.line) if given.line else sys.stdin.read()
     lines = [_PREFIX.sub("", line.strip(" \r")) for line in text.split("\n")]
-    return [line for line in lines if line and not line.startswith("uc ")]
+    return [line for line in lines if line and not line.startswith(("uc ", "uc: "))]
 
 
 def _explained(lines: List[str], instance: certificates.File, certificate: certificates.File) -> List[str]:
