@@ -6,7 +6,7 @@ use Rattle.pivot_run.specs.Pivots.{IsNarrow, IsWide}
 use Rattle.pivot_run.specs.Rows.{entry}
 use Rattle.dispatch_program.specs.Programs.{free_columns, start_table}
 use Rattle.dispatch_rules.specs.CommitmentTask.{CostForms, IsTaskOf, MakingForms, ScaleForms, limit_of, scale_to}
-use Rattle.dispatch_rules.specs.Dispatch.{Task, amounts, amount_at, limits, program}
+use Rattle.dispatch_rules.specs.Dispatch.{Task, amounts, amount_at, limits, program, right_of}
 use Rattle.dispatch_rules.specs.Duals.{IsTask}
 use Rattle.dispatch_table.specs.Tasks.{Given, scaled_cost, task_of}
 pub use Rattle.dispatch_table.specs.declared.made.Made.{Made}
@@ -15,6 +15,7 @@ use Rattle.dispatch_table.specs.declared.made.Made.TheVariants.{Start as StartOf
 
 pub record IsStartOf (task : Task) (s : Start) : Type 0 where
   pub table : s.table ≡ start_table (program task)
+  pub rights : s.rights.items ≡ map (right_of task) (limits task)
   pub amounts : s.amounts.items ≡ amounts task
   pub limits : map limit_of s.limits.items ≡ limits task
   pub scale : s.scale ≡ task.scale

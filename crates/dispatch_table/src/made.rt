@@ -11,6 +11,8 @@ pub struct Start {
     pub amounts: Vec<Amount>,
     /// In the order of the rules' rows.
     pub limits: Vec<LimitAt>,
+    /// The right side of each limit, in watts.
+    pub rights: Vec<i64>,
     /// By which costs are multiplied to be whole.
     pub scale: i128,
     /// How many columns may enter: those of the amounts and the slacks.

@@ -97,6 +97,7 @@ fn filled(
         table,
         amounts: numbers.amounts,
         limits: numbers.limits,
+        rights: numbers.rights,
         scale: *scale,
         free,
     }))

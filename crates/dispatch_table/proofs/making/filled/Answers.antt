@@ -22,6 +22,7 @@ returns c =
           table = c.in_ok-table.ensures ∙ table_is given c.requires.given s scale own named sides costs c.requires.amounts c.in_ok-limits.ensures c.in_ok-rights.ensures c.requires.costs;
           amounts = c.requires.amounts;
           limits = c.in_ok-limits.ensures;
+          rights = c.in_ok-rights.ensures;
           scale = search rules;
           free = c.free_columns-free.ensures.value ∙ free_is given c.requires.given s scale own named sides costs c.requires.amounts c.in_ok-limits.ensures;
           narrow = narrow given c.requires.given s scale c.requires.scale.narrow c.requires.costs.narrow;

@@ -1,0 +1,2 @@
+pub mod Commitments
+pub mod Answers
