@@ -13,3 +13,4 @@ pub mod RampRows
 pub mod PriceList
 pub mod SameRules
 pub mod ReadOffs
+pub mod Signs

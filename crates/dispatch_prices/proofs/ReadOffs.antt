@@ -73,6 +73,7 @@ price_table task unknowns rights t row priced k table is are of = record {
   reserve = prices_within (reserve_price priced) task.instance.periods table.mu of.reserve;
   ramps = subst (All IsRowPriced) (sym of.ramps) (rows_priced (up_price priced) (down_price priced) (thermal_count task.instance) task.instance.periods
       (λ g s. small RampUp g s) (λ g s. small RampDown g s));
+  rows = of.ramps ∙ (λ i. all_rows (λ g s. price RampUp g s refl i) (λ g s. price RampDown g s refl i) (thermal_count task.instance) task.instance.periods);
   read = λ scale. record {
     size = record { form = of.form; units = of.units_are; periods = of.demand.count };
     scale = of.scale ∙ scale;

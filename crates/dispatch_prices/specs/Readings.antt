@@ -7,8 +7,9 @@ use Rattle.std.specs.List.{All}
 use Rattle.dual_model.specs.Prices.{IsPrice, IsRowPriced}
 use Rattle.dual_model.specs.declared.table.Table.{Table}
 use Rattle.dispatch_rules.specs.Dispatch.{Task}
-use Rattle.dispatch_rules.specs.Duals.{IsReadOff, scale_of}
-use Rattle.dispatch_prices.specs.ReadOff.{IsEndOf, IsLargeMultiplier, ReadingForms, is_priced, limit_in, rules_of}
+use Rattle.uc_model.specs.Schedule.{thermal_count}
+use Rattle.dispatch_rules.specs.Duals.{IsReadOff, down_of, scale_of, up_of}
+use Rattle.dispatch_prices.specs.ReadOff.{IsEndOf, IsLargeMultiplier, ReadingForms, all_rows, is_priced, limit_in, rules_of}
 use Rattle.dispatch_rules.specs.declared.limit.LimitAt.{LimitAt}
 pub use Rattle.dispatch_prices.specs.declared.multipliers.End.{End}
 pub use Rattle.dispatch_prices.specs.declared.multipliers.Places.{Places}
@@ -71,4 +72,5 @@ pub record IsPriceTable (task : Task) (row : List ℤ) (k : ℤ) (table : Table)
   pub demand : All IsPrice table.pi
   pub reserve : All IsPrice table.mu
   pub ramps : All IsRowPriced table.ramps
+  pub rows : table.ramps ≡ all_rows (up_of task row) (down_of task row) (thermal_count task.instance) task.instance.periods
   pub read : k ≡ scale_of task row → IsReadOff task row table

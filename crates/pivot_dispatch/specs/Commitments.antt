@@ -5,7 +5,6 @@ use Rattle.std.specs.Prelude.{◌≡◌, ℕ, ◌<◌, List, ℤ, pos, ◌<ℤ�
 use Rattle.std.specs.List.{list_all}
 use Rattle.uc_model.specs.Commitment.{Commitment}
 use Rattle.uc_model.specs.Cost.{cost}
-use Rattle.uc_model.specs.Denominator.{IsLeastDenominator}
 use Rattle.uc_model.specs.PrintedSchedule.{HasShapeOf, cell_at, printed_denominator, printed_schedule}
 use Rattle.uc_model.specs.Rules.{Obeys}
 use Rattle.uc_model.specs.Schedule.{Schedule, thermal_unit, thermal_count}
