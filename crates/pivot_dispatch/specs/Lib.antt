@@ -1,2 +1,3 @@
 pub mod Commitments
 pub mod Answers
+pub mod inside

@@ -2,8 +2,9 @@
 //! the number that meets a limit on the way. By the simplex method in whole numbers (G. B. Dantzig, "Linear Programming and Extensions", 1963).
 #![tactic(auto)]
 
-mod best;
+mod dispatch;
+mod ending;
 mod pivot;
 
-pub use best::best;
+pub use dispatch::best;
 pub use pivot::{Pivot, What};

@@ -1,6 +1,12 @@
 //! What the exact dispatch of a commitment answers.
 
+ghost use Rattle.std.specs.Prelude.{◌≡◌, pos};
+ghost use Rattle.pivot_dispatch.specs.inside.Endings.{IsStopped};
+ghost use Rattle.pivot_dispatch.specs.declared.pivot.Pivot.TheVariants.{Wide as WideOf};
+ghost use Rattle.pivot_dispatch.specs.declared.pivot.What.TheVariants.{Product};
+
 use dual_model::Table;
+use pivot_run::{Stop, Wide};
 use uc_model::Printed;
 
 /// The limit that a run meets.
@@ -32,4 +38,46 @@ pub enum Pivot {
         other: i128,
         pivots: u32,
     },
+}
+
+impl Pivot {
+    // The answer where a product is too large.
+    pub(crate) fn too_large(wide: &Wide, pivots: u32) -> Pivot
+        ensures { result ≡ WideOf Product wide.now.size wide.now.other pivots }
+    {
+        Pivot::Wide {
+            what: What::Product,
+            size: wide.size,
+            other: wide.other,
+            pivots,
+        }
+    }
+
+    // The answer where another number is.
+    pub(crate) fn met(what: What, size: i128, pivots: u32) -> Pivot
+        ensures { result ≡ WideOf what size (pos 0) pivots }
+    {
+        Pivot::Wide {
+            what,
+            size,
+            other: 0,
+            pivots,
+        }
+    }
+
+    // The answer where the run stops.
+    pub(crate) fn stopped(stop: &Stop) -> Pivot
+        ensures { IsStopped stop.now result }
+    {
+        let what = match stop.what {
+            pivot_run::What::Product => What::Product,
+            pivot_run::What::Pivots => What::Pivots,
+        };
+        Pivot::Wide {
+            what,
+            size: stop.size,
+            other: stop.other,
+            pivots: stop.pivots,
+        }
+    }
 }
