@@ -1,11 +1,9 @@
 //! The making of a commitment's table.
-ghost use Rattle.std.specs.Prelude.{◌≡◌, ℕ, ◌^◌, ◌<◌, IfOk, length, unsigned_abs};
+ghost use Rattle.std.specs.Prelude.{◌≡◌, IfOk};
 ghost use Rattle.uc_model.specs.Limits.{IsLawfulInstance};
-ghost use Rattle.pivot_run.specs.Pivots.{IsNarrow};
-ghost use Rattle.pivot_run.specs.Rows.{entry};
-ghost use Rattle.dispatch_rules.specs.CommitmentTask.{AreAllowed, CostForms, ScaleForms, scale_to};
-ghost use Rattle.dispatch_rules.specs.Dispatch.{amount_at, amounts as amounts_in};
-ghost use Rattle.dispatch_table.specs.Tasks.{IsGiven, scaled_cost, task_of};
+ghost use Rattle.dispatch_rules.specs.CommitmentTask.{AreAllowed};
+ghost use Rattle.dispatch_rules.specs.Dispatch.{amounts as amounts_in};
+ghost use Rattle.dispatch_table.specs.Tasks.{IsGiven, task_of};
 ghost use Rattle.dispatch_table.specs.Start.{AreCosts, IsMade, IsScale};
 
 use crate::amounts::amounts;
