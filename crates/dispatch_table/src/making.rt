@@ -20,8 +20,8 @@ use dispatch_rules::Amount;
 use std::alloc::Global;
 use uc_model::{Instance, NoMemory, Pattern};
 
-/// The table of the commitment's dispatch at its start, or the product that is too large in making it: of the scale or of a cost.
-/// The only error is `NoMemory`.
+/// The table of the dispatch of a commitment at its start, or the product that is too large in making it: of the scale or of a cost. There is a
+/// pattern for each thermal unit, in the order of the instance. The only error is `NoMemory`.
 pub fn start(alloc: Global, instance: &Instance, patterns: &[Pattern]) -> Result<Made, NoMemory>
     requires lawful { IsLawfulInstance instance.now }
     requires allowed { AreAllowed instance.now patterns.now }
