@@ -1,4 +1,5 @@
--- The program of a dispatch, by lists of its amounts, limits, right sides and costs.
+-- The program of a dispatch, by lists of its amounts, limits, right sides and costs, and the columns and lines of its table.
+-- Source: the simplex method, with slack and artificial columns (G. B. Dantzig, "Linear Programming and Extensions", 1963).
 use Rattle.std.specs.Prelude.{◌≡◌, ℕ, ◌^◌, ◌<◌, List, length, map, slice_index_or, ℤ, unsigned_abs}
 use Rattle.pivot_run.specs.Rows.{entry}
 use Rattle.dispatch_program.specs.Programs.{Program, Column, Unknown, Slack, Artificial, SumValue, CostValue, RightSide, Line, RuleLine, SumLine, CostLine}
@@ -13,19 +14,21 @@ use Rattle.dispatch_table.specs.declared.column.Column.TheVariants.{Unknown as U
 use Rattle.dispatch_table.specs.declared.column.Line.{Line as LineName}
 use Rattle.dispatch_table.specs.declared.column.Line.TheVariants.{Rule as RuleAt, Sum as SumAt, Cost as CostAt}
 
-abbrev pub limit_in : List Limit → ℕ → Limit
-limit_in limits i = slice_index_or limits i (limit Demand 0 0 0)
+-- rule i, and unknown c
+abbrev pub limit_from : List Limit → ℕ → Limit
+limit_from limits i = slice_index_or limits i (limit Demand 0 0 0)
 
-abbrev pub amount_in : List Amount → ℕ → Amount
-amount_in amounts c = slice_index_or amounts c (Shed 0)
+abbrev pub amount_from : List Amount → ℕ → Amount
+amount_from amounts c = slice_index_or amounts c (Shed 0)
 
+-- the program of these lists; past its rules a right side, and past its unknowns a cost is 0
 abbrev pub program_from : List Amount → List Limit → List ℤ → List ℤ → Program
 program_from amounts limits rights costs = record {
   unknowns = length amounts;
   rules = length limits;
-  factor = λ i c. times_in (limit_in limits i) (parts (amount_in amounts c));
+  factor = λ i c. times_in (limit_from limits i) (parts (amount_from amounts c));
   right = entry rights;
-  is_equality = λ i. is_demand (limit_in limits i);
+  is_equality = λ i. is_demand (limit_from limits i);
   cost = entry costs;
 }
 

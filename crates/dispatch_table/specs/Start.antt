@@ -1,4 +1,5 @@
--- The start of a commitment's table.
+-- What the making of a commitment's table answers: its start, or a product that is too large.
+-- Source: the simplex method (G. B. Dantzig, "Linear Programming and Extensions", 1963) on the exact dispatch of a commitment; this project's own form.
 use Rattle.std.specs.Prelude.{◌≡◌, ℕ, ◌^◌, ◌<◌, List, length, map, ℤ, unsigned_abs}
 use Rattle.uc_model.specs.declared.instance.Instance.{Instance}
 use Rattle.uc_model.specs.declared.pattern.Pattern.{Pattern}
@@ -13,6 +14,7 @@ pub use Rattle.dispatch_table.specs.declared.made.Made.{Made}
 pub use Rattle.dispatch_table.specs.declared.made.Start.{Start}
 use Rattle.dispatch_table.specs.declared.made.Made.TheVariants.{Start as StartOf, Wide as WideOf}
 
+-- the table of the task's program at its start, with the amounts and limits of its columns and rows; all products in making it are small
 pub record IsStartOf (task : Task) (s : Start) : Type 0 where
   pub table : s.table ≡ start_table (program task)
   pub rights : s.rights.items ≡ map (right_of task) (limits task)
@@ -22,7 +24,7 @@ pub record IsStartOf (task : Task) (s : Start) : Type 0 where
   pub free : s.free ≡ free_columns (program task)
   pub narrow : IsNarrow (MakingForms task)
 
--- the start of the task's table, all products in making it being small, or one that isn't
+-- it is the start of the commitment's task, or a product that making it forms, 2^126 or more in size
 abbrev pub IsMade : Instance → List Pattern → Made → Type 0
 IsMade instance patterns (StartOf s) = (task : Task) × (IsTaskOf instance patterns task × IsTask task × IsStartOf task s)
 IsMade instance patterns (WideOf w) = (task : Task) × (IsTaskOf instance patterns task × MakingForms task w.size w.other × IsWide w.size w.other)

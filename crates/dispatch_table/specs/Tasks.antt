@@ -1,4 +1,5 @@
--- The task of an instance with a pattern and a curve for each thermal unit.
+-- The task of an instance with a pattern and a curve for each thermal unit, its limits and its costs by parts.
+-- Source: the exact dispatch as a linear program of whole numbers; this project's own form.
 use Rattle.std.specs.Prelude.{◌≡◌, ℕ, suc, ◌<◌, ◌≤◌, ◌*◌, List, [], ◌∷◌, length, ℤ, pos, ◌*ℤ◌, int_div, unsigned_abs}
 use Rattle.uc_model.specs.Limits.{IsLawfulInstance}
 use Rattle.uc_model.specs.Schedule.{thermal_count}
@@ -17,11 +18,12 @@ pub record IsGiven (given : Given) : Type 0 where
   pub patterns : length given.patterns.now ≡ thermal_count given.instance.now
   pub curves : AreCurvesOf given.instance.now given.curves.now
 
+-- its task, at a scale
 abbrev pub task_with : Given → ℤ → Task
 task_with given scale =
     record { instance = given.instance.now; on = commitment_at given.patterns.now; corners = curve_in given.curves.now; scale = scale }
 
--- before its scale is known
+-- and before its scale is known
 abbrev pub task_of : Given → Task
 task_of given = task_with given (pos 1)
 
@@ -53,5 +55,5 @@ abbrev pub scaled_cost : Task → ℤ → Amount → ℤ
 scaled_cost task scale amount = (cost_fraction task amount).numerator *ℤ int_div scale (cost_fraction task amount).denominator
 
 -- making it forms the product of these two numbers
-abbrev pub FormsCost : Task → ℤ → Amount → ℤ → ℤ → Type 0
-FormsCost task scale amount a b = (a ≡ (cost_fraction task amount).numerator) × (b ≡ int_div scale (cost_fraction task amount).denominator)
+abbrev pub AmountForms : Task → ℤ → Amount → ℤ → ℤ → Type 0
+AmountForms task scale amount a b = (a ≡ (cost_fraction task amount).numerator) × (b ≡ int_div scale (cost_fraction task amount).denominator)

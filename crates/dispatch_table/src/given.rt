@@ -13,7 +13,7 @@ use cost_curves::{Curve, rise, run};
 use uc_model::limits::{MAX_COST, MAX_POWER};
 use uc_model::{Instance, Pattern, Point, Thermal};
 
-/// An instance, with a pattern and a curve for each of its thermal units.
+/// An instance, with a pattern and a curve for each of its thermal units, in its order. Units, periods and segments count from 0.
 #[derive(Drop)]
 pub(crate) struct Given<'a> {
     pub instance: &'a Instance,

@@ -1,5 +1,5 @@
 //! The limits on the amounts of a dispatch, in order.
-ghost use Rattle.std.specs.Prelude.{◌≡◌, ◌<◌, ◌≤◌, ◌++◌, ◌∷◌, [], IfOk, OnOk, map};
+ghost use Rattle.std.specs.Prelude.{◌≡◌, ◌<◌, ◌++◌, ◌∷◌, [], IfOk, OnOk, map};
 ghost use Rattle.uc_model.specs.Rules.{rule_units};
 ghost use Rattle.uc_model.specs.Schedule.{thermal_count};
 ghost use Rattle.dispatch_rules.specs.CommitmentTask.{limit_of, rule_of};

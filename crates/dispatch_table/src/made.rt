@@ -6,10 +6,11 @@ use pivot_run::{Tableau, Wide};
 /// The table of a commitment's dispatch at its start, with what its columns and rows stand for.
 #[derive(Debug, Drop)]
 pub struct Start {
+    /// Its rows are those of the limits, of the sum of the artificial columns and of the cost.
     pub table: Tableau,
-    /// In the order of the unknown columns.
+    /// In the order of their columns, which come first.
     pub amounts: Vec<Amount>,
-    /// In the order of the rules' rows.
+    /// In the order of their rows.
     pub limits: Vec<LimitAt>,
     /// The right side of each limit, in watts.
     pub rights: Vec<i64>,

@@ -1,11 +1,9 @@
 //! The making of a commitment's table.
-ghost use Rattle.std.specs.Prelude.{◌≡◌, ℕ, ◌^◌, ◌<◌, IfOk, length, unsigned_abs};
+ghost use Rattle.std.specs.Prelude.{◌≡◌, IfOk};
 ghost use Rattle.uc_model.specs.Limits.{IsLawfulInstance};
-ghost use Rattle.pivot_run.specs.Pivots.{IsNarrow};
-ghost use Rattle.pivot_run.specs.Rows.{entry};
-ghost use Rattle.dispatch_rules.specs.CommitmentTask.{AreAllowed, CostForms, ScaleForms, scale_to};
-ghost use Rattle.dispatch_rules.specs.Dispatch.{amount_at, amounts as amounts_in};
-ghost use Rattle.dispatch_table.specs.Tasks.{IsGiven, scaled_cost, task_of};
+ghost use Rattle.dispatch_rules.specs.CommitmentTask.{AreAllowed};
+ghost use Rattle.dispatch_rules.specs.Dispatch.{amounts as amounts_in};
+ghost use Rattle.dispatch_table.specs.Tasks.{IsGiven, task_of};
 ghost use Rattle.dispatch_table.specs.Start.{AreCosts, IsMade, IsScale};
 
 use crate::amounts::amounts;
@@ -22,8 +20,8 @@ use dispatch_rules::Amount;
 use std::alloc::Global;
 use uc_model::{Instance, NoMemory, Pattern};
 
-/// The table of the commitment's dispatch at its start, or the product that is too large in making it: of the scale or of a cost.
-/// The only error is `NoMemory`.
+/// The table of the dispatch of a commitment at its start, or the product that is too large in making it: of the scale or of a cost. There is a
+/// pattern for each thermal unit, in the order of the instance. The only error is `NoMemory`.
 pub fn start(alloc: Global, instance: &Instance, patterns: &[Pattern]) -> Result<Made, NoMemory>
     requires lawful { IsLawfulInstance instance.now }
     requires allowed { AreAllowed instance.now patterns.now }

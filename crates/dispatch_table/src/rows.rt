@@ -1,6 +1,6 @@
 //! The rows of a program's table.
-ghost use Rattle.std.specs.Prelude.{◌≡◌, ◌++◌, ◌∷◌, [], IfOk, map};
-ghost use Rattle.dispatch_program.specs.Programs.{columns_of, line_number, lines_of, start_rows};
+ghost use Rattle.std.specs.Prelude.{◌≡◌, IfOk, map};
+ghost use Rattle.dispatch_program.specs.Programs.{columns_of, line_number, start_rows};
 ghost use Rattle.pivot_run.specs.Rows.{IsSmall};
 ghost use Rattle.dispatch_table.specs.Numbers.{AreWhole, HasLine, column_of, line_of, program_of};
 

@@ -8,7 +8,7 @@ ghost use Rattle.fractions.specs.Fractions.{JoinForms, joined, lowest as lowest_
 ghost use Rattle.dispatch_rules.specs.Cells.{rise_at, width_at};
 ghost use Rattle.dispatch_rules.specs.CommitmentTask.{CostForms, ScaleForms, cost_fraction, scale_to};
 ghost use Rattle.dispatch_rules.specs.Dispatch.{amount_at, amounts as amounts_in};
-ghost use Rattle.dispatch_table.specs.Tasks.{FormsCost, IsAmountIn, IsGiven, scaled_cost, task_of};
+ghost use Rattle.dispatch_table.specs.Tasks.{AmountForms, IsAmountIn, IsGiven, scaled_cost, task_of};
 
 use crate::given::Given;
 use dispatch_rules::Amount;
@@ -73,8 +73,8 @@ fn cost(given: &Given, amount: &Amount, scale: &i128) -> Result<i128, Wide>
     requires amount { IsAmountIn (task_of given.now) amount.now }
     ensures value { IfOk result (λ z. z ≡ scaled_cost (task_of given.now) scale.now amount.now) }
     ensures small { IfOk result (λ z. unsigned_abs z < 2 ^ 126) }
-    ensures narrow { OnOk result (IsNarrow (FormsCost (task_of given.now) scale.now amount.now)) }
-    ensures wide { IfErr result (λ wide. FormsCost (task_of given.now) scale.now amount.now wide.size wide.other × IsWide wide.size wide.other) }
+    ensures narrow { OnOk result (IsNarrow (AmountForms (task_of given.now) scale.now amount.now)) }
+    ensures wide { IfErr result (λ wide. AmountForms (task_of given.now) scale.now amount.now wide.size wide.other × IsWide wide.size wide.other) }
 {
     let fraction = fraction(given, amount);
     small_product(&fraction.numerator, &over(scale, &fraction.denominator))

@@ -3,7 +3,7 @@ use Rattle.std.proofs.Common.{◌≡◌, ◌^◌, ◌<◌, arith, sym, subst, ap
 use Rattle.pivot_run.specs.Pivots.{IsNarrow}
 use Rattle.dispatch_rules.specs.declared.amount.Amount.{Amount}
 use Rattle.dispatch_rules.specs.Dispatch.{amount_at}
-use Rattle.dispatch_table.specs.Tasks.{FormsCost, scaled_cost, task_of}
+use Rattle.dispatch_table.specs.Tasks.{AmountForms, scaled_cost, task_of}
 use Rattle.dispatch_table.proofs.Pushed.{bits_are, set_more}
 use Rattle.dispatch_table.proofs.Scales.{read_in, read_amount}
 use Rattle.dispatch_table.proofs.scale.fill_costs.Goals as goal
@@ -23,5 +23,5 @@ loop-c-preserved c =
           (bits ∙ made.value ∙ ap (scaled_cost task s) own);
       small = set_more (λ k z. unsigned_abs z < 2 ^ 126) c.loop-c.costs c.loop-c.c _ (omega arith) c.loop-c.invariant.small
           (subst (λ z. unsigned_abs z < 2 ^ 126) (sym bits) made.small);
-      narrow = below_more _ _ c.loop-c.invariant.narrow (subst (λ (a : Amount). IsNarrow (FormsCost task s a)) own made.narrow);
+      narrow = below_more _ _ c.loop-c.invariant.narrow (subst (λ (a : Amount). IsNarrow (AmountForms task s a)) own made.narrow);
     }
