@@ -55,6 +55,11 @@ IsLargeMultiplier p listed_limits row z =
     (i : ℕ) × (i < p.rules) × IsTrue (is_priced (limit_of (limit_in listed_limits i))) × (z ≡ multiplier p row i)
     × (100000000000000 < unsigned_abs z)
 
+-- none is
+abbrev pub HasSmallMultipliers : Program → List LimitAt → List ℤ → Type 0
+HasSmallMultipliers p listed_limits row =
+    (i : ℕ) → i < p.rules → IsTrue (is_priced (limit_of (limit_in listed_limits i))) → unsigned_abs (multiplier p row i) ≤ 100000000000000
+
 -- the first n numbers are the multipliers of the priced rules, and at most 10^14 in size
 pub record AreMultipliers (p : Program) (listed_limits : List LimitAt) (row : List ℤ) (n : ℕ) (times : List ℤ) : Type 0 where
   pub count : length times ≡ n

@@ -4,7 +4,7 @@ ghost use Rattle.uc_model.specs.Limits.{IsLawfulInstance};
 ghost use Rattle.pivot_run.specs.Pivots.{IsNarrow, row_at};
 ghost use Rattle.dispatch_rules.specs.CommitmentTask.{limit_of, rule_of};
 ghost use Rattle.dispatch_rules.specs.Dispatch.{Task, is_same, limit, program};
-ghost use Rattle.dispatch_prices.specs.ReadOff.{ReadingForms, all_rows, kept, ramp_row as cell_row};
+ghost use Rattle.dispatch_prices.specs.ReadOff.{HasSmallMultipliers, ReadingForms, all_rows, kept, ramp_row as cell_row};
 ghost use Rattle.dispatch_prices.specs.Readings.{IsEndAt, IsPriceTable, IsUnfit};
 ghost use Rattle.dispatch_prices.specs.PricedLimits.{ArePrices, IsLawfulPriced, IsTableOf, demand_price, down_price, price_of, reserve_price, up_price};
 
@@ -30,6 +30,7 @@ impl End<'_> {
         requires scale { pos 0 ≤ℤ k }
         ensures table { IfOk result (λ table. (task : Task) → task.instance ≡ instance.now → IsEndAt task self.now → IsPriceTable task (row_at self.now.table.now.rows o) k table) }
         ensures narrow { OnOk result ((task : Task) → IsEndAt task self.now → IsNarrow (ReadingForms (program task) (row_at self.now.table.now.rows o))) }
+        ensures within { OnOk result ((task : Task) → IsEndAt task self.now → HasSmallMultipliers (program task) self.now.limits.now (row_at self.now.table.now.rows o)) }
         ensures unfit { IfErr result (λ unfit. (task : Task) → IsEndAt task self.now → IsUnfit (program task) self.now.limits.now (row_at self.now.table.now.rows o) unfit) }
     {
         let times = match self.multipliers(alloc, o) {

@@ -52,7 +52,10 @@ impl Ending<'_> {
         requires left { leaves_sum self.now ≡ true }
         ensures { IfOk result (IsAnswer self.now.instance.now self.now.patterns.now) }
     {
-        match self.end().prices(alloc, self.instance, self.last.limits.len(), 0) {
+        match self
+            .end()
+            .prices(alloc, self.instance, self.last.limits.len(), 0)
+        {
             Ok(table) => Ok(Pivot::Ray(table)),
             Err(unfit) => self.unpriced(&unfit),
         }
@@ -84,7 +87,10 @@ impl Ending<'_> {
         requires within { k ≤ℤ pos 1000000000 }
         ensures { IfOk result (IsAnswer self.now.instance.now self.now.patterns.now) }
     {
-        match self.end().prices(alloc, self.instance, self.last.limits.len() + 1, k) {
+        match self
+            .end()
+            .prices(alloc, self.instance, self.last.limits.len() + 1, k)
+        {
             Ok(table) => self.shown(alloc, table),
             Err(unfit) => self.unpriced(&unfit),
         }
@@ -100,7 +106,13 @@ impl Ending<'_> {
         ensures { IfOk result (IsAnswer self.now.instance.now self.now.patterns.now) }
     {
         let last = self.last;
-        match schedule(alloc, self.instance, self.patterns, &last.table, &last.amounts)? {
+        match schedule(
+            alloc,
+            self.instance,
+            self.patterns,
+            &last.table,
+            &last.amounts,
+        )? {
             Shown::Schedule(schedule) => Ok(Pivot::Best { schedule, table }),
             Shown::Fine(size) => Ok(Pivot::met(What::Denominator, size, self.pivots)),
             Shown::Wide(wide) => Ok(Pivot::too_large(&wide, self.pivots)),
@@ -131,7 +143,9 @@ impl Ending<'_> {
         ensures wide { IfErr result (λ wide. (task : Task) → IsEndedBy self.now task → TableScaleForms task self.now.last.now.table wide.size wide.other × IsWide wide.size wide.other) }
     {
         let last = self.last;
-        let times = last.table.number(last.limits.len() + 1, last.table.columns() - 2);
+        let times = last
+            .table
+            .number(last.limits.len() + 1, last.table.columns() - 2);
         product(times, &last.scale)
     }
 

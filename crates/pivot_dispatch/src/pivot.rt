@@ -28,7 +28,10 @@ pub enum What {
 #[derive(Debug, Drop)]
 pub enum Pivot {
     /// A cheapest schedule of the commitment, and a table of prices whose value, with the commitment decided, is K times its cost.
-    Best { schedule: Printed, table: Table },
+    Best {
+        schedule: Printed,
+        table: Table,
+    },
     /// A ray that excludes the commitment: a table with K = 0 whose value is above 0.
     Ray(Table),
     /// The number `size` that meets a limit after so many pivots; of a product the other factor is `other`, which is 0 else.

@@ -1,11 +1,12 @@
 -- What is held of a commitment's table where its run has ended.
-use Rattle.std.specs.Prelude.{◌≡◌, ℕ, ⊥, Bool, List, length, map, pos, int_lt, ◌≤ℤ◌}
+use Rattle.std.specs.Prelude.{◌≡◌, ℕ, Bool, List, length, map, pos, int_lt, ◌≤ℤ◌}
 use Rattle.pivot_run.specs.Pivots.{IsNarrow}
 use Rattle.pivot_run.specs.Tables.{Table, right_side}
 use Rattle.dispatch_rules.specs.CommitmentTask.{IsTaskOf, MakingForms, limit_of}
+use Rattle.dispatch_rules.specs.declared.limit.LimitAt.{LimitAt}
 use Rattle.dispatch_rules.specs.Dispatch.{Task, amounts, limits, program, right_of}
 use Rattle.dispatch_rules.specs.Duals.{IsTask, scale_of}
-use Rattle.dispatch_prices.specs.ReadOff.{ReadingForms}
+use Rattle.dispatch_prices.specs.ReadOff.{HasSmallMultipliers, ReadingForms}
 use Rattle.dispatch_prices.specs.Readings.{IsPriceTable}
 use Rattle.dual_model.specs.declared.table.Table.{Table as Prices}
 use Rattle.pivot_run.specs.declared.stop.Stop.{Stop}
@@ -52,8 +53,9 @@ IsStopped stop pivot = pivot ≡ Wide (what_of stop.what) stop.size stop.other s
 
 -- the prices of the last row of a cheapest basis, at its scale, which small products made
 pub record IsPricedBy (task : Task) (t : Table) (table : Prices) : Type 0 where
-  pub table : IsPriceTable task (cost_row task t) table.k table
+  pub prices : IsPriceTable task (cost_row task t) table.k table
   pub scale : table.k ≡ scale_of task (cost_row task t)
   pub within : table.k ≤ℤ pos 1000000000
   pub forms : IsNarrow (TableScaleForms task t)
   pub reading : IsNarrow (ReadingForms (program task) (cost_row task t))
+  pub small : (listed : List LimitAt) → map limit_of listed ≡ limits task → HasSmallMultipliers (program task) listed (cost_row task t)

@@ -1,5 +1,5 @@
 -- By the multipliers of the limits, which are the program's rules.
-use Rattle.std.proofs.Common.{◌≤◌, ◌∙◌, sym, ap, subst, length, unsigned_abs, pos, slice_index_or}
+use Rattle.std.proofs.Common.{◌<◌, ◌≤◌, ◌∙◌, sym, ap, subst, length, unsigned_abs, pos, slice_index_or}
 use Rattle.std.specs.Int.{w64}
 use Rattle.std.proofs.lemmas.Int.{to_z-of_z}
 use Rattle.pivot_run.specs.Pivots.{row_at}
@@ -8,7 +8,7 @@ use Rattle.dispatch_prices.specs.ReadOff.{AreMultipliers}
 use Rattle.dispatch_prices.specs.Readings.{rules_at}
 use Rattle.dispatch_prices.specs.PricedLimits.{IsTableOf}
 use Rattle.dispatch_prices.proofs.ReadOffs.{price_table}
-use Rattle.dispatch_prices.proofs.SameRules.{has_size, forms_same, unfit_same}
+use Rattle.dispatch_prices.proofs.SameRules.{has_size, forms_same, multiplier_same, rules_same, unfit_same}
 use Rattle.dispatch_prices.proofs.TimesBy.{are_once}
 use Rattle.dispatch_prices.proofs.multipliers.End.prices.Goals as goal
 
@@ -43,3 +43,13 @@ pub returns-in-Ok-table_of-clause-narrow : goal.returns-in-Ok-table_of-clause-na
 returns-in-Ok-table_of-clause-narrow c = λ task is a b forms.
     c.in-Ok.ensures.narrow a b (forms_same task c.args.self.now.unknowns c.args.self.now.limits.now c.args.self.now.rights.now c.args.self.now.table.now is
     (row_at c.args.self.now.table.now.rows c.args.o) a b forms)
+
+pub returns-in-Ok-table_of-clause-within : goal.returns-in-Ok-table_of-clause-within
+returns-in-Ok-table_of-clause-within c = λ task is i h own.
+    let rules = rules_same task c.args.self.now.unknowns c.args.self.now.limits.now c.args.self.now.rights.now c.args.self.now.table.now is in
+    let times = c.in-Ok.ensures.times in
+    subst (λ z. unsigned_abs z ≤ 100000000000000)
+    (times.each i (subst (λ n. i < n) (sym rules) h) own
+    ∙ multiplier_same task c.args.self.now.unknowns c.args.self.now.limits.now c.args.self.now.rights.now c.args.self.now.table.now is
+    (row_at c.args.self.now.table.now.rows c.args.o) i h)
+    (times.within i)

@@ -1,0 +1,11 @@
+-- The row of the sum.
+use Rattle.pivot_dispatch.proofs.Answering as answering
+use Rattle.std.proofs.Common.{◌+◌, arith}
+use Rattle.pivot_dispatch.proofs.Ended.{rows_are}
+use Rattle.pivot_dispatch.proofs.ending.Ending.answer.Goals as goal
+
+pub is_owing-requires : goal.is_owing-requires
+is_owing-requires c =
+    let ended = c.requires.ended in
+    let rows = rows_are c.args.self.now ended.0 ended.1 in
+    omega arith
