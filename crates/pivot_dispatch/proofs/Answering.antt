@@ -1,16 +1,16 @@
 -- The answers at the end of a run.
 -- Cite by `use Rattle.pivot_dispatch.proofs.Answering.{unpriced_sum, unpriced_cost, ray_is, cheapest_end, schedule_is, fine_is, wide_is, large_scale}`.
-use Rattle.std.proofs.Common.{◌≡◌, ℕ, ◌+◌, ◌<◌, ◌⊎◌, ⊎_elim, inl, inr, refl, sym, ap, subst, ◌∙◌, arith, List, ℤ, pos, ◌<ℤ◌, unsigned_abs}
+use Rattle.std.proofs.Common.{◌≡◌, ◌<◌, ◌⊎◌, ⊎_elim, inl, inr, refl, sym, ap, subst, ◌∙◌, arith, List, ℤ, pos, ◌<ℤ◌, unsigned_abs}
 use Rattle.uc_model.specs.Limits.{IsLawfulInstance}
 use Rattle.uc_model.proofs.Ring.{linear}
 use Rattle.dual_model.specs.declared.table.Table.{Table}
-use Rattle.pivot_run.specs.Pivots.{IsNarrow, IsWide, row_at}
+use Rattle.pivot_run.specs.Pivots.{IsNarrow, IsWide}
 use Rattle.pivot_run.specs.Tables as tables
 use Rattle.dispatch_program.specs.ProgramRuns.{IsCheapest, SumIsLeft}
 use Rattle.dispatch_program.proofs.BasicValues.{shares_exist}
-use Rattle.dispatch_rules.specs.CommitmentTask.{AreAllowed, IsTaskOf, limit_of}
+use Rattle.dispatch_rules.specs.CommitmentTask.{AreAllowed}
 use Rattle.dispatch_rules.specs.declared.amount.Amount.{Amount}
-use Rattle.dispatch_rules.specs.Dispatch.{Task, limit_at, program}
+use Rattle.dispatch_rules.specs.Dispatch.{Task, program}
 use Rattle.dispatch_rules.specs.Duals.{scale_of}
 use Rattle.dispatch_prices.specs.ReadOff.{HasSmallMultipliers, IsLargeMultiplier, ReadingForms, is_priced}
 use Rattle.dispatch_prices.specs.Readings.{IsPriceTable, IsUnfit}
@@ -19,7 +19,7 @@ use Rattle.dispatch_prices.specs.declared.unfit.Unfit.TheVariants.{Product as Pr
 use Rattle.dispatch_prices.proofs.TimesBy.{limit_is}
 use Rattle.dispatch_schedule.specs.ColumnValues.{DenominatorForms}
 use Rattle.dispatch_schedule.specs.ShownSchedules.{IsCheapestEnd, IsShown}
-use Rattle.dispatch_schedule.specs.declared.shown.Shown.TheVariants.{Schedule as ScheduleOf, Fine as FineOf, Wide as WideOf}
+use Rattle.dispatch_schedule.specs.declared.shown.Shown.TheVariants.{Schedule as ScheduleOf, Fine as FineOf}
 use Rattle.pivot_dispatch.specs.Answers.{BestForms, EndingForms, HasLargePrice, IsAnswer, IsAnswerOf, IsLargePrice, MeetsNone, Pivot, TableScaleForms, cost_row, sum_row}
 use Rattle.pivot_dispatch.specs.Commitments.{IsBestOf, IsRayOf, Printed}
 use Rattle.pivot_dispatch.specs.declared.pivot.Pivot.TheVariants.{Best, Ray, Wide}
@@ -27,7 +27,7 @@ use Rattle.pivot_dispatch.specs.declared.pivot.What.TheVariants.{Product, Scale,
 use Rattle.pivot_dispatch.specs.inside.Endings.{Ending, IsEndedBy, IsPricedBy, Tells}
 use Rattle.pivot_dispatch.proofs.Commitments.{ray_of, best_of}
 use Rattle.pivot_dispatch.proofs.Tables.{sum_scale}
-use Rattle.pivot_dispatch.proofs.Ended.{allowed_task, lawful_task, rules_are, same_on, table_reached}
+use Rattle.pivot_dispatch.proofs.Ended.{allowed_task, lawful_task, same_on, table_reached}
 
 module _ (end : Ending) (task : Task) (ended : IsEndedBy end task) where
   abbrev t : tables.Table

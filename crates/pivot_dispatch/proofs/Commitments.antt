@@ -1,15 +1,14 @@
 -- What the end of a run says of its commitment: a ray that excludes it, or a cheapest schedule with prices that bound its cost exactly.
 -- Cite by `use Rattle.pivot_dispatch.proofs.Commitments.{ray_of, best_of}`.
-use Rattle.std.proofs.Common.{◌≡◌, ℕ, ◌+◌, ◌<◌, sym, ap, subst, ◌∙◌, List, ℤ, pos, ◌*ℤ◌, ◌≤ℤ◌, ◌<ℤ◌, IsTrue, false}
+use Rattle.std.proofs.Common.{◌≡◌, ℕ, sym, subst, ◌∙◌, List, pos, ◌≤ℤ◌, ◌<ℤ◌, IsTrue, false}
 use Rattle.std.specs.List.{list_all}
 use Rattle.uc_model.specs.Commitment.{Commitment}
 use Rattle.uc_model.specs.Limits.{IsLawfulInstance}
 use Rattle.uc_model.specs.Rules.{Obeys}
 use Rattle.uc_model.specs.PrintedSchedule.{cell_at, printed_denominator, printed_schedule}
-use Rattle.uc_model.specs.Schedule.{Schedule, thermal_unit, thermal_count}
+use Rattle.uc_model.specs.Schedule.{Schedule, thermal_unit}
 use Rattle.uc_model.proofs.Ring.{pos_nonneg}
 use Rattle.dual_model.specs.Fixings.{keeps}
-use Rattle.dual_model.specs.NodeValue.{IsNodeValue}
 use Rattle.dual_model.specs.declared.node.Node.{Node}
 use Rattle.dual_model.specs.declared.table.Table.{Table}
 use Rattle.dual_model.proofs.ValueKinds.{values_exist_at_schedules}
@@ -32,7 +31,7 @@ use Rattle.dispatch_prices.proofs.Obeying.{dispatches_obey}
 use Rattle.dispatch_prices.proofs.Worth.{prices_are_exact, dispatches_are_least}
 use Rattle.dispatch_prices.proofs.Signs.{lawful_signs}
 use Rattle.pivot_dispatch.specs.Answers.{cost_row, sum_row}
-use Rattle.pivot_dispatch.specs.Commitments.{IsBestOf, IsDecidedAt, IsOfCommitment, IsRayOf}
+use Rattle.pivot_dispatch.specs.Commitments.{IsBestOf, IsDecidedAt, IsRayOf}
 use Rattle.pivot_dispatch.proofs.Tables.{lawful_table, sum_last, cost_last, sum_scale, cost_positive}
 
 module _ (task : Task) (patterns : List Pattern) (t : tables.Table) (table : Table) (lawful : IsLawfulInstance task.instance) (is : IsTask task)

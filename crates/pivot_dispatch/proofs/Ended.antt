@@ -1,10 +1,10 @@
 -- A commitment's table where its run has ended: a sum is left, or the basis is a cheapest one.
 -- Cite by `use Rattle.pivot_dispatch.proofs.Ended.{table_reached, rules_are, rows_are, columns_are, times_are, same_on, lawful_task, allowed_task, sum_left, cheapest_here, end_is}`.
-use Rattle.std.proofs.Common.{◌≡◌, ℕ, suc, ◌+◌, ◌-◌, ◌<◌, ◌⊎◌, ⊎_elim, true, false, sym, ap, subst, ◌∙◌, arith, map, length, ℤ, pos, ◌≤ℤ◌, ◌<ℤ◌, IsTrue, int_lt, nat_lt}
+use Rattle.std.proofs.Common.{◌≡◌, ℕ, suc, ◌+◌, ◌-◌, ◌<◌, ◌⊎◌, ⊎_elim, true, false, sym, ap, subst, ◌∙◌, arith, map, length, pos, ◌≤ℤ◌, IsTrue, nat_lt}
 use Rattle.std.specs.Int.{int_min}
 use Rattle.std.proofs.lemmas.Bool.{cond_both}
 use Rattle.std.proofs.lemmas.List.{length-map}
-use Rattle.uc_model.specs.Commitment.{Commitment, cap, is_allowed, start_cap, stop_cap}
+use Rattle.uc_model.specs.Commitment.{is_allowed, start_cap, stop_cap}
 use Rattle.uc_model.specs.Limits.{IsLawfulInstance}
 use Rattle.uc_model.specs.Schedule.{thermal_unit, thermal_count}
 use Rattle.uc_model.proofs.Ring.{linear}

@@ -2,5 +2,4 @@ pub mod Ended
 pub mod Tables
 pub mod Commitments
 pub mod Answering
-pub mod Casts
 pub mod Stopping

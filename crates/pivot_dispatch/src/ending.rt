@@ -70,29 +70,42 @@ impl Ending<'_> {
         ensures { IfOk result (IsAnswer self.now.instance.now self.now.patterns.now) }
     {
         match self.scale() {
-            Ok(k) if k <= MAX_SCALE => self.priced(alloc, k as i64),
-            Ok(k) => Ok(Pivot::met(What::Scale, k, self.pivots)),
+            Ok(k) => self.priced(alloc, k),
             Err(wide) => Ok(Pivot::too_large(&wide, self.pivots)),
         }
     }
 
-    // The same, at the scale of the prices.
-    fn priced(&self, alloc: Global, k: i64) -> Result<Pivot, NoMemory>
+    // The same, at the scale of the prices. A price that is too large is told before a scale that is.
+    fn priced(&self, alloc: Global, k: i128) -> Result<Pivot, NoMemory>
         requires lawful { IsLawfulInstance self.now.instance.now }
         requires allowed { AreAllowed self.now.instance.now self.now.patterns.now }
         requires ended { IsEnded self.now }
         requires none { leaves_sum self.now ≡ false }
         requires scale { (task : Task) → IsEndedBy self.now task → k ≡ scale_of task (cost_row task self.now.last.now.table) }
         requires narrow { (task : Task) → IsEndedBy self.now task → IsNarrow (TableScaleForms task self.now.last.now.table) }
-        requires within { k ≤ℤ pos 1000000000 }
         ensures { IfOk result (IsAnswer self.now.instance.now self.now.patterns.now) }
     {
-        match self
-            .end()
-            .prices(alloc, self.instance, self.last.limits.len() + 1, k)
-        {
-            Ok(table) => self.shown(alloc, table),
+        let cost = self.last.limits.len() + 1;
+        match self.end().prices(alloc, self.instance, cost, within(k)) {
+            Ok(table) => self.scaled(alloc, table, k),
             Err(unfit) => self.unpriced(&unfit),
+        }
+    }
+
+    // The same, with the prices, whose scale is within its limit where that of the row is.
+    fn scaled(&self, alloc: Global, table: Table, k: i128) -> Result<Pivot, NoMemory>
+        requires lawful { IsLawfulInstance self.now.instance.now }
+        requires allowed { AreAllowed self.now.instance.now self.now.patterns.now }
+        requires ended { IsEnded self.now }
+        requires none { leaves_sum self.now ≡ false }
+        requires scale { (task : Task) → IsEndedBy self.now task → k ≡ scale_of task (cost_row task self.now.last.now.table) }
+        requires table { k ≤ℤ pos 1000000000 → (task : Task) → IsEndedBy self.now task → IsPricedBy task self.now.last.now.table table }
+        ensures { IfOk result (IsAnswer self.now.instance.now self.now.patterns.now) }
+    {
+        if k <= MAX_SCALE {
+            self.shown(alloc, table)
+        } else {
+            Ok(Pivot::met(What::Scale, k, self.pivots))
         }
     }
 
@@ -158,5 +171,18 @@ impl Ending<'_> {
             Unfit::Multiplier(size) => Ok(Pivot::met(What::Multiplier, size, self.pivots)),
             Unfit::NoMemory => Err(NoMemory),
         }
+    }
+}
+
+// A scale, or the greatest one.
+fn within(k: i128) -> i64
+    requires { pos 0 ≤ℤ k }
+    ensures same { k ≤ℤ pos 1000000000 → result ≡ k }
+    ensures low { pos 0 ≤ℤ result }
+{
+    if k <= MAX_SCALE {
+        k as i64
+    } else {
+        MAX_SCALE as i64
     }
 }

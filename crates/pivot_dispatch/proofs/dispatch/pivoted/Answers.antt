@@ -1,5 +1,5 @@
 -- The run.
-use Rattle.dispatch_table.proofs.StartSizes.{rows_follow, free_is_within}
+use Rattle.dispatch_table.proofs.StartSizes.{rows_follow}
 use Rattle.pivot_dispatch.proofs.Stopping.{stopped_is}
 use Rattle.pivot_dispatch.proofs.dispatch.pivoted.Goals as goal
 

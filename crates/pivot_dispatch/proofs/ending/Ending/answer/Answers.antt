@@ -1,6 +1,5 @@
 -- The row of the sum.
-use Rattle.pivot_dispatch.proofs.Answering as answering
-use Rattle.std.proofs.Common.{◌+◌, arith}
+use Rattle.std.proofs.Common.{arith}
 use Rattle.pivot_dispatch.proofs.Ended.{rows_are}
 use Rattle.pivot_dispatch.proofs.ending.Ending.answer.Goals as goal
 
