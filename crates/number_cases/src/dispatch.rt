@@ -9,6 +9,7 @@ ghost use Rattle.schedule_check.specs.PlainNumbers.{HasPlainNumbers};
 use crate::Answer;
 use crate::commitment::patterns;
 use crate::demo::put_line;
+use crate::pivot::tell_pivot;
 use crate::reporting::tell_report;
 use crate::table::marginal_text;
 use crate::uplifts::tell_uplift;
@@ -103,7 +104,7 @@ pub(crate) fn tell_dispatch(alloc: Global, instance: &Instance, word: &str, rest
 }
 
 /// The same at prices of demand and of reserve that is missing, which come first; with what is missing, and the cost. Or the
-/// uplifts, or a report, at these prices.
+/// uplifts, a report, or the exact dispatch, at these prices.
 pub(crate) fn tell_priced(alloc: Global, instance: Instance, word: &str, rest: &str) -> Answer
     requires { IsLawfulInstance instance }
 {
@@ -112,6 +113,7 @@ pub(crate) fn tell_priced(alloc: Global, instance: Instance, word: &str, rest: &
         Some((a, b, rest)) if penalize(&mut instance, a, b) => match word {
             "uplift" => tell_uplift(alloc, &instance, rest),
             "report" => tell_report(alloc, &instance, rest),
+            "pivot" => tell_pivot(alloc, &instance, rest),
             _ => tell_dispatch(alloc, &instance, word, rest),
         },
         _ => no_prices(alloc),
@@ -138,7 +140,7 @@ fn prices(rest: &str) -> Option<(u32, u32, &str)>
 fn price(rest: &str) -> Option<(u32, &str)>
     ensures { IfSome result (λ pair. pair.0 ≤ MAX_PENALTY) }
 {
-    let (word, rest) = rest.split_once(' ')?;
+    let (word, rest) = rest.split_once(' ').unwrap_or((rest, ""));
     match word.parse::<u32>() {
         Ok(price) if price <= MAX_PENALTY => Some((price, rest)),
         _ => None,
@@ -181,10 +183,15 @@ fn schedule_text(text: String, printed: &Printed) -> Answer {
 // A schedule with what is missing in each period, and its cost.
 fn shortage_text(alloc: Global, printed: &Printed, cost: i64) -> Answer {
     let mut text = schedule_text(String::new(alloc), printed)?;
-    put_line(&mut text, "shed", printed.shed.as_slice())?;
-    put_line(&mut text, "short", printed.short.as_slice())?;
+    put_missing(&mut text, printed)?;
     writeln!(text, "cost {cost}")?;
     Ok(text)
+}
+
+/// The rows of what is missing in each period, of demand and of reserve.
+pub(crate) fn put_missing(text: &mut String, printed: &Printed) -> Result<(), AllocError> {
+    put_line(text, "shed", printed.shed.as_slice())?;
+    put_line(text, "short", printed.short.as_slice())
 }
 
 /// The rows of a schedule: output above the minimum, reserve and start category of each thermal unit in each period, and the

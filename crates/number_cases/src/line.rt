@@ -11,7 +11,7 @@ use crate::node::{tell_child, tell_node};
 use crate::rolling::tell_roll;
 use crate::system::{changed, unit_changed};
 use crate::table::{tell_rays, tell_step, tell_zero};
-use crate::unit::tell_unit;
+use crate::unit::{period, tell_unit};
 use instance::{ReadFault, read_instance};
 use std::alloc::Global;
 use std::rt::Files;
@@ -29,6 +29,7 @@ pub(crate) fn follow<R: Print + Files + AllocGlobal>(
     let text = match word {
         "" | "#" | "case" => return Ok(()),
         "system" => Some(fs::read_to_string(rt, rest)?),
+        "line" => line_of(rt, rest)?,
         "change" => changed(alloc, system.as_str(), rest)?,
         "unit" => unit_changed(alloc, system.as_str(), rest)?,
         _ => {
@@ -45,13 +46,23 @@ pub(crate) fn follow<R: Print + Files + AllocGlobal>(
     Ok(())
 }
 
+// The text of a line of a file, as `FILE NUMBER` says; nothing where there is no such line.
+fn line_of<R: Files + AllocGlobal>(rt: &R, words: &str) -> io::Result<Option<String>> {
+    let (file, number) = words.split_once(' ').unwrap_or((words, ""));
+    let lines = fs::read_to_string(rt, file)?;
+    match period(number).and_then(|n| lines.lines().nth(n)) {
+        Some(line) => Ok(Some(String::from_str(rt.alloc(), line)?)),
+        None => Ok(None),
+    }
+}
+
 // What is answered to a question.
 fn answer(alloc: Global, system: &str, word: &str, rest: &str) -> Answer {
     if word == "demo" {
         return tell_demo(alloc, rest);
     }
     match read_instance(alloc, system.as_bytes(), false) {
-        Ok((instance, _)) if matches!(word, "priced" | "uplift" | "report") => {
+        Ok((instance, _)) if matches!(word, "priced" | "uplift" | "report" | "pivot") => {
             tell_priced(alloc, instance, word, rest)
         }
         Ok((instance, _)) => answer_of(alloc, &instance, word, rest),

@@ -39,8 +39,15 @@ fn evaluation_text(alloc: Global, evaluation: Evaluation, has_parts: bool) -> An
             drop(valued);
             Ok(text?)
         }
-        Err(ValueFault::Empty(g)) => Ok(format!(in alloc; "empty {}\n", g.saturating_add(1))?),
-        Err(ValueFault::NoMemory) => Err(NoMemory),
+        Err(fault) => fault_text(alloc, fault),
+    }
+}
+
+/// Which unit has no pattern.
+pub(crate) fn fault_text(alloc: Global, fault: ValueFault) -> Answer {
+    match fault {
+        ValueFault::Empty(g) => Ok(format!(in alloc; "empty {}\n", g.saturating_add(1))?),
+        ValueFault::NoMemory => Err(NoMemory),
     }
 }
 
@@ -150,8 +157,8 @@ fn with_decision(alloc: Global, parent: &Node, fixing: &Fixing) -> Result<Node, 
     })
 }
 
-// The value of a node at a table.
-fn valued(alloc: Global, instance: &Instance, node: &Node, table: &Table) -> Evaluation
+/// The value of a node at a table.
+pub(crate) fn valued(alloc: Global, instance: &Instance, node: &Node, table: &Table) -> Evaluation
     requires lawful { IsLawfulInstance instance.now }
     requires node { IsNodeOf instance.now node.now }
     requires size { HasSizeOf instance.now table.now }
@@ -223,8 +230,8 @@ fn decision(word: &str) -> Option<Fixing> {
     })
 }
 
-// Whether the decisions are on cells of the instance.
-fn is_node_of(instance: &Instance, node: &Node) -> bool
+/// Whether the decisions are on cells of the instance.
+pub(crate) fn is_node_of(instance: &Instance, node: &Node) -> bool
     ensures { IsTrue result ↔ IsNodeOf instance.now node.now }
 {
     let units = instance.thermal.as_slice().len();

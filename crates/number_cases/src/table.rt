@@ -15,8 +15,8 @@ use prices::{marginal, opening_ray, step, zero};
 use std::alloc::{AllocError, Global};
 use uc_model::{Instance, NoMemory, Printed};
 
-// A line of the table's numbers.
-fn put_table(text: &mut String, table: &Table) -> Result<(), AllocError> {
+/// A line of the table's numbers.
+pub(crate) fn put_table(text: &mut String, table: &Table) -> Result<(), AllocError> {
     write!(text, "scale {} demand", table.k())?;
     put_each(text, table.pi())?;
     text.push_str(" reserve")?;

@@ -1,0 +1,87 @@
+//! The exact dispatch of commitments.
+
+ghost use Rattle.uc_model.specs.Limits.{IsLawfulInstance};
+ghost use Rattle.dispatch_rules.specs.CommitmentTask.{AreAllowed};
+ghost use Rattle.dual_model.specs.Fixings.{IsNodeOf};
+
+use crate::Answer;
+use crate::commitment::patterns;
+use crate::dispatch::{no_commitment, put_missing, put_schedule};
+use crate::node::{fault_text, is_node_of, valued};
+use crate::table::put_table;
+use dual_model::{Fixing, Node};
+use pivot_dispatch::{Pivot, best};
+use prices::zero;
+use std::alloc::{AllocError, Global};
+use uc_model::{Instance, List, Pattern};
+
+/// The exact dispatch of the commitment that the words tell, or the first unit whose pattern isn't allowed.
+pub(crate) fn tell_pivot(alloc: Global, instance: &Instance, words: &str) -> Answer
+    requires { IsLawfulInstance instance.now }
+{
+    let patterns = patterns(alloc, words)?;
+    let node = decided(alloc, instance, &patterns)?;
+    if patterns.len() == instance.thermal.as_slice().len() && is_node_of(instance, &node) {
+        node_answer(alloc, instance, &node)
+    } else {
+        no_commitment(alloc)
+    }
+}
+
+// The node at which each cell is decided as the patterns say.
+fn decided(alloc: Global, instance: &Instance, patterns: &[Pattern]) -> Result<Node, AllocError>
+    requires { IsLawfulInstance instance.now }
+{
+    let mut fixings = Vec::new(alloc);
+    for g in 0..instance.thermal.as_slice().len() as u32 {
+        if let Some(pattern) = patterns.get(g as usize) {
+            for t in 0..instance.periods {
+                let on = pattern.is_on(t);
+                fixings.push(Fixing { g, t, on })?;
+            }
+        }
+    }
+    Ok(Node {
+        fixings: List::from_vec(fixings),
+    })
+}
+
+// The exact dispatch of the patterns of a node at which each cell is decided.
+fn node_answer(alloc: Global, instance: &Instance, node: &Node) -> Answer
+    requires lawful { IsLawfulInstance instance.now }
+    requires node { IsNodeOf instance.now node.now }
+{
+    match valued(alloc, instance, node, &zero(alloc, instance)?) {
+        Ok(valued) => pivot_answer(alloc, instance, valued.patterns.as_slice()),
+        Err(fault) => fault_text(alloc, fault),
+    }
+}
+
+// The exact dispatch of allowed patterns.
+fn pivot_answer(alloc: Global, instance: &Instance, patterns: &[Pattern]) -> Answer
+    requires lawful { IsLawfulInstance instance.now }
+    requires allowed { AreAllowed instance.now patterns.now }
+{
+    let pivot = best(alloc, instance, patterns)?;
+    let mut text = String::new(alloc);
+    let put = put_pivot(&mut text, &pivot);
+    drop(pivot);
+    Ok(put.and(Ok(text))?)
+}
+
+// What an exact dispatch answers: a schedule and its prices, a ray, or the limit that is met.
+fn put_pivot(text: &mut String, pivot: &Pivot) -> Result<(), AllocError> {
+    match pivot {
+        Pivot::Best { schedule, table } => {
+            writeln!(text, "best over {}", schedule.denominator)?;
+            put_schedule(text, schedule)?;
+            put_missing(text, schedule)?;
+            put_table(text, table)
+        }
+        Pivot::Ray(table) => {
+            text.push_str("ray ")?;
+            put_table(text, table)
+        }
+        Pivot::Wide { what, pivots, .. } => writeln!(text, "wide {what:?} after {pivots} pivots"),
+    }
+}
