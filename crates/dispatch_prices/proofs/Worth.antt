@@ -31,7 +31,6 @@ use Rattle.dispatch_prices.specs.Dispatched.{IsAllowedTask, IsPricedBasis, IsDis
 use Rattle.dispatch_prices.proofs.CellCosts.{segment, are_segments}
 use Rattle.dispatch_prices.proofs.Obeying.{dispatches_obey}
 use Rattle.dispatch_prices.proofs.Payments.{schedule_pays}
-use Rattle.dispatch_prices.proofs.Signs as signs
 use Rattle.dispatch_prices.proofs.Deciding.{deciding, is_decided, agrees_there}
 
 module _ (task : Task) (t : pivots.Table) (table : Table) (printed : Printed) (lawful : IsLawfulInstance task.instance) (is : IsTask task)

@@ -124,6 +124,7 @@ impl End<'_> {
         ensures { ArePlaces (rules_at self.now) 0 result }
     {
         let slacks = self.slacks();
+        // What counts columns fits, as the number of all columns does.
         let _columns = self.table.columns();
         Places {
             slack: self.unknowns,
@@ -153,6 +154,7 @@ impl End<'_> {
     {
         let equality = self.is_equality(i);
         let artificial = self.has_artificial(i);
+        // As above.
         let _columns = self.table.columns();
         Places {
             slack: more(places.slack, !equality),
