@@ -4,9 +4,9 @@
     python3 bench/pivot.py PROGRAM CASE.json ..     # PROGRAM is `crates/uc/out/uc`, or `unproved`
 
 `solve` gets 100 evaluations. In the smaller system, which has no renewable unit, demand and reserve are what the first ten units give
-and hold in that schedule. Told of each system are what `best` answers, its seconds, the program's greatest resident memory, reading included,
-and how many pivots its run makes, which a second run of the program counts. The program that is timed is always built without a proof,
-see `unproved.py`.
+and hold in that schedule. Told of each system are what `best` answers, the seconds of the processor and the greatest resident memory of
+the program that asks, reading included, and how many pivots a run makes, which a second run of the program counts. The program that is
+timed is always built without a proof, see `unproved.py`.
 """
 import json
 import pathlib
@@ -34,7 +34,6 @@ use std::alloc::{AllocError, Global};
 use std::env;
 use std::fs;
 use std::io;
-use std::time::Instant;
 use uc_model::{Instance, Pattern};
 
 // A pattern for each word, whose digits are 1 where it is on.
@@ -52,16 +51,13 @@ fn patterns(alloc: Global, words: &str) -> Result<Vec<Pattern>, AllocError> {
     Ok(patterns)
 }
 
-// Tells how many nanoseconds the exact dispatch takes, and what it answers.
-fn time_best(rt: &HostRuntime, instance: &Instance, patterns: &[Pattern]) -> io::Result<()> {
-    let clock = Instant::now(rt)?;
-    let pivot = best(rt.alloc(), instance, patterns);
-    let time = clock.elapsed(rt)?.as_nanos();
-    match pivot {
-        Ok(Pivot::Best { schedule, table }) => println!(rt; "{time} best over {}, scale {}", schedule.denominator, table.k()),
-        Ok(Pivot::Ray(_)) => println!(rt; "{time} ray"),
-        Ok(Pivot::Wide { what, .. }) => println!(rt; "{time} wide {what:?}"),
-        Err(_) => println!(rt; "{time} no memory"),
+// Tells what the exact dispatch answers.
+fn tell_best(rt: &HostRuntime, instance: &Instance, patterns: &[Pattern]) -> io::Result<()> {
+    match best(rt.alloc(), instance, patterns) {
+        Ok(Pivot::Best { schedule, table }) => println!(rt; "best over {}, scale {}", schedule.denominator, table.k()),
+        Ok(Pivot::Ray(_)) => println!(rt; "ray"),
+        Ok(Pivot::Wide { what, .. }) => println!(rt; "wide {what:?}"),
+        Err(_) => println!(rt; "no memory"),
     }
 }
 
@@ -86,7 +82,7 @@ fn main(rt: HostRuntime) -> io::Result<()> {
     let patterns = patterns(alloc, fs::read_to_string(&rt, "commitment")?.as_str());
     match (instance, patterns) {
         (Ok((instance, _)), Ok(patterns)) if counts => count_pivots(&rt, &instance, &patterns),
-        (Ok((instance, _)), Ok(patterns)) => time_best(&rt, &instance, &patterns),
+        (Ok((instance, _)), Ok(patterns)) => tell_best(&rt, &instance, &patterns),
         _ => println!(rt; "no instance"),
     }
 }
@@ -114,11 +110,12 @@ def first_units(made, instance, cells):
 def measured(timing, folder, made, cells):
     (folder / "instance.json").write_text(json.dumps(made))
     (folder / "commitment").write_text(" ".join("".join("01"[cell is not None] for cell in row) for row in cells))
-    printed, memory = unproved.run(timing, folder)
-    time, _, answer = printed.strip().partition(" ")
+    begun = search.processor()
+    answer, memory = unproved.run(timing, folder)
+    took = search.processor() - begun
     pivots = unproved.run(timing, folder, ["pivots"])[0].strip()
     size = f"{len(cells)} units, {made['time_periods']} h"
-    return f"{size}: {answer}, {int(time) / 1e9:.2f} s, {memory / 2**20:.0f} MB, {pivots} pivots"
+    return f"{size}: {answer.strip()}, {took:.2f} s, {memory / 2**20:.0f} MB, {pivots} pivots"
 
 
 def main(program, cases):

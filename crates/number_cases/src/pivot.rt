@@ -1,7 +1,6 @@
 //! The exact dispatch of commitments.
 
 ghost use Rattle.uc_model.specs.Limits.{IsLawfulInstance};
-ghost use Rattle.dispatch_rules.specs.CommitmentTask.{AreAllowed};
 ghost use Rattle.dual_model.specs.Fixings.{IsNodeOf};
 
 use crate::Answer;
@@ -10,6 +9,7 @@ use crate::dispatch::{no_commitment, put_missing, put_schedule};
 use crate::node::{fault_text, is_node_of, valued};
 use crate::table::put_table;
 use dual_model::{Fixing, Node};
+use dual_value::ValueFault;
 use pivot_dispatch::{Pivot, best};
 use prices::zero;
 use std::alloc::{AllocError, Global};
@@ -51,22 +51,25 @@ fn node_answer(alloc: Global, instance: &Instance, node: &Node) -> Answer
     requires lawful { IsLawfulInstance instance.now }
     requires node { IsNodeOf instance.now node.now }
 {
-    match valued(alloc, instance, node, &zero(alloc, instance)?) {
-        Ok(valued) => pivot_answer(alloc, instance, valued.patterns.as_slice()),
+    match node_pivot(alloc, instance, node) {
+        Ok(pivot) => {
+            let mut text = String::new(alloc);
+            let put = put_pivot(&mut text, &pivot);
+            drop(pivot);
+            Ok(put.and(Ok(text))?)
+        }
         Err(fault) => fault_text(alloc, fault),
     }
 }
 
-// The exact dispatch of allowed patterns.
-fn pivot_answer(alloc: Global, instance: &Instance, patterns: &[Pattern]) -> Answer
+// The same as it is found, or which unit has no pattern.
+fn node_pivot(alloc: Global, instance: &Instance, node: &Node) -> Result<Pivot, ValueFault>
     requires lawful { IsLawfulInstance instance.now }
-    requires allowed { AreAllowed instance.now patterns.now }
+    requires node { IsNodeOf instance.now node.now }
 {
-    let pivot = best(alloc, instance, patterns)?;
-    let mut text = String::new(alloc);
-    let put = put_pivot(&mut text, &pivot);
-    drop(pivot);
-    Ok(put.and(Ok(text))?)
+    let table = zero(alloc, instance)?;
+    let valued = valued(alloc, instance, node, &table)?;
+    Ok(best(alloc, instance, valued.patterns.as_slice())?)
 }
 
 // What an exact dispatch answers: a schedule and its prices, a ray, or the limit that is met.
