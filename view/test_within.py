@@ -163,8 +163,9 @@ class Ends(WithinTest):
         self.assert_left("before")
 
     def test_signals_to_stop(self) -> None:
-        # a shell's background job ignores interrupts, and what it starts would too
+        # a shell's background job ignores interrupts, nohup hangups, and what they start would too
         signal.signal(signal.SIGINT, signal.default_int_handler)
+        signal.signal(signal.SIGHUP, signal.SIG_DFL)
         for stop, runs in ((signal.SIGINT, 1), (signal.SIGTERM, 2), (signal.SIGHUP, 0)):
             with self.subTest(stop):
                 self.play(*[(SPENT.format(110 - n, 100), "exit 1") for n in range(runs)])
