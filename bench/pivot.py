@@ -29,7 +29,7 @@ PROGRAM = """#![tactic(auto)]
 use dispatch_table::{Made, start};
 use instance::read_instance;
 use pivot_dispatch::{Pivot, best};
-use pivot_run::run;
+use pivot_run::{Halt, run};
 use std::alloc::{AllocError, Global};
 use std::env;
 use std::fs;
@@ -68,7 +68,8 @@ fn count_pivots(rt: &HostRuntime, instance: &Instance, patterns: &[Pattern]) -> 
             let mut start = start;
             match run(&mut start.table, start.free) {
                 Ok(pivots) => println!(rt; "{pivots}"),
-                Err(stop) => println!(rt; "{}", stop.pivots),
+                Err(Halt::Met(stop)) => println!(rt; "{}", stop.pivots),
+                Err(Halt::NoMemory) => println!(rt; "no memory"),
             }
         }
         _ => println!(rt; "0"),

@@ -42,16 +42,16 @@ pub(crate) fn row(
     ensures { IfOk result (λ row. row ≡ map (line_number (program_of numbers.now) (line_of line)) (columns_of (program_of numbers.now))) }
 {
     let numbers = line_numbers(alloc, numbers, columns, line)?;
-    Ok(small_row(numbers))
+    small_row(alloc, &numbers)
 }
 
 // A row of small numbers.
-fn small_row(numbers: Vec<i128>) -> Row
-    requires { IsSmall numbers.items }
-    ensures { result ≡ numbers.items }
+fn small_row(alloc: Global, numbers: &[i128]) -> Result<Row, NoMemory>
+    requires { IsSmall numbers.now }
+    ensures { IfOk result (λ row. row ≡ numbers.now) }
 {
-    match Row::from_vec(numbers) {
-        Some(row) => row,
+    match Row::from_numbers(alloc, numbers)? {
+        Some(row) => Ok(row),
         None => unreachable!(),
     }
 }

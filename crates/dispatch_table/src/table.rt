@@ -23,15 +23,21 @@ pub(crate) fn table(alloc: Global, numbers: &Numbers) -> Result<Tableau, NoMemor
     let basis = basis(alloc, numbers)?;
     let pivot = row(alloc, numbers, &columns, Line::Cost)?;
     let limits = numbers.limits.as_slice();
-    Ok(joined(rows, limits.len(), basis, pivot))
+    Ok(joined(alloc, rows, limits.len(), basis, pivot))
 }
 
 // A table of these parts.
-fn joined(rows: Vec<Row>, constraints: usize, basis: Vec<usize>, pivot: Row) -> Tableau
+fn joined(
+    alloc: Global,
+    rows: Vec<Row>,
+    constraints: usize,
+    basis: Vec<usize>,
+    pivot: Row,
+) -> Tableau
     requires { IsTable (record { columns = length pivot; rows = rows.items; constraints = constraints; basis = basis.items }) }
     ensures { result ≡ record { columns = length pivot; rows = rows.items; constraints = constraints; basis = basis.items } }
 {
-    match Tableau::new(rows, constraints, basis, pivot) {
+    match Tableau::new(alloc, rows, constraints, basis, pivot) {
         Some(table) => table,
         None => unreachable!(),
     }

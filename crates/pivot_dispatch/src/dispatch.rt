@@ -9,7 +9,7 @@ ghost use Rattle.pivot_dispatch.specs.Answers.{IsAnswer};
 use crate::ending::Ending;
 use crate::pivot::Pivot;
 use dispatch_table::{Made, Start, start};
-use pivot_run::run;
+use pivot_run::{Halt, run};
 use std::alloc::Global;
 use uc_model::{Instance, NoMemory, Pattern};
 
@@ -49,6 +49,7 @@ fn pivoted(
             };
             ending.answer(alloc)
         }
-        Err(stop) => Ok(Pivot::stopped(&stop)),
+        Err(Halt::Met(stop)) => Ok(Pivot::stopped(&stop)),
+        Err(Halt::NoMemory) => Err(NoMemory),
     }
 }

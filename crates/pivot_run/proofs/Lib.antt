@@ -1,4 +1,6 @@
 pub mod Orders
+pub mod EntryLists
+pub mod CombinedEntries
 pub mod Clearing
 pub mod Divisors
 pub mod Solutions
@@ -13,3 +15,5 @@ pub mod ZeroSides
 pub mod RunSteps
 pub mod RunKeeps
 pub mod Sizes
+pub mod SpreadRows
+pub mod Halting

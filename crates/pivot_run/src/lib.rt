@@ -3,6 +3,9 @@
 //! Operations Research 2, 1977). A run ends, or tells the number that meets a limit.
 #![tactic(auto)]
 
+mod combining;
+mod entries;
+mod halt;
 mod laws;
 mod numbers;
 mod pivots;
@@ -14,6 +17,7 @@ mod tableau;
 mod target;
 mod wide;
 
+pub use halt::Halt;
 pub use laws::{
     bases_solve, basic_values_are_not_negative, pivots_keep_bases, pivots_keep_right_sides,
     pivots_keep_solutions, runs_keep,

@@ -1,0 +1,131 @@
+-- What a row is where its numbers stand in columns that rise.
+-- Cite by `use Rattle.pivot_run.proofs.EntryLists.{entry_spread}`.
+use Rattle.std.proofs.Common.{◌≡◌, ◌≢◌, ◌==◌, ◌⊎◌, ⊎_elim, inl, inr, ℕ, zero, suc, ◌+◌, ◌<◌, ◌≤◌, true, false, refl, sym, ap, ◌∙◌, arith, List, [], ◌∷◌, length, map, ℤ, pos}
+use Rattle.std.proofs.lemmas.Bool.{cases_Bool, cases_eq, cases_lt, cond-true, cond-false, eqb-true}
+use Rattle.std.proofs.lemmas.List.{ext_get_or, length-map, get_or-map, get_or_past}
+use Rattle.std.proofs.lemmas.List.FromFn.{length-map-range_with_len, get_or-map-range_with_len}
+use Rattle.pivot_run.specs.Rows.{entry}
+use Rattle.pivot_run.specs.inside.Entries.{AreBelow, AreEntries, IsSplit, Rise, column, number_at, spread}
+
+-- ---- a number of a row is that of an entry, or 0 where there is none
+-- an entry that stands in the column, and its number
+abbrev pub StandsIn : List ℕ → List ℤ → ℕ → Type 0
+StandsIn ks xs c = (k : ℕ) × (k < length ks) × (column ks k ≡ c) × (number_at ks xs c ≡ entry xs k)
+
+abbrev pub IsNone : List ℕ → List ℤ → ℕ → Type 0
+IsNone ks xs c = ((k : ℕ) → k < length ks → column ks k ≢ c) × (number_at ks xs c ≡ pos 0)
+
+others : (k : ℕ) (ks : List ℕ) (c : ℕ) → k ≢ c → ((i : ℕ) → i < length ks → column ks i ≢ c) → (i : ℕ) → i < suc (length ks) → column (k ∷ ks) i ≢ c
+others k ks c first rest zero h = first
+others k ks c first rest (suc i) h = rest i (omega arith)
+
+apart : (k c : ℕ) → (k == c) ≡ false → k ≢ c
+apart k c h = λ e. absurd (grind (arith, h, e))
+
+pub number_cases : (ks : List ℕ) (xs : List ℤ) (c : ℕ) → length ks ≡ length xs → StandsIn ks xs c ⊎ IsNone ks xs c
+number_cases [] xs c e = inr (λ k h. absurd (omega arith), refl)
+number_cases (k ∷ ks) [] c e = absurd (omega arith)
+number_cases (k ∷ ks) (x ∷ xs) c e = ⊎_elim
+    (λ (same : (k == c) ≡ true). inl (0, omega arith, eqb-true k c same, cond-true (k == c) x (number_at ks xs c) same))
+    (λ (other : (k == c) ≡ false). ⊎_elim
+    (λ found. inl (suc found.0, omega (arith, found.1), found.2, cond-false (k == c) x (number_at ks xs c) other ∙ found.3))
+    (λ none. inr (others k ks c (apart k c other) none.0, cond-false (k == c) x (number_at ks xs c) other ∙ none.1))
+    (number_cases ks xs c (omega arith)))
+    (cases_Bool (k == c))
+
+pub number_of_none : (ks : List ℕ) (xs : List ℤ) (c : ℕ) → length ks ≡ length xs → ((k : ℕ) → k < length ks → column ks k ≢ c) → number_at ks xs c ≡ pos 0
+number_of_none ks xs c e none = ⊎_elim
+    (λ found. absurd (none found.0 found.1 found.2))
+    (λ nothing. nothing.1)
+    (number_cases ks xs c e)
+
+-- a column stands once
+once : (ks : List ℕ) (i k : ℕ) → Rise ks → i < length ks → k < length ks → column ks i ≡ column ks k → i ≡ k
+once ks i k rise h l e = ⊎_elim
+    (λ (less : i < k). absurd (omega (arith, rise i k less l, e)))
+    (λ (most : k ≤ i). ⊎_elim
+    (λ (more : k < i). absurd (omega (arith, rise k i more h, e)))
+    (λ (least : i ≤ k). omega arith)
+    (cases_lt k i))
+    (cases_lt i k)
+
+pub number_of_entry : (ks : List ℕ) (xs : List ℤ) (k : ℕ) → Rise ks → length ks ≡ length xs → k < length ks → number_at ks xs (column ks k) ≡ entry xs k
+number_of_entry ks xs k rise e h = ⊎_elim
+    (λ found. found.3 ∙ ap (entry xs) (once ks found.0 k rise found.1 h found.2))
+    (λ none. absurd (none.0 k h refl))
+    (number_cases ks xs (column ks k) e)
+
+-- ---- the row
+pub length_spread : (n : ℕ) (ks : List ℕ) (xs : List ℤ) → length (spread n ks xs) ≡ n
+length_spread n ks xs = length-map-range_with_len (number_at ks xs) 0 n
+
+pub entry_within : (n : ℕ) (ks : List ℕ) (xs : List ℤ) (c : ℕ) → c < n → entry (spread n ks xs) c ≡ number_at ks xs c
+entry_within n ks xs c h = get_or-map-range_with_len (number_at ks xs) 0 n c c (pos 0) h (omega arith)
+
+pub entry_spread : (n : ℕ) (ks : List ℕ) (xs : List ℤ) (c : ℕ) → length ks ≡ length xs → AreBelow ks n → entry (spread n ks xs) c ≡ number_at ks xs c
+entry_spread n ks xs c e below = ⊎_elim
+    (λ (less : c < n). entry_within n ks xs c less)
+    (λ (past : n ≤ c).
+    let long = length_spread n ks xs in
+    get_or_past (spread n ks xs) c (pos 0) (omega (arith, long))
+    ∙ sym (number_of_none ks xs c e (λ k h. λ same. absurd (omega (arith, below k h, same)))))
+    (cases_lt c n)
+
+pub spread_is : (row : List ℤ) (n : ℕ) (ks : List ℕ) (xs : List ℤ) → length row ≡ n → ((c : ℕ) → c < n → number_at ks xs c ≡ entry row c) → spread n ks xs ≡ row
+spread_is row n ks xs e each =
+    let long = length_spread n ks xs in
+    ext_get_or (pos 0) (spread n ks xs) row (long ∙ sym e)
+    (λ c h. let less : c < n = omega (arith, long) in entry_within n ks xs c less ∙ each c less)
+
+-- ---- a function of each number, which keeps 0
+number_map : (f : ℤ → ℤ) (ks : List ℕ) (xs : List ℤ) (c : ℕ) → f (pos 0) ≡ pos 0 → number_at ks (map f xs) c ≡ f (number_at ks xs c)
+number_map f [] xs c e = sym e
+number_map f (k ∷ ks) [] c e = sym e
+number_map f (k ∷ ks) (x ∷ xs) c e = ⊎_elim
+    (λ (same : (k == c) ≡ true). cond-true (k == c) (f x) (number_at ks (map f xs) c) same ∙ ap f (sym (cond-true (k == c) x (number_at ks xs c) same)))
+    (λ (other : (k == c) ≡ false).
+    cond-false (k == c) (f x) (number_at ks (map f xs) c) other ∙ number_map f ks xs c e ∙ ap f (sym (cond-false (k == c) x (number_at ks xs c) other)))
+    (cases_Bool (k == c))
+
+pub map_spread : (f : ℤ → ℤ) (n : ℕ) (ks : List ℕ) (xs : List ℤ) → f (pos 0) ≡ pos 0 → spread n ks (map f xs) ≡ map f (spread n ks xs)
+map_spread f n ks xs e =
+    let long = length_spread n ks xs in
+    spread_is (map f (spread n ks xs)) n ks (map f xs) (length-map (spread n ks xs) f ∙ long)
+    (λ c h. number_map f ks xs c e ∙ ap f (sym (entry_within n ks xs c h)) ∙ sym (get_or-map f (spread n ks xs) c (pos 0) (pos 0) (omega (arith, long))))
+
+-- ---- the number of an entry before which all others of smaller columns stand
+pub split_there : (ks : List ℕ) (xs : List ℤ) (k c : ℕ) → AreEntries ks xs → k < length ks → column ks k ≡ c → number_at ks xs c ≡ entry xs k
+split_there ks xs k c are h e = ap (number_at ks xs) (sym e) ∙ number_of_entry ks xs k are.rise are.lengths h
+
+pub split_elsewhere : (ks : List ℕ) (xs : List ℤ) (k c : ℕ) → AreEntries ks xs → IsSplit ks k c → (k < length ks → column ks k ≢ c) → number_at ks xs c ≡ pos 0
+split_elsewhere ks xs k c are split other = number_of_none ks xs c are.lengths (λ i h. λ same. ⊎_elim
+    (λ (less : i < k). absurd (omega (arith, split.before i less, same)))
+    (λ (most : k ≤ i). ⊎_elim
+    (λ (more : k < i). absurd (omega (arith, are.rise k i more h, split.after k (omega arith) (omega arith), same)))
+    (λ (least : i ≤ k). let here : i ≡ k = omega arith in absurd (other (omega arith) (ap (column ks) (sym here) ∙ same)))
+    (cases_lt k i))
+    (cases_lt i k))
+
+-- ---- the next split
+pub split_past : (ks : List ℕ) (k c : ℕ) → Rise ks → IsSplit ks k c → k < length ks → column ks k ≡ c → IsSplit ks (k + 1) (c + 1)
+split_past ks k c rise split h e = record {
+  within = omega arith;
+  before = λ i l. ⊎_elim
+      (λ (less : i < k). omega (arith, split.before i less))
+      (λ (most : k ≤ i). let here : i ≡ k = omega arith in omega (arith, ap (column ks) here, e))
+      (cases_lt i k);
+  after = λ i l m. omega (arith, rise k i (omega arith) m, e);
+}
+
+pub split_stays : (ks : List ℕ) (k c : ℕ) → Rise ks → IsSplit ks k c → (k < length ks → column ks k ≢ c) → IsSplit ks k (c + 1)
+split_stays ks k c rise split other = record {
+  within = split.within;
+  before = λ i l. omega (arith, split.before i l);
+  after = λ i l m. ⊎_elim
+      (λ (more : k < i). omega (arith, rise k i more m, split.after k (omega arith) (omega arith)))
+      (λ (least : i ≤ k). let here : i ≡ k = omega arith in ⊎_elim
+      (λ (same : column ks i ≡ c). absurd (other (omega arith) (ap (column ks) (sym here) ∙ same)))
+      (λ (apart : column ks i ≢ c). omega (arith, split.after i l m, apart))
+      (cases_eq (column ks i) c))
+      (cases_lt k i);
+}
