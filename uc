@@ -19,7 +19,8 @@ weights='uc_model 72 dual_model 48 outside 66 outside_system 132 decimal_json 14
   cert_text 366 report 180 cost_curves 72 start_costs 30 period_term 84 ramp_duals 36 system_value 84 interval_graph 36
   step_functions 114 hull_function 24 unit_path 84 unit_runs 18 unit_exact 144 dispatch_repair 228 dual_value 96
   quick_value 258 opening_tables 60 uplift 144 bundle 168 prices 216 repair_state 192 schedule_repair 228 roll 114
-  branch_tree 78 incumbent 42 steal_pool 96 search_core 156 claims 42 book 150 decommitment 270 opening 138 workers 768
+  branch_tree 78 incumbent 42 steal_pool 96 search_core 156 claims 42 book 150 decommitment 270 opening 138
+  search_desk 150 node_visits 110 closing_pass 75 tree_search 250 search_answers 110 workers 75
   schedule_check 126 state_walk 126 leaf_values 114 cert_check 126 demo_gen 48 command_line 222 uc_check 138 uc_cli 126
   uc 210'
 

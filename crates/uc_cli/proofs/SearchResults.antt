@@ -17,9 +17,9 @@ use Rattle.roll.specs.declared.rolled.Rolled.{Rolled}
 use Rattle.roll.specs.declared.rolled.Rolled.TheVariants.{Whole, Stopped}
 use Rattle.uc_model.proofs.PrintedCosts.{cost-le-printed}
 use Rattle.dual_value.specs.NodeAnswer.{MAX_VALUE}
-use Rattle.workers.specs.Writable.{HasFewRows, IsWritable}
+use Rattle.search_answers.specs.Writable.{HasFewRows, IsWritable}
 use Rattle.workers.specs.Rolling.{IsRolled}
-use Rattle.workers.specs.SearchResult.{IsSearchResult}
+use Rattle.search_answers.specs.SearchResult.{IsSearchResult}
 use Rattle.command_line.specs.Command.{Solve}
 use Rattle.uc_check.specs.Reading.{HasInstance}
 use Rattle.uc_check.specs.Checking.{IsScheduleTrue}

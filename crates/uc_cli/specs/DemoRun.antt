@@ -8,7 +8,7 @@ use Rattle.branch_tree.specs.Closing.{status_of}
 use Rattle.branch_tree.specs.StoredTree.{tree_bound}
 pub use Rattle.branch_tree.specs.declared.found.Found.{Found}
 use Rattle.demo_gen.specs.Demo.{demo_instance}
-use Rattle.workers.specs.SearchResult.{IsSearchResult}
+use Rattle.search_answers.specs.SearchResult.{IsSearchResult}
 use Rattle.report.specs.DemoReport.{demo_report}
 use Rattle.report.specs.declared.fault.Fault.{Fault}
 use Rattle.report.specs.declared.fault.Fault.TheVariants.{Write, Memory}

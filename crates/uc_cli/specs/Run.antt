@@ -10,7 +10,7 @@ use Rattle.branch_tree.specs.StoredTree.{tree_bound}
 use Rattle.branch_tree.specs.Closing.{status_of}
 use Rattle.dual_model.specs.Certificate.{WrittenSchedule}
 use Rattle.branch_tree.specs.Claims.{certificate_of, written_of}
-use Rattle.workers.specs.SearchResult.{IsSearchResult}
+use Rattle.search_answers.specs.SearchResult.{IsSearchResult}
 use Rattle.cert_text.specs.TextConditions.{HasWrittenText}
 use Rattle.branch_tree.specs.declared.found.Found.{Found}
 use Rattle.report.specs.FoundReport.{found_report}

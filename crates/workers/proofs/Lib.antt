@@ -1,13 +1,1 @@
-pub mod Answered
-pub mod Beginning
-pub mod Claimed
-pub mod Ended
-pub mod Excluded
-pub mod FewRows
-pub mod Joined
-pub mod Kept
-pub mod OwnValues
-pub mod Seats
-pub mod Settled
-pub mod WrittenTables
 pub mod Rolls

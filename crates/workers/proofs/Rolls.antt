@@ -8,8 +8,9 @@ use Rattle.roll.specs.Rolling.{IsNextPlace, IsRolledSoFar}
 use Rattle.roll.specs.Stitched.{IsContinuation, IsStitched}
 use Rattle.roll.specs.declared.places.Place.{Place}
 use Rattle.roll.proofs.SoFar.{continuation, further, place_within}
-use Rattle.workers.specs.SearchResult.{Instance, Printed}
-use Rattle.workers.specs.Writable.{IsWritable}
+use Rattle.uc_model.specs.declared.instance.Instance.{Instance}
+use Rattle.uc_model.specs.declared.schedule.Printed.{Printed}
+use Rattle.search_answers.specs.Writable.{IsWritable}
 use Rattle.workers.specs.declared.rolling.Kept.{Kept}
 use Rattle.workers.specs.declared.rolling.Plan.{Plan}
 use Rattle.workers.specs.inside.Rolls.{IsFoundAhead, IsKeptSoFar, IsPlan, IsShownAhead, MayFind}

@@ -2,7 +2,8 @@
 use Rattle.std.specs.Prelude.{ℕ, Bool}
 use Rattle.roll.specs.Rolling.{IsRolledBy}
 pub use Rattle.roll.specs.declared.rolled.Rolled.{Rolled}
-use Rattle.workers.specs.SearchResult.{Instance, IsSearchResult}
+use Rattle.uc_model.specs.declared.instance.Instance.{Instance}
+use Rattle.search_answers.specs.SearchResult.{IsSearchResult}
 
 -- the schedule of all periods is stitched of what the searches of the windows found; or the search of a window found none
 abbrev pub IsRolled : Bool → Instance → ℕ → ℕ → ℕ → ℕ → Rolled → Type 0

@@ -1,10 +1,1 @@
-pub mod Trials
-pub mod Best
-pub mod Starts
-pub mod Searches
-pub mod Answers
-pub mod Passes
-pub mod Desks
-pub mod Closings
-pub mod DeskCode
 pub mod Rolls

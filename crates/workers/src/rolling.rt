@@ -4,18 +4,19 @@ ghost use Rattle.std.specs.Prelude.{◌≡◌, ◌≤◌, ◌<◌, ℕ, IfOk, If
 ghost use Rattle.uc_model.specs.Limits.{IsLawfulInstance};
 ghost use Rattle.uc_model.specs.declared.limits.TheConstants.{MAX_PERIODS};
 ghost use Rattle.roll.specs.Rolling.{IsNextPlace};
-ghost use Rattle.workers.specs.Options.{AreOptions};
+ghost use Rattle.tree_search.specs.Options.{AreOptions};
 ghost use Rattle.workers.specs.Rolling.{IsRolled};
 ghost use Rattle.workers.specs.inside.Rolls.{IsPlan, IsKeptSoFar, IsFoundAhead, IsShownAhead, IsStep};
 
-use crate::beside::beside;
-use crate::root_search::{Options, search};
+use crate::root_search::search;
 use branch_tree::Found;
+use node_visits::beside;
 use outside::Gate;
 use roll::{Place, Rolled, begin, carry, next_place, stitch, whole_cost, window};
 use std::alloc::Global;
 use std::sync::Wait;
 use std::thread::Threads;
+use tree_search::Options;
 use uc_model::{Instance, NoMemory, Printed};
 
 /// What is rolled, how each window is searched, how many periods a window has, and how many of them are kept.

@@ -5,38 +5,22 @@ ghost use Rattle.uc_model.specs.Limits.{IsLawfulInstance};
 ghost use Rattle.dual_model.specs.Tree.{HasEachPattern};
 ghost use Rattle.opening.specs.Blocked.{HasNoBlockedUnit};
 ghost use Rattle.opening.specs.Rays.{HasNoRay};
-ghost use Rattle.workers.specs.SearchResult.{IsSearchResult};
-ghost use Rattle.workers.specs.Writable.{IsWritable};
-ghost use Rattle.workers.specs.Options.{AreOptions};
-ghost use Rattle.workers.specs.inside.Answers.{IsAnswerOf};
-ghost use Rattle.workers.specs.inside.Starts.{IsOpened};
+ghost use Rattle.search_answers.specs.SearchResult.{IsSearchResult};
+ghost use Rattle.search_answers.specs.Writable.{IsWritable};
+ghost use Rattle.tree_search.specs.Options.{AreOptions};
+ghost use Rattle.search_answers.specs.Answers.{IsAnswerOf};
+ghost use Rattle.search_answers.specs.Starts.{IsOpened};
 
-use crate::answer::{bounded, excluded, without_unit};
-use crate::beside::beside;
-use crate::grow::search_tree;
-use crate::start::{Opened, started};
-use crate::worker::Worker;
 use branch_tree::Found;
+use node_visits::{Worker, beside};
 use outside::Gate;
 use prices::Values;
+use search_answers::{Opened, bounded, excluded, started, without_unit};
 use std::alloc::Global;
 use std::sync::Wait;
 use std::thread::Threads;
+use tree_search::{Options, search_tree};
 use uc_model::{Instance, NoMemory};
-
-/// The most workers of a search.
-pub const MAX_WORKERS: u8 = 64;
-
-/// How a search goes on: at most `budget` evaluations after the opening, by so many workers, and only while the cost is above the bound by
-/// more than `gap` parts per million of its size. Where `exact_units`, the rays of the opening and each claim are by exact values VE, which keep
-/// ramps in each unit; else by values V.
-#[derive(Clone, Copy, Debug)]
-pub struct Options {
-    pub budget: u32,
-    pub workers: u8,
-    pub gap: u32,
-    pub exact_units: bool,
-}
 
 /// What the search finds: a leaf for the first unit without an allowed pattern, by exact values else for the first without a schedule of its
 /// own, or for the first ray of the opening that leaves no schedule, without any claim; or else a bound, and a schedule where the drop

@@ -6,9 +6,11 @@ use Rattle.branch_tree.specs.declared.found.Found.{Found}
 use Rattle.roll.specs.NextWindow.{IsNextWindow}
 use Rattle.roll.specs.Rolling.{IsRolledSoFar}
 use Rattle.roll.specs.declared.places.Place.{Place}
-use Rattle.workers.specs.Options.{AreOptions}
+use Rattle.tree_search.specs.Options.{AreOptions}
 use Rattle.workers.specs.Rolling.{IsRolled}
-use Rattle.workers.specs.SearchResult.{Instance, Printed, IsSearchResult}
+use Rattle.uc_model.specs.declared.instance.Instance.{Instance}
+use Rattle.uc_model.specs.declared.schedule.Printed.{Printed}
+use Rattle.search_answers.specs.SearchResult.{IsSearchResult}
 use Rattle.workers.specs.declared.rolling.Plan.{Plan}
 use Rattle.workers.specs.declared.rolling.Kept.{Kept}
 use Rattle.workers.specs.declared.rolling.Step.{Step}

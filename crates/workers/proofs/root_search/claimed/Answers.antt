@@ -6,12 +6,14 @@ use Rattle.decommitment.specs.Standings.{IsDropped, ending_of}
 use Rattle.opening.specs.Blocked.{HasNoBlockedUnit}
 use Rattle.opening.specs.Rays.{HasNoRay}
 use Rattle.opening.specs.RootTables.{IsPricedOf}
-use Rattle.workers.specs.Opening.{Instance, IsRootTable}
-use Rattle.workers.specs.inside.Answers.{IsAnswerOf}
-use Rattle.workers.specs.inside.Best.{IsBest}
-use Rattle.workers.specs.inside.Searches.{IsGrown}
-use Rattle.workers.proofs.Answered.{opening_quiet}
-use Rattle.workers.proofs.WrittenTables.{each_within}
+use Rattle.uc_model.specs.declared.instance.Instance.{Instance}
+use Rattle.search_answers.specs.Opening.{IsRootTable}
+use Rattle.search_answers.specs.Answers.{IsAnswerOf}
+use Rattle.search_answers.specs.Best.{IsBest}
+use Rattle.search_desk.specs.Grown.{IsGrown}
+use Rattle.search_answers.proofs.Answered.{opening_quiet}
+use Rattle.search_answers.proofs.NoDearer.{no_dearer_through}
+use Rattle.search_answers.proofs.WrittenTables.{each_within}
 use Rattle.workers.proofs.root_search.claimed.Goals as goal
 
 pub bounded-requires-clause-patterns : goal.bounded-requires-clause-patterns
@@ -39,7 +41,7 @@ returns g c =
     let grown = c.in_ok-grown.ensures.grown in
     let best : IsBest instance (ending_of stands) left.best = record {
       accepted = grown.accepted;
-      no_dearer = c.in_ok-grown.ensures.no_worse (ending_of stands) opened.is_best.no_dearer;
+      no_dearer = no_dearer_through c.args.opened.start.best left.best (ending_of stands) c.in_ok-grown.ensures.no_worse opened.is_best.no_dearer;
     } in
     subst (λ (i : Instance). IfOk c.bounded.result (IsAnswerOf exact i budget gap)) own
     (c.bounded.ensures exact budget gap stands opening (subst (HasNoRay exact) (sym own) c.requires.rays)

@@ -1,7 +1,8 @@
 -- The worker stays the instance's.
 use Rattle.std.proofs.Common.{◌∙◌, subst, sym, IfOk}
 use Rattle.dual_model.specs.Tree.{HasEachPattern}
-use Rattle.workers.specs.inside.Answers.{Instance, IsAnswerOf}
+use Rattle.uc_model.specs.declared.instance.Instance.{Instance}
+use Rattle.search_answers.specs.Answers.{IsAnswerOf}
 use Rattle.workers.proofs.root_search.patterned.Goals as goal
 
 pub without_unit-requires-clause-patterns : goal.without_unit-requires-clause-patterns

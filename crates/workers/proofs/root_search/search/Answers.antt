@@ -1,9 +1,10 @@
 -- The answer is a search result that can be written.
 use Rattle.std.proofs.Common.{subst, IfOk}
 use Rattle.std.proofs.lemmas.Result.{IfOk-weaker}
-use Rattle.workers.specs.SearchResult.{Instance, IsSearchResult}
-use Rattle.workers.specs.Writable.{IsWritable}
-use Rattle.workers.specs.inside.Answers.{IsAnswerOf}
+use Rattle.uc_model.specs.declared.instance.Instance.{Instance}
+use Rattle.search_answers.specs.SearchResult.{IsSearchResult}
+use Rattle.search_answers.specs.Writable.{IsWritable}
+use Rattle.search_answers.specs.Answers.{IsAnswerOf}
 use Rattle.workers.proofs.root_search.search.Goals as goal
 
 pub returns-clause-result : goal.returns-clause-result

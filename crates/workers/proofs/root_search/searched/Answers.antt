@@ -3,8 +3,9 @@ use Rattle.std.proofs.Common.{◌∙◌, subst, sym, IfOk}
 use Rattle.dual_model.specs.Tree.{HasEachPattern}
 use Rattle.decommitment.specs.Standings.{IsDropped}
 use Rattle.opening.specs.Blocked.{HasNoBlockedUnit}
-use Rattle.workers.specs.inside.Answers.{Instance, IsAnswerOf}
-use Rattle.workers.specs.inside.Starts.{IsOpened}
+use Rattle.uc_model.specs.declared.instance.Instance.{Instance}
+use Rattle.search_answers.specs.Answers.{IsAnswerOf}
+use Rattle.search_answers.specs.Starts.{IsOpened}
 use Rattle.workers.proofs.root_search.searched.Goals as goal
 
 pub excluded-requires-clause-patterns : goal.excluded-requires-clause-patterns

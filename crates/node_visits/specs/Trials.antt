@@ -1,0 +1,34 @@
+-- What a claim is evaluated at.
+use Rattle.std.specs.Prelude.{◌≡◌, ℕ, ◌+◌, ◌≤◌, Bool, pos, IfSome, Option, None, Some}
+use Rattle.uc_model.specs.declared.instance.Instance.{Instance}
+use Rattle.dual_model.specs.Prices.{IsLawfulTable}
+use Rattle.dual_model.specs.declared.table.Table.{Table}
+use Rattle.prices.specs.declared.ascent.Ascent.{Ascent}
+use Rattle.search_core.specs.Runs.{IsTrueOutcome}
+use Rattle.opening.specs.Outcomes.{IsSized}
+use Rattle.search_desk.specs.declared.desk.Claim.{Claim}
+use Rattle.search_desk.specs.declared.desk.Evaluated.{Evaluated}
+use Rattle.search_desk.specs.Desks.{IsScaledWithin}
+
+-- an ascent to a lawful table, whose scale is that of the claim of this unit, with a lawful ray if it ran off
+pub record IsAscentFor (instance : Instance) (unit : ℕ) (ascent : Ascent) : Type 0 where
+  pub lawful : IsLawfulTable instance ascent.table
+  pub scale : ascent.table.k ≡ pos (1000000 + unit)
+  pub ray : IfSome ascent.ray (IsLawfulTable instance)
+  pub ray_scale : IfSome ascent.ray (λ ray. ray.k ≡ pos 0)
+
+-- an ascent that may have been made already
+abbrev pub IsNextAt : Instance → ℕ → Option Ascent → Type 0
+IsNextAt instance unit None = Unit {0}
+IsNextAt instance unit (Some ascent) = IsAscentFor instance unit ascent
+
+-- a lawful table, of a scale at most that of the claim, or the one that its node stores
+pub record IsTableFor (instance : Instance) (claim : Claim) (table : Table) : Type 0 where
+  pub lawful : IsLawfulTable instance table
+  pub scaled : (limit : ℕ) → claim.unit ≤ limit → IsScaledWithin limit claim.table → IsScaledWithin limit table
+
+-- an evaluation of the kind of the claim's node at such a table
+pub record IsEvaluatedFor (exact : Bool) (instance : Instance) (claim : Claim) (done : Evaluated) : Type 0 where
+  pub table : IsTableFor instance claim done.table
+  pub told : IsTrueOutcome exact instance claim.path done.table done.outcome
+  pub sized : IsSized done.outcome

@@ -1,0 +1,6 @@
+pub mod Answered
+pub mod RootsExcluded
+pub mod FewRows
+pub mod NoDearer
+pub mod OwnValues
+pub mod WrittenTables

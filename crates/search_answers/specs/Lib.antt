@@ -1,0 +1,6 @@
+pub mod Opening
+pub mod SearchResult
+pub mod Writable
+pub mod Best
+pub mod Starts
+pub mod Answers

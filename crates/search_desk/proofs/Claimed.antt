@@ -1,0 +1,109 @@
+-- What a worker knows of a node that it holds.
+use Rattle.std.proofs.Common.{◌≡◌, ⊎_elim, ◌⊎◌, ℕ, suc, ◌<◌, ◌≤◌, Bool, false, true, All, List, [], ◌∷◌, ◌++◌, length, ap, sym, subst, arith, ℤ, Option, Some, refl, length-append, slice_get}
+use Rattle.std.proofs.lemmas.List.Elements.{All-nil, All-cons, All-append}
+use Rattle.std.proofs.lemmas.Option.{get_or_from_slice_get, slice_get_within}
+use Rattle.dual_model.specs.Fixings.{IsCell, IsNodeOf}
+use Rattle.dual_model.specs.Prices.{IsLawfulTable}
+use Rattle.dual_model.specs.Tree.{root, child, IsCoverBelow}
+use Rattle.dual_model.specs.declared.node.Fixing.{Fixing}
+use Rattle.dual_model.specs.declared.node.Node.{Node}
+use Rattle.branch_tree.specs.NumberedTree.{node_count, NumberedTree, EndAt, SplitAt, Subtree, unnumbered, subtree_below, subtree_at}
+use Rattle.branch_tree.specs.StoredTree.{IsNodeAt}
+use Rattle.branch_tree.proofs.Changes.{from_some}
+use Rattle.branch_tree.proofs.Subtrees.{IsHere, leaf_case, subtree_cases}
+use Rattle.book.specs.BookView.{BookView, state_of}
+use Rattle.book.specs.Calls.{IsClaimAnswer, IsStoredAt, IsUnitHeld, claimed}
+use Rattle.book.specs.Claims.{holders}
+use Rattle.book.specs.declared.claims.Claim.{Claim}
+use Rattle.book.specs.declared.claims.Claimed.TheVariants.{Mine}
+use Rattle.book.specs.declared.claims.Status.TheVariants.{Held}
+use Rattle.book.proofs.Units.{held_part}
+use Rattle.search_core.specs.Machine.{IsHolding, holder_in}
+use Rattle.book.specs.Opening.{Opening, IsTrueOpening}
+use Rattle.book.specs.Replay.{number_of, replayed}
+use Rattle.book.proofs.Books.{run_holds}
+use Rattle.book.proofs.Steps.{held_still}
+use Rattle.search_core.specs.Runs.{TreeRunsHold}
+use Rattle.search_core.proofs.Claims.{holdable}
+use Rattle.book.specs.Running.{IsRunning}
+use Rattle.search_desk.specs.Desks.{Instance, Table, IsKeptBy, IsScaledWithin}
+
+-- a node of a cover is a node of the instance
+below_node_of : (instance : Instance) (here : Node) (tree : NumberedTree) (wanted : ℕ) (part : Subtree) → IsNodeOf instance here
+    → IsCoverBelow instance here (unnumbered tree) → subtree_below here tree wanted ≡ Some part → IsNodeOf instance part.node
+below_node_of instance here (EndAt number l) wanted part is cover e =
+    let h = leaf_case here number l wanted part e in
+    subst (IsNodeOf instance) (sym (ap (λ (p : Subtree). p.node) h.whole)) is
+below_node_of instance here (SplitAt number g t off on) wanted part is cover e =
+    let cell : (b : _) → IsNodeOf instance (child here g t b) = λ b.
+    All-append (λ (fixing : Fixing). IsCell instance fixing.g fixing.t) here.fixings ((record { g = g; t = t; on = b }) ∷ []) is
+    (All-cons (λ (fixing : Fixing). IsCell instance fixing.g fixing.t) (record { g = g; t = t; on = b }) [] cover.0 (All-nil (λ (fixing : Fixing). IsCell instance fixing.g fixing.t))) in
+    ⊎_elim
+    (λ (h : IsHere here (SplitAt number g t off on) wanted part). subst (IsNodeOf instance) (sym (ap (λ (p : Subtree). p.node) h.whole)) is)
+    (λ (sides : (subtree_below (child here g t false) off wanted ≡ Some part) ⊎ (subtree_below (child here g t true) on wanted ≡ Some part)). ⊎_elim
+    (λ (l : subtree_below (child here g t false) off wanted ≡ Some part). below_node_of instance (child here g t false) off wanted part (cell false) cover.2 l)
+    (λ (r : subtree_below (child here g t true) on wanted ≡ Some part). below_node_of instance (child here g t true) on wanted part (cell true) cover.3 r)
+    sides)
+    (subtree_cases here number g t off on wanted part e)
+
+pub node_of : (opening : Opening) (book : BookView) (number : ℕ) (node : Node) → IsRunning opening book → IsNodeAt book.tree number node
+    → IsNodeOf opening.instance node
+node_of opening book number node running at =
+    let part = from_some (λ (p : Subtree). p.node) (subtree_at book.tree.nodes number) node at in
+    subst (IsNodeOf opening.instance) part.2
+    (below_node_of opening.instance root book.tree.nodes number part.0 (All-nil (λ (fixing : Fixing). IsCell opening.instance fixing.g fixing.t))
+    running.tree.cover part.1)
+
+-- an item of a list of which each is so
+pub listed : {A : Type 0} (P : A → Type 0) (xs : List A) (place : ℕ) (x : A) → All P xs → slice_get xs place ≡ Some x → P x
+listed P xs place x each is =
+    subst P (get_or_from_slice_get xs place x x is) (each place x (slice_get_within xs place x is))
+
+-- the table that the node stores
+pub stored_lawful : (opening : Opening) (book : BookView) (unit : ℕ) (node : Node) (table : Table) (value : ℤ) → IsRunning opening book
+    → IsStoredAt book unit node table value → IsLawfulTable opening.instance table
+stored_lawful opening book unit node table value running is =
+    listed (IsLawfulTable opening.instance) book.tables _ table running.tree.tables is.is_table
+
+pub stored_scaled : (exact : Bool) (opening : Opening) (book : BookView) (seen : Option ℤ) (limit unit : ℕ) (node : Node) (table : Table) (value : ℤ)
+    → IsKeptBy exact opening book seen limit → IsStoredAt book unit node table value → IsScaledWithin limit table
+stored_scaled exact opening book seen limit unit node table value kept is =
+    listed (IsScaledWithin limit) book.tables _ table kept.scaled is.is_table
+
+-- a unit that is held is one of the budget's
+pub unit_within : (opening : Opening) (book : BookView) (worker unit node : ℕ) → IsRunning opening book
+    → IsHolding (state_of book) worker unit node → unit ≤ opening.budget
+unit_within opening book worker unit node running holds =
+    let part = held_part book.claims worker unit node holds in
+    omega (
+      arith,
+      part.unit_is,
+      ap (λ l. length l) part.is,
+      length-append part.before (part.claim ∷ part.after),
+      running.few,
+      running.budget,
+    )
+
+-- the claim that was just made is held
+pub claim_held : (old new : BookView) (worker node unit had : ℕ) → IsClaimAnswer old worker node new (Mine unit had) → IsUnitHeld new unit
+claim_held old new worker node unit had answer = record {
+  worker = worker;
+  node = node;
+  holds = subst (λ (b : BookView). IsHolding (state_of b) worker unit node) (sym answer.4)
+      (subst (λ u. IsHolding (state_of (claimed old worker node)) worker u node) (sym answer.2) (last_held old.claims));
+}
+  where
+    own : Claim
+    own = record { worker = worker; node = node; behind = length old.log; status = Held }
+
+    last_held : (claims : List Claim) → holder_in (holders (claims ++ own ∷ [])) (suc (length claims)) ≡ Some (record { worker = worker; node = node })
+    last_held [] = refl
+    last_held (claim ∷ claims) = last_held claims
+
+-- a node that is held is one of the tree
+pub held_below : TreeRunsHold → (opening : Opening) (book : BookView) (worker unit node : ℕ) → IsTrueOpening opening → IsRunning opening book
+    → IsHolding (state_of book) worker unit node → node < node_count book.tree.nodes
+held_below law opening book worker unit node begun running holds =
+    let orderly = (run_holds law opening book begun running.replays).1 in
+    (holdable (replayed book running.replays.desks) worker (number_of book.claims unit) node orderly
+    (held_still book unit (record { worker = worker; node = node }) holds)).below

@@ -1,0 +1,18 @@
+-- Where memory was refused claims may be given back.
+use Rattle.search_desk.proofs.Kept.{safe_abandon}
+use Rattle.search_desk.proofs.desk.Desk.give_back.Goals as goal
+
+pub invariant_of-self : goal.invariant_of-self
+invariant_of-self g c =
+    let desk = c.self.invariant.0 in (
+      record {
+        object = desk.object;
+        mine = desk.mine;
+        parts = desk.parts;
+        kept = safe_abandon g.C.Run.exact g.C.Case.opening c.self.inside.book c.abandon.new.self c.self.inside.pass.seen g.C.Case.opening.budget c.args.me c.args.unit
+            c.abandon.result desk.kept c.abandon.ensures;
+        complete = λ whole. absurd (cc);
+      },
+      c.self.invariant.1,
+      c.self.invariant.2,
+    )

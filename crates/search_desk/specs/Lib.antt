@@ -1,0 +1,6 @@
+pub mod Best
+pub mod Passes
+pub mod Kinds
+pub mod Desks
+pub mod DeskCode
+pub mod Grown

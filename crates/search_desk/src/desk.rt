@@ -1,0 +1,371 @@
+//! The desk: what the workers share under the lock.
+
+ghost use Rattle.std.specs.Prelude.{◌≡◌, ◌≤◌, false, None, IfOk};
+ghost use Rattle.uc_model.specs.declared.tolerance.TheConstants.{WHOLE_GAP};
+ghost use Rattle.search_core.specs.Runs.{IsTrueOutcome};
+ghost use Rattle.opening.specs.Outcomes.{IsSized};
+ghost use Rattle.search_desk.specs.Desks.{IsPrunedBy, IsScaledWithin};
+
+use crate::run::Run;
+use book::{Book, Claimed};
+use branch_tree::{Outcome, is_within_gap};
+use dual_model::{Node, Table};
+use incumbent::{Best, Pass};
+use search_core::Move;
+use search_core::laws::tree_runs_hold;
+use std::alloc::Global;
+use std::marker::Model;
+use uc_model::tolerance::cost_less_tolerance_never_decreases;
+use uc_model::{NoMemory, floor_div};
+
+/// A node that a worker holds by the claim of a unit: its number, how many entries the log had of it, the decisions on its path, the table
+/// that it stores with its bound, and the least cost that was seen, both in micro-dollars.
+#[derive(Drop)]
+pub struct Claim {
+    pub unit: u32,
+    pub node: u32,
+    pub had: u32,
+    pub path: Node,
+    pub table: Table,
+    pub bound: i128,
+    pub seen: Option<i64>,
+}
+
+/// What a worker that asks for a node gets.
+#[derive(Drop)]
+pub enum Taken {
+    /// The search is over.
+    Over,
+    /// The node isn't open any more.
+    Gone,
+    /// Memory was refused.
+    Refused,
+    Mine(Claim),
+}
+
+/// An evaluation of the node that is held: its table, what came out, and the cell that the node is split on where it isn't closed; none where
+/// it is left whole.
+#[derive(Drop)]
+pub struct Evaluated {
+    pub table: Table,
+    pub outcome: Outcome,
+    pub cell: Option<(u32, u32)>,
+}
+
+/// What a commit left: the move, or none where it was refused; the off-child and the on-child of a split; the bound of the node, in
+/// micro-dollars; the tree's bound and the least cost that was seen; and how many workers wait for a node.
+#[derive(Clone, Copy)]
+pub struct Left {
+    pub action: Option<Move>,
+    pub children: Option<(u32, u32)>,
+    pub stored: i128,
+    pub bound: Option<i128>,
+    pub seen: Option<i64>,
+    pub waiting: u32,
+}
+
+// A unit by which a node is held, how many entries the log has of it, and the least cost that was seen.
+#[derive(Clone, Copy)]
+struct Held {
+    unit: u32,
+    node: u32,
+    had: u32,
+    seen: Option<i64>,
+}
+
+/// How many workers are at work and how many of them wait for a node; how often there was news for these; whether the search is over.
+#[derive(Clone, Copy)]
+struct Rota {
+    running: u32,
+    waiting: u32,
+    news: u64,
+    over: bool,
+}
+
+/// The book of the search, a pass by which the workers prune, whether claims evaluate VE, and how the workers stand.
+#[derive(Drop)]
+pub struct Desk<C: Run> {
+    book: Book<C>,
+    pass: Pass,
+    gap: u32,
+    exact: bool,
+    rota: Rota,
+    failed: bool,
+}
+
+impl<C: Run> Model for Desk<C> {
+    ghost use Rattle.search_desk.specs.Desks.{DeskView};
+    ghost use Rattle.search_desk.specs.DeskCode.{desk_code};
+
+    ghost Value = { DeskView };
+
+    ghost coded = { desk_code };
+
+    ghost use Rattle.std.specs.Prelude.{◌≡◌};
+    ghost use Rattle.search_desk.specs.Desks.{IsDesk};
+
+    ghost view = { λ desk. record { book = desk.book; seen = desk.pass.seen; failed = desk.failed } };
+
+    ghost invariant = { λ desk. IsDesk C.exact C.opening C.incumbent desk.book desk.pass desk.failed × (desk.gap ≡ C.opening.gap)
+        × (desk.exact ≡ C.exact) };
+}
+
+impl<C: Run> Desk<C> {
+    ghost use Rattle.std.specs.Prelude.{◌≡◌, ◌≤◌, false, None, All, IfOk};
+    ghost use Rattle.book.specs.BookView.{opened};
+    ghost use Rattle.book.specs.Calls.{IsUnitHeld, IsClaimAnswer};
+    ghost use Rattle.book.specs.Opening.{IsTrueOpening};
+    ghost use Rattle.incumbent.specs.Costs.{AtMost};
+    ghost use Rattle.search_desk.specs.Desks.{IsKeptBy, IsKeptClaim, IsPrunedBy, IsTakenOf};
+
+    /// The desk of a search that begins with this book.
+    pub fn new(book: Book<C>, pass: Pass, gap: u32, exact: bool) -> Desk<C>
+        requires begun { IsTrueOpening C.opening }
+        requires scaled { IsScaledWithin C.opening.budget C.opening.table }
+        requires book { book ≡ opened C.opening }
+        requires object { pass.object ≡ C.incumbent }
+        requires mine { pass.mine ≡ None }
+        requires parts { pass.parts ≡ 1 }
+        requires gap { gap ≡ C.opening.gap }
+        requires kind { exact ≡ C.exact }
+        ensures { result ≡ record { book = book; seen = pass.seen; failed = false } }
+    {
+        Desk {
+            book,
+            pass,
+            gap,
+            exact,
+            rota: Rota {
+                running: 0,
+                waiting: 0,
+                news: 0,
+                over: false,
+            },
+            failed: false,
+        }
+    }
+
+    // The least cost so far.
+    fn look(&mut self, best: &Best) -> Option<i64>
+        requires { best.now.object ≡ C.incumbent }
+        ensures seen { self.new.seen ≡ result }
+        ensures book { self.new.book ≡ self.old.book }
+    {
+        cost_less_tolerance_never_decreases();
+        best.look(&mut self.pass)
+    }
+
+    /// Claims the node for the worker, unless the search is over: the least cost is within the gap of the tree's bound, no leaf has a
+    /// bound, or the budget is spent.
+    pub fn claim(&mut self, alloc: Global, best: &Best, me: u8, node: u32) -> Taken
+        requires { best.now.object ≡ C.incumbent }
+        ensures { IsTakenOf C.opening result }
+    {
+        let seen = self.look(best);
+        if self.rota.over || self.is_finished(seen) {
+            self.rota.over = true;
+            return Taken::Over;
+        }
+        match self.take(me, node) {
+            Claimed::Spent => {
+                self.rota.over = true;
+                Taken::Over
+            }
+            Claimed::NotOpen => Taken::Gone,
+            Claimed::Mine { unit, had } => self.held(
+                alloc,
+                me,
+                Held {
+                    node,
+                    unit,
+                    had,
+                    seen,
+                },
+            ),
+        }
+    }
+
+    // Whether the cost is within the gap of the tree's bound, or no leaf has one.
+    fn is_finished(&self, seen: Option<i64>) -> bool {
+        match (self.book.bound(), seen) {
+            (None, _) => true,
+            (Some(bound), Some(cost)) => is_within_gap(&cost, &Some(bound), self.gap),
+            (Some(_), None) => false,
+        }
+    }
+
+    // Claims the node.
+    fn take(&mut self, me: u8, node: u32) -> Claimed
+        ensures { IsClaimAnswer self.old.book me node self.new.book result }
+    {
+        self.book.claim(me, node)
+    }
+
+    // What the worker holds by the unit. Where memory is refused the claim is given back.
+    fn held(&mut self, alloc: Global, me: u8, held: Held) -> Taken
+        requires { IsUnitHeld self.old.book held.unit }
+        ensures { IsTakenOf C.opening result }
+    {
+        self.book.keeps_run();
+        match self.book.holding(alloc, held.unit) {
+            Ok((path, table, bound)) => Taken::Mine(Claim {
+                unit: held.unit,
+                node: held.node,
+                had: held.had,
+                path,
+                table,
+                bound,
+                seen: held.seen,
+            }),
+            Err(NoMemory) => {
+                self.give_back(me, held.unit);
+                Taken::Refused
+            }
+        }
+    }
+
+    /// Gives the worker's claim of this unit back, since memory was refused, which ends the search.
+    pub fn give_back(&mut self, me: u8, unit: u32) {
+        self.rota.over = true;
+        self.failed = true;
+        self.book.abandon(me, unit);
+    }
+
+    /// Commits the evaluation of the node that the worker holds by the claim: it is closed where this may be, and else split on its cell or left open.
+    /// A claim whose commit is refused stays held.
+    pub fn commit(&mut self, best: &Best, me: u8, claim: &Claim, done: Evaluated) -> Left
+        requires object { best.now.object ≡ C.incumbent }
+        requires outcome { IsTrueOutcome C.exact C.opening.instance claim.now.path done.table done.outcome }
+        requires sized { IsSized done.outcome }
+        requires scaled { IsScaledWithin C.opening.budget done.table }
+    {
+        let seen = self.look(best);
+        let stored = stored_bound(claim.bound, &done);
+        let action = ending(seen, stored, self.gap, &done);
+        let entered = self.enter(me, claim, done, action);
+        Left {
+            action: if entered { Some(action) } else { None },
+            children: self.book.children(claim.node),
+            stored,
+            bound: self.book.bound(),
+            seen,
+            waiting: self.rota.waiting,
+        }
+    }
+
+    // Commits the evaluation by this move, if the book takes it.
+    fn enter(&mut self, me: u8, claim: &Claim, done: Evaluated, action: Move) -> bool
+        requires outcome { IsTrueOutcome C.exact C.opening.instance claim.now.path done.table done.outcome }
+        requires sized { IsSized done.outcome }
+        requires scaled { IsScaledWithin C.opening.budget done.table }
+        requires pruned { IsPrunedBy self.old.seen action }
+    {
+        tree_runs_hold();
+        self.book.keeps_run();
+        self.book.commit(
+            me,
+            claim.unit,
+            &claim.path,
+            done.table,
+            self.exact,
+            done.outcome,
+            action,
+        )
+    }
+
+    /// A worker begins.
+    pub fn begin(&mut self) {
+        self.rota.running = self.rota.running.saturating_add(1);
+    }
+
+    /// A worker ends; and so do the others, if memory was refused.
+    pub fn end(&mut self, refused: bool) {
+        self.rota.running = self.rota.running.saturating_sub(1);
+        self.rota.over = true;
+        self.failed = self.failed || refused;
+    }
+
+    /// There is news for the workers that wait: a node, or that the search is over.
+    pub fn tell(&mut self) {
+        self.rota.news = self.rota.news.wrapping_add(1);
+    }
+
+    /// Whether there was no news since, and the search isn't over.
+    pub fn is_quiet(&self, news: u64) -> bool {
+        self.rota.news == news && !self.rota.over
+    }
+
+    /// A worker begins to wait for a node, and is told how often there was news. Where all workers do the search is over: no node is in any
+    /// hand or queue.
+    pub fn rest(&mut self) -> u64 {
+        self.rota.waiting = self.rota.waiting.saturating_add(1);
+        if self.rota.waiting >= self.rota.running {
+            self.rota.over = true;
+        }
+        self.rota.news
+    }
+
+    /// A worker waits no more. Whether the search is over.
+    pub fn rise(&mut self) -> bool {
+        self.rota.waiting = self.rota.waiting.saturating_sub(1);
+        self.rota.over
+    }
+
+    /// The book and the pass, if memory was never refused.
+    pub fn close(self) -> Result<(Book<C>, Pass), NoMemory>
+        ensures book { IfOk result (λ both. both.0 ≡ self.book) }
+        ensures seen { IfOk result (λ both. both.1.seen ≡ self.seen) }
+        ensures object { IfOk result (λ both. both.1.object ≡ C.incumbent) }
+        ensures mine { IfOk result (λ both. both.1.mine ≡ None) }
+        ensures parts { IfOk result (λ both. both.1.parts ≡ 1) }
+        ensures kept { IfOk result (λ both. IsKeptBy C.exact C.opening both.0 both.1.seen C.opening.budget) }
+        ensures complete { IfOk result (λ both. All IsKeptClaim both.0.claims) }
+    {
+        let Desk {
+            book,
+            pass,
+            failed,
+            ..
+        } = self;
+        if failed {
+            return Err(NoMemory);
+        }
+        Ok((book, pass))
+    }
+}
+
+// The bound that the node stores after the evaluation, in micro-dollars.
+fn stored_bound(former: i128, done: &Evaluated) -> i128 {
+    match done.outcome {
+        Outcome::Value(value) if done.table.k() > 0 => {
+            former.max(floor_div(value, i128::from(done.table.k())))
+        }
+        _ => former,
+    }
+}
+
+// The move that ends the claim: a unit has no pattern at the node, the table is a ray that excludes it, or its bound is within the gap of
+// the cost that was seen; else the node is split or left open.
+fn ending(seen: Option<i64>, stored: i128, gap: u32, done: &Evaluated) -> Move
+    requires { gap ≤ WHOLE_GAP }
+    ensures { IsPrunedBy seen result }
+{
+    match (done.outcome, seen) {
+        (Outcome::Empty(_), _) => Move::Empty,
+        (Outcome::Value(value), _) if done.table.k() == 0 && value > 0 => Move::Ray,
+        (Outcome::Value(_), Some(cost)) if is_within_gap(&cost, &Some(stored), gap) => {
+            Move::Prune { seen: cost }
+        }
+        _ => open_move(done.cell),
+    }
+}
+
+// The move that leaves the node open, or splits it on the cell.
+fn open_move(cell: Option<(u32, u32)>) -> Move
+    ensures { (seen : _) → IsPrunedBy seen result }
+{
+    match cell {
+        Some((g, t)) => Move::Split { g, t },
+        None => Move::Again,
+    }
+}

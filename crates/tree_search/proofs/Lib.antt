@@ -1,0 +1,4 @@
+pub mod Beginning
+pub mod Joined
+pub mod Left
+pub mod Seats

@@ -1,0 +1,53 @@
+-- What the workers and the closing pass leave is what the search leaves.
+use Rattle.std.proofs.Common.{◌≡◌, ◌∙◌, true, false, ap, subst, sym, Some}
+use Rattle.uc_model.specs.declared.instance.Instance.{Instance}
+use Rattle.branch_tree.specs.Closing.{is_schedule_within}
+use Rattle.schedule_check.specs.Accepted.{IsAcceptedIfFound}
+use Rattle.search_core.specs.Moves.{bound_of}
+use Rattle.book.specs.Opening.{Opening}
+use Rattle.search_desk.specs.Best.{IsNoWorse, cost_of}
+use Rattle.search_desk.specs.Grown.{IsGrown}
+use Rattle.tree_search.proofs.Beginning.{closed_ended}
+use Rattle.tree_search.proofs.Joined.{at_most_itself, at_most_through}
+use Rattle.tree_search.proofs.grow.grown.Goals as goal
+
+pub left-requires : goal.left-requires
+left-requires g c =
+    let begun = c.args.begun in
+    let gap = c.args.options.now.gap in
+    let closed = ap (λ it. is_schedule_within it (Some (bound_of begun.start.opening.value begun.start.opening.table.k)) gap) c.into_schedule.ensures
+    ∙ sym c.is_closed.ensures ∙ c.if-is_closed.true in
+    closed_ended g.C.Run.exact g.C.Case.opening c.args.book begun.worker begun.start.opening c.args.options.now.budget gap c.into_schedule.result
+    c.requires.opening c.requires.lawful c.requires.options.budget c.requires.options.gap c.requires.priced c.requires.book closed
+
+pub returns-then-is_closed-clause-grown : goal.returns-then-is_closed-clause-grown
+returns-then-is_closed-clause-grown g c =
+    subst (λ exact. IsGrown exact c.args.begun.worker c.args.begun.start.opening c.args.options.now.budget c.args.options.now.gap c.left.result)
+    c.requires.kind
+    (c.left.ensures.grown c.args.begun.worker c.args.begun.start.opening c.args.options.now.budget c.args.options.now.gap c.requires.opening
+    (subst (IsAcceptedIfFound c.args.begun.worker) (sym c.into_schedule.ensures) c.requires.accepted))
+
+pub returns-then-is_closed-clause-no_worse : goal.returns-then-is_closed-clause-no_worse
+returns-then-is_closed-clause-no_worse g c =
+    let first = c.args.begun.start.best in
+    subst (IsNoWorse first) (sym (c.left.ensures.best ∙ c.into_schedule.ensures)) (at_most_itself (cost_of first))
+
+pub returns-clause-grown : goal.returns-clause-grown
+returns-clause-grown g c =
+    subst (λ exact. IsGrown exact c.args.begun.worker c.args.begun.start.opening c.args.options.now.budget c.args.options.now.gap c.left-2.result)
+    c.requires.kind
+    (c.left-2.ensures.grown c.args.begun.worker c.args.begun.start.opening c.args.options.now.budget c.args.options.now.gap c.requires.opening
+    (subst (λ (i : Instance). IsAcceptedIfFound i c.in_ok-book.schedule) (ap (λ (o : Opening). o.instance) c.requires.opening)
+    c.in_ok-book.ensures.accepted))
+
+pub returns-clause-no_worse : goal.returns-clause-no_worse
+returns-clause-no_worse g c =
+    let first = c.args.begun.start.best in
+    subst (IsNoWorse first) (sym c.left-2.ensures.best)
+    (at_most_through (cost_of c.in_ok-book.schedule) (cost_of c.into_crew.result.own.schedule) (cost_of first) c.in_ok-book.ensures.no_worse
+    c.into_crew.ensures.no_worse)
+
+pub returns-clause-quiet : goal.returns-clause-quiet
+returns-clause-quiet g c = λ closed.
+    let differ : true ≡ false = sym closed ∙ sym c.is_closed.ensures ∙ c.if-is_closed.false in
+    absurd (cc)

@@ -1,0 +1,10 @@
+-- What the book has is what the search leaves.
+use Rattle.std.proofs.Common.{refl, subst}
+use Rattle.branch_tree.specs.TreeView.{IsWhole}
+use Rattle.tree_search.proofs.Left.{ended_grown}
+use Rattle.tree_search.proofs.grow.left.Goals as goal
+
+pub returns-clause-grown : goal.returns-clause-grown
+returns-clause-grown g c = λ instance opening budget gap same accepted.
+    ended_grown g.C.Run.exact g.C.Case.opening c.args.book c.args.best instance opening budget gap _ same c.keeps_run.ensures (subst IsWhole c.finish-tree.ensures.tree c.keeps_cover.ensures) c.requires accepted
+    c.finish-tree.ensures.tree c.finish-tree.ensures.tables c.finish-tree.ensures.log refl

@@ -1,0 +1,385 @@
+//! The workers: each claims nodes, evaluates them, and repairs the ascents that it made, until the search is over.
+
+ghost use Rattle.std.specs.Prelude.{◌≡◌, ◌≤◌};
+ghost use Rattle.uc_model.specs.declared.tolerance.TheConstants.{WHOLE_GAP};
+ghost use Rattle.search_desk.specs.Desks.{IsClaimOf};
+ghost use Rattle.node_visits.specs.Trials.{IsEvaluatedFor, IsNextAt};
+
+use branch_tree::is_within_gap;
+use claims::Ticket;
+use crossbeam_utils::Backoff;
+use incumbent::Best;
+use node_visits::{Aim, Effort, Worker, beside, enough, evaluated, moves};
+use outside::Gate;
+use prices::Ascent;
+use search_core::Move;
+use search_desk::{Claim, Desk, Evaluated, Left, OwnBest, Run, Taken, Tickets};
+use std::alloc::Global;
+use std::marker::PhantomData;
+use std::sync::{Condvar, Mutex, Wait};
+use uc_model::NoMemory;
+
+/// A worker without a node tries so often to steal one before it waits.
+const STEAL_ROUNDS: u32 = 8;
+
+/// What all workers share: the desk under its lock, and where they wait for news of it; the incumbent; and how they search.
+#[derive(Drop)]
+pub(crate) struct Shared<C: Run> {
+    pub desk: Mutex<Desk<C>>,
+    pub news: Condvar,
+    pub best: Best,
+    pub aim: Aim,
+    ghost object: { best.object ≡ C.incumbent },
+    ghost whole: { aim.gap ≤ WHOLE_GAP },
+    ghost kind: { aim.exact ≡ C.exact },
+}
+
+impl<C: Run> Shared<C> {
+    /// What workers share that search by this desk.
+    pub(crate) fn new(desk: Desk<C>, best: Best, aim: Aim) -> Shared<C>
+        requires object { best.object ≡ C.incumbent }
+        requires whole { aim.gap ≤ WHOLE_GAP }
+        requires kind { aim.exact ≡ C.exact }
+        ensures { result.best ≡ best }
+    {
+        Shared {
+            desk: Mutex::new(desk),
+            news: Condvar::new(),
+            best,
+            aim,
+        }
+    }
+}
+
+/// A worker with what it has found and its tickets; an ascent to be repaired before it takes a node; and how many workers waited for one when it
+/// looked last.
+#[derive(Drop)]
+pub(crate) struct Member<'a, C: Run> {
+    worker: Worker<'a>,
+    own: OwnBest<C>,
+    tickets: Tickets,
+    late: Option<Late>,
+    me: u8,
+    waiting: u32,
+    ghost of: { worker ≡ C.opening.instance },
+    ghost parts: { own.parts ≡ 1 },
+}
+
+/// An ascent that is still to be repaired, with what the commit of its claim left.
+#[derive(Drop)]
+struct Late {
+    ascent: Ascent,
+    left: Left,
+    unit: u32,
+}
+
+impl<'a, C: Run> Member<'a, C> {
+    /// A worker without a ticket.
+    pub(crate) fn new(
+        worker: Worker<'a>,
+        own: OwnBest<C>,
+        tickets: Tickets,
+        me: u8,
+    ) -> Member<'a, C>
+        requires of { worker ≡ C.opening.instance }
+        requires parts { own.parts ≡ 1 }
+    {
+        Member {
+            worker,
+            own,
+            tickets,
+            late: None,
+            me,
+            waiting: 0,
+        }
+    }
+
+    /// What it has found.
+    pub(crate) fn into_best(self) -> OwnBest<C>
+        ensures { result.parts ≡ 1 }
+    {
+        let Member {
+            worker,
+            own,
+            tickets,
+            late,
+            ..
+        } = self;
+        drop(worker);
+        drop(tickets);
+        drop(late);
+        own
+    }
+
+    // Puts the ascent off, in place of the one before.
+    fn put_off(&mut self, late: Option<Late>) {
+        drop(std::mem::replace(&mut self.late, late));
+    }
+
+    // Takes the tickets that the commit of a claim left. Whether there is news for the workers that wait.
+    fn take_tickets(&mut self, claim: &Claim, left: &Left) -> Result<bool, NoMemory> {
+        let bound = left.stored;
+        self.waiting = left.waiting;
+        match (left.action, left.children) {
+            (Some(Move::Split { .. }), Some((off, on))) => {
+                self.tickets.keep(Ticket { node: on, bound })?;
+                self.tickets.put_out(Ticket { node: off, bound })?;
+                self.tickets.share(left.waiting.saturating_sub(1))?;
+                Ok(left.waiting > 0)
+            }
+            (Some(Move::Again), _) => {
+                let node = claim.node;
+                if node != 0 && claim.had == 0 {
+                    self.tickets.keep_next(Ticket { node, bound })?;
+                } else {
+                    self.tickets.keep(Ticket { node, bound })?;
+                }
+                self.tickets.share(left.waiting)
+            }
+            _ => self.tickets.share(left.waiting),
+        }
+    }
+
+    // Repairs the ascent that is still to be repaired.
+    fn repair_late(&mut self, alloc: Global, shared: &Shared<C>) -> Result<(), NoMemory> {
+        let late = self.late.take();
+        let repaired = match &late {
+            Some(late) => self.improve(alloc, shared, late),
+            None => Ok(()),
+        };
+        drop(late);
+        repaired
+    }
+
+    // Looks for a cheaper schedule near the ascent, unless the search is closed.
+    fn improve(&mut self, alloc: Global, shared: &Shared<C>, late: &Late) -> Result<(), NoMemory> {
+        let gap = shared.aim.gap;
+        let Some(bound) = late.left.bound else {
+            return Ok(());
+        };
+        if late.ascent.shares.is_empty() || is_closed_by(late.left.seen, bound, gap) {
+            return Ok(());
+        }
+        let effort = Effort {
+            moves: moves(self.worker.instance(), late.unit),
+            enough: enough(bound, gap),
+        };
+        let found = self.worker.repair(alloc, &late.ascent, effort)?;
+        self.own.offer(&shared.best, found);
+        Ok(())
+    }
+}
+
+// Whether the cost is within the gap of the bound.
+fn is_closed_by(cost: Option<i64>, bound: i128, gap: u32) -> bool
+    requires { gap ≤ WHOLE_GAP }
+{
+    match cost {
+        Some(cost) => is_within_gap(&cost, &Some(bound), gap),
+        None => false,
+    }
+}
+
+/// Makes the first claim of the root, by the ascent that was made already, if there was one; it is repaired later, unless it was repaired
+/// already. For several workers all nodes that are open then lie in the worker's queue. The only error is `NoMemory`.
+pub(crate) fn open_root<C: Run, R: Wait, G: Gate>(
+    rt: &R,
+    alloc: Global,
+    shared: &Shared<C>,
+    member: &mut Member<C>,
+    next: &mut Option<Ascent>,
+    gate: &G,
+) -> Result<(), NoMemory>
+    requires { IsNextAt C.opening.instance 1 next.old }
+{
+    let repaired = is_repaired(next);
+    let taken = shared
+        .desk
+        .lock(rt)
+        .claim(alloc, &shared.best, member.me, 0);
+    if let Taken::Mine(claim) = taken {
+        let done = held(rt, alloc, shared, member, &claim, next, gate);
+        drop(claim);
+        if repaired {
+            member.put_off(None);
+        }
+        done?;
+    }
+    if shared.aim.shared {
+        // The others begin later than this worker, which is to leave them what they may steal.
+        member.waiting = 1;
+        member.tickets.put_all_out()?;
+    }
+    Ok(())
+}
+
+// Whether the ascent was made, and repaired, already.
+fn is_repaired(next: &Option<Ascent>) -> bool {
+    match next {
+        Some(ascent) => ascent.ray.is_none(),
+        None => false,
+    }
+}
+
+/// Claims nodes until the search is over.
+pub(crate) fn work<C: Run, R: Wait, G: Gate>(
+    rt: &R,
+    alloc: Global,
+    shared: &Shared<C>,
+    member: &mut Member<C>,
+    gate: &G,
+) {
+    shared.desk.lock(rt).begin();
+    let refused = worked(rt, alloc, shared, member, gate).is_err();
+    shared.desk.lock(rt).end(refused);
+    shared.news.notify_all();
+}
+
+// The same, where memory may be refused.
+fn worked<C: Run, R: Wait, G: Gate>(
+    rt: &R,
+    alloc: Global,
+    shared: &Shared<C>,
+    member: &mut Member<C>,
+    gate: &G,
+) -> Result<(), NoMemory> {
+    member.repair_late(alloc, shared)?;
+    for _ in rt.forever() {
+        let is_over = match next_node(member)? {
+            Some(node) => !turn(rt, alloc, shared, member, node, gate)?,
+            None => wait(rt, shared),
+        };
+        if is_over {
+            return Ok(());
+        }
+    }
+    Ok(())
+}
+
+// The node to claim next: one of the worker's own, or one that it steals.
+fn next_node<C: Run>(member: &mut Member<C>) -> Result<Option<u32>, NoMemory> {
+    if let Some(node) = member.tickets.take(member.waiting)? {
+        return Ok(Some(node));
+    }
+    let backoff = Backoff::new();
+    for _ in 0..STEAL_ROUNDS {
+        if let Some(node) = member.tickets.steal() {
+            return Ok(Some(node));
+        }
+        backoff.snooze();
+    }
+    Ok(None)
+}
+
+// Waits for news. Whether the search is over.
+fn wait<C: Run, R: Wait>(rt: &R, shared: &Shared<C>) -> bool {
+    let mut desk = shared.desk.lock(rt);
+    let news = desk.rest();
+    if desk.is_quiet(news) {
+        desk = shared.news.wait_while(rt, desk, |desk| desk.is_quiet(news));
+    } else {
+        shared.news.notify_all();
+    }
+    desk.rise()
+}
+
+// Claims the node, evaluates it, and repairs its ascent. False where the search is over.
+fn turn<C: Run, R: Wait, G: Gate>(
+    rt: &R,
+    alloc: Global,
+    shared: &Shared<C>,
+    member: &mut Member<C>,
+    node: u32,
+    gate: &G,
+) -> Result<bool, NoMemory> {
+    let taken = shared
+        .desk
+        .lock(rt)
+        .claim(alloc, &shared.best, member.me, node);
+    match taken {
+        Taken::Over => Ok(false),
+        Taken::Gone => Ok(true),
+        Taken::Refused => Err(NoMemory),
+        Taken::Mine(claim) => {
+            let visited = visited(rt, alloc, shared, member, &claim, gate);
+            drop(claim);
+            visited
+        }
+    }
+}
+
+// Evaluates the node that is held, commits it, and repairs its ascent. The search isn't over.
+fn visited<C: Run, R: Wait, G: Gate>(
+    rt: &R,
+    alloc: Global,
+    shared: &Shared<C>,
+    member: &mut Member<C>,
+    claim: &Claim,
+    gate: &G,
+) -> Result<bool, NoMemory>
+    requires { IsClaimOf C.opening claim.now }
+{
+    let mut none = None;
+    let committed = held(rt, alloc, shared, member, claim, &mut none, gate);
+    drop(none);
+    committed?;
+    member.repair_late(alloc, shared)?;
+    Ok(true)
+}
+
+// Evaluates the node that is held, commits it, and puts its ascent off, if one is to be repaired.
+fn held<C: Run, R: Wait, G: Gate>(
+    rt: &R,
+    alloc: Global,
+    shared: &Shared<C>,
+    member: &mut Member<C>,
+    claim: &Claim,
+    next: &mut Option<Ascent>,
+    gate: &G,
+) -> Result<(), NoMemory>
+    requires claim { IsClaimOf C.opening claim.now }
+    requires next { IsNextAt C.opening.instance 1 next.old }
+{
+    let unit = claim.unit;
+    gate.enter(rt, member.me, unit);
+    match evaluated(alloc, &mut member.worker, claim, shared.aim, next) {
+        Ok((done, ascent)) => {
+            let left = entered(rt, shared, member, claim, done);
+            let (ascent, left) = beside(ascent, left)?;
+            member.put_off(put_by(ascent, left, unit));
+            Ok(())
+        }
+        Err(NoMemory) => {
+            shared.desk.lock(rt).give_back(member.me, unit);
+            Err(NoMemory)
+        }
+    }
+}
+
+// The ascent, with what its commit left.
+fn put_by(ascent: Option<Ascent>, left: Left, unit: u32) -> Option<Late> {
+    match ascent {
+        Some(ascent) => Some(Late { ascent, left, unit }),
+        None => None,
+    }
+}
+
+// Commits the evaluation, and takes the tickets that it leaves before the lock is given back.
+fn entered<C: Run, R: Wait>(
+    rt: &R,
+    shared: &Shared<C>,
+    member: &mut Member<C>,
+    claim: &Claim,
+    done: Evaluated,
+) -> Result<Left, NoMemory>
+    requires claim { IsClaimOf C.opening claim.now }
+    requires done { IsEvaluatedFor C.exact C.opening.instance claim.now done }
+{
+    let mut desk = shared.desk.lock(rt);
+    let left = desk.commit(&shared.best, member.me, claim, done);
+    if member.take_tickets(claim, &left)? {
+        desk.tell();
+        shared.news.notify_all();
+    }
+    Ok(left)
+}
