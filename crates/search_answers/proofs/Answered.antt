@@ -172,6 +172,7 @@ module _ (exact : Bool) (instance : Instance) (stands : Standing) (opening : Pri
       of_kind = is.of_kind;
       within = is.spent.within;
       spent = is.spent.spent;
+      nodes = is.nodes;
       most_on = tells_most_on instance (tree_bound grown.tree) stands grown.best dropped.most_on is_best.no_dearer;
       empty = λ g empty. absurd (not_first false instance g each empty);
       unscheduled = λ asked patterns g first. absurd (not_first true instance g (subst (λ kind. HasNoBlockedUnit kind instance) asked unblocked) first);

@@ -83,6 +83,7 @@ lone_answer asked instance budget gap l tables layout truth unbounded plain empt
     of_kind = All-nil (IsOfKind asked);
     within = omega arith;
     spent = λ some. absurd (some unbounded);
+    nodes = omega arith;
     most_on = subst (λ bound. TellsMostOn instance None bound None) (sym unbounded) refl;
     empty = empty;
     unscheduled = unscheduled;

@@ -1,6 +1,6 @@
 -- What a search answers: a true answer, how much of the budget was spent, and what the opening gives at least. This project's own
 -- statement.
-use Rattle.std.specs.Prelude.{◌≡◌, ◌≢◌, ℕ, ◌≤◌, Bool, true, false, All, List, [], ℤ, ◌≤ℤ◌, Option, Some, None, IfSome, length, slice_get}
+use Rattle.std.specs.Prelude.{◌≡◌, ◌≢◌, ℕ, ◌+◌, ◌*◌, ◌≤◌, Bool, true, false, All, List, [], ℤ, ◌≤ℤ◌, Option, Some, None, IfSome, length, slice_get}
 pub use Rattle.uc_model.specs.declared.instance.Instance.{Instance}
 use Rattle.uc_model.specs.declared.pattern.Pattern.{Pattern}
 pub use Rattle.uc_model.specs.declared.schedule.Printed.{Printed}
@@ -12,6 +12,7 @@ use Rattle.dual_model.specs.Tree.{Ends, root, HasEachPattern}
 use Rattle.opening_tables.specs.Marginal.{IsMarginalTable}
 use Rattle.branch_tree.specs.Closing.{is_closed, is_within_gap}
 use Rattle.branch_tree.specs.Kinds.{IsPlainTree}
+use Rattle.branch_tree.specs.NumberedTree.{node_count}
 use Rattle.branch_tree.specs.StoredTree.{tree_bound}
 use Rattle.branch_tree.specs.TreeView.{tree_of}
 use Rattle.branch_tree.specs.TrueFound.{IsTrueFound}
@@ -97,6 +98,8 @@ pub record IsSearchResult (exact : Bool) (instance : Instance) (budget gap : ℕ
   -- no more than the budget was spent; and where a leaf isn't excluded, and no schedule is within the gap, the whole
   pub within : length found.log ≤ budget
   pub spent : tree_bound found.tree ≢ None → is_closed found gap ≡ false → length found.log ≡ budget
+  -- a claim adds two nodes to the tree at most, and so a leaf, which uses a table
+  pub nodes : node_count found.tree.nodes ≤ 2 * budget + 1
   -- where there is neither a schedule nor the answer that there is none, the most-on commitment is stuck
   pub most_on : TellsMostOn instance found.schedule (tree_bound found.tree) found.most_on
   -- a unit without an allowed pattern excludes the root before any evaluation; else by VE so does a unit without a schedule of its own; and

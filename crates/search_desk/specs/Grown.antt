@@ -1,5 +1,5 @@
 -- What a search over the tree leaves. This project's own form.
-use Rattle.std.specs.Prelude.{◌≡◌, ◌≢◌, ℕ, ◌≤◌, false, Bool, All, List, ℤ, Option, Some, None, length, slice_get}
+use Rattle.std.specs.Prelude.{◌≡◌, ◌≢◌, ℕ, ◌+◌, ◌*◌, ◌≤◌, false, Bool, All, List, ℤ, Option, Some, None, length, slice_get}
 pub use Rattle.uc_model.specs.declared.instance.Instance.{Instance}
 use Rattle.uc_model.specs.declared.schedule.Printed.{Printed}
 use Rattle.dual_model.specs.Laws.{IsClaimTrue}
@@ -8,6 +8,7 @@ use Rattle.dual_model.specs.Tree.{root, IsCover, EachLeaf}
 use Rattle.dual_model.specs.declared.table.Table.{Table}
 use Rattle.branch_tree.specs.Closing.{is_schedule_within}
 use Rattle.branch_tree.specs.Kinds.{IsPlainTree}
+use Rattle.branch_tree.specs.NumberedTree.{node_count}
 use Rattle.branch_tree.specs.StoredTree.{tree_bound}
 use Rattle.branch_tree.specs.TreeLaws.{StoredHolds}
 use Rattle.branch_tree.specs.TreeView.{TreeView, IsWhole, tree_of}
@@ -47,3 +48,5 @@ pub record IsGrown (exact : Bool) (instance : Instance) (opening : Priced) (budg
   pub sized : All IsSizedEntry grown.log
   pub accepted : IsAcceptedIfFound instance grown.best
   pub spent : IsSpentUnlessClosed grown.tree grown.log grown.best budget gap
+  -- a claim adds two nodes at most
+  pub nodes : node_count grown.tree.nodes ≤ 2 * budget + 1

@@ -1,20 +1,22 @@
 -- What a search leaves: the log of the book, under its own units.
-use Rattle.std.proofs.Common.{◌≡◌, ◌≢◌, ◌∙◌, ℕ, Bool, true, false, cond, ◌==◌, List, [], ◌∷◌, length, map, refl, ap, sym, subst, arith, ℤ, Option}
+use Rattle.std.proofs.Common.{◌≡◌, ◌≢◌, ◌∙◌, ℕ, ◌+◌, ◌*◌, ◌≤◌, Bool, true, false, cond, ◌==◌, List, [], ◌∷◌, length, map, refl, ap, sym, subst, arith, ℤ, Option}
 use Rattle.std.proofs.lemmas.List.{length-map}
 use Rattle.uc_model.specs.declared.schedule.Printed.{Printed}
 use Rattle.dual_model.specs.Tree.{root, child}
 use Rattle.dual_model.specs.declared.node.Node.{Node}
-use Rattle.branch_tree.specs.NumberedTree.{NumberedTree, EndAt, SplitAt}
+use Rattle.branch_tree.specs.NumberedTree.{NumberedTree, EndAt, SplitAt, node_count}
 use Rattle.branch_tree.specs.TreeView.{IsWhole}
 use Rattle.search_core.specs.Machine.{entries_of}
 use Rattle.search_core.specs.Moves.{bound_of}
 use Rattle.search_core.specs.OwnTables.{HasFreeCellAt, HoldsStored, OwnsBelow, StartsAt, stored_after, stored_by}
+use Rattle.search_core.specs.Runs.{TreeRunsHold}
 use Rattle.search_core.specs.declared.stored.Stored.{Stored}
 use Rattle.schedule_check.specs.Accepted.{IsAcceptedIfFound}
 use Rattle.book.specs.BookView.{BookView}
-use Rattle.book.specs.Opening.{Opening}
+use Rattle.book.specs.Opening.{Opening, IsTrueOpening}
 use Rattle.book.specs.Replay.{with_unit, number_of}
 use Rattle.book.specs.Running.{IsRunning}
+use Rattle.book.proofs.Books.{run_holds}
 use Rattle.search_desk.specs.declared.grown.Grown.{Grown}
 use Rattle.closing_pass.specs.Closings.{IsEnded}
 use Rattle.branch_tree.specs.declared.found.Entry.{Entry}
@@ -70,12 +72,19 @@ module _ (f : ℕ → ℕ) (units periods : ℕ) (tables : List Table) (log : Li
             (subst (λ (s : Stored). OwnsBelow units periods tables (map (with_unit f) log) (child here g t true) s on) (own_after inherited number) own.2),
       )
 
+-- ---- how many nodes
+few_nodes : TreeRunsHold → (opening : Opening) (book : BookView) → IsTrueOpening opening → IsRunning opening book
+    → node_count book.tree.nodes ≤ 2 * opening.budget + 1
+few_nodes runs opening book begun running =
+    let amounts = (run_holds runs opening book begun running.replays).1.amounts in
+    omega (arith, amounts.claims, amounts.nodes, running.budget)
+
 -- ---- what is left
-pub ended_grown : (exact : Bool) (opening : Opening) (book : BookView) (best : Option (Printed × ℤ)) (instance : Instance) (priced : Priced) (budget gap : ℕ)
+pub ended_grown : TreeRunsHold → (exact : Bool) (opening : Opening) (book : BookView) (best : Option (Printed × ℤ)) (instance : Instance) (priced : Priced) (budget gap : ℕ)
     (grown : Grown) → opening ≡ opening_by instance priced budget gap → IsRunning opening book → IsWhole book.tree → IsEnded exact opening book best
     → IsAcceptedIfFound instance best → grown.tree ≡ book.tree → grown.tables ≡ book.tables → grown.log ≡ book.log → grown.best ≡ best
     → IsGrown exact instance priced budget gap grown
-ended_grown exact opening book best instance priced budget gap grown same running whole ended accepted tree tables log best_is =
+ended_grown runs exact opening book best instance priced budget gap grown same running whole ended accepted tree tables log best_is =
     subst (λ (x : Grown). IsGrown exact instance priced budget gap x) (sym (λ i. record {
       tree = tree i;
       tables = tables i;
@@ -117,4 +126,5 @@ ended_grown exact opening book best instance priced budget gap grown same runnin
           sized = end2.kept.sized;
           accepted = accepted;
           spent = end2.spent;
+          nodes = few_nodes runs by book end2.kept.begun run2;
         }

@@ -26,6 +26,7 @@ use closing_pass::{Closing, close};
 use incumbent::Best;
 use node_visits::{Start, Worker, beside};
 use outside::Gate;
+use search_core::laws::tree_runs_hold;
 use search_desk::{Grown, Run};
 use std::alloc::Global;
 use std::marker::Brand;
@@ -128,6 +129,7 @@ fn left<C: Run>(book: Book<C>, best: Option<(Printed, i64)>) -> Grown
     ensures best { result.best ≡ best }
     ensures log { result.log ≡ book.log }
 {
+    tree_runs_hold();
     book.keeps_run();
     let (tree, tables, log) = book.finish();
     tree.keeps_cover();

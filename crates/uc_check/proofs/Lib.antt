@@ -6,6 +6,8 @@ pub mod Unread
 pub mod OnlyRead
 pub mod Verdicts
 pub mod SameTexts
+pub mod TextLengths
+pub mod Accepting
 pub mod CheckedAlike
 pub mod Rewriting
 pub mod TextNumbers

@@ -47,7 +47,7 @@ one_certificate one other e =
       tree = trees.0 i;
     }
 
-same_certificate : (bytes : List ℕ) (one other : Certificate) → IsCertificateText bytes one → IsCertificateText bytes other → one ≡ other
+pub same_certificate : (bytes : List ℕ) (one other : Certificate) → IsCertificateText bytes one → IsCertificateText bytes other → one ≡ other
 same_certificate bytes one other first second =
     let texts : certificate_text first.version one ++ [] ≡ certificate_text second.version other =
     append-nil (certificate_text first.version one) ∙ sym first.text ∙ second.text in

@@ -3,6 +3,7 @@ pub mod Reading
 pub mod Writing
 pub mod Ending
 pub mod Checking
+pub mod Accepting
 pub mod Upgrading
 pub mod Uplifting
 pub mod inside

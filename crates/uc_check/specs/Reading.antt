@@ -35,13 +35,14 @@ pub record StandForPriced (options : ReadOptions) (bytes : List ℕ) (instance :
   pub stand : StandForCounted options.exact bytes given rounded
   pub priced : IsPriced options given instance
 
--- the file's bytes, where they are told, are at most as many as are read and stand for the instance with its prices, with this
--- count of rounded numbers
+-- the file's bytes, where they are told, are at most as many as are read and stand for the instance with its prices, and for no other
+-- one, with this count of rounded numbers
 pub record HasInstance (options : ReadOptions) (file : SlotState) (instance : Instance) (rounded : ℕ) : Type 0 where
   pub bytes : List ℕ
   pub told : Tells file.left bytes
   pub few : length bytes ≤ most_bytes
   pub stand : StandForPriced options bytes instance rounded
+  pub only : (other : Instance) (count : ℕ) → StandForPriced options bytes other count → other ≡ instance
   pub lawful : IsLawfulInstance instance
 
 -- the bytes stand for no instance, and this fault has its cause

@@ -1,6 +1,6 @@
 //! Reading the instance.
 
-ghost use Rattle.std.specs.Prelude.{◌≡◌, IfOk, IfErr};
+ghost use Rattle.std.specs.Prelude.{◌≡◌, ℕ, IfOk, IfErr};
 ghost use Rattle.outside.specs.declared.slot.Slot.TheVariants.{Instance as InstanceSlot};
 ghost use Rattle.outside.specs.Slots.{SameBut};
 ghost use Rattle.uc_model.specs.Limits.{IsLawfulInstance};
@@ -79,6 +79,7 @@ fn priced(
 fn instance_of(alloc: Global, bytes: &[u8], options: ReadOptions) -> Result<(Instance, u64), Fault>
     requires { HasPrices options.shed options.spill_reserve }
     ensures read { IfOk result (λ r. StandForPriced options bytes.now r.0 r.1) }
+    ensures only { IfOk result (λ r. (i : Instance) (count : ℕ) → StandForPriced options bytes.now i count → i ≡ r.0) }
     ensures lawful { IfOk result (λ r. IsLawfulInstance r.0) }
     ensures refused { IfErr result (IsRefusal options bytes.now) }
 {

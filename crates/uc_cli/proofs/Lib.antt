@@ -1,4 +1,5 @@
 pub mod ScheduleTexts
+pub mod FoundSizes
 pub mod SearchResults
 pub mod Endings
 pub mod TurnedAway

@@ -27,7 +27,11 @@ use Rattle.uc_cli.specs.DemoRun.{Found, IsDemoAnswer}
 use Rattle.uc_cli.specs.RollRun.{IsRolledTrue}
 use Rattle.uc_cli.specs.Run.{Instance, solve_options, IsAnswer}
 use Rattle.uc_cli.proofs.ScheduleTexts.{has_schedule_text}
+use Rattle.uc_check.specs.Accepting.{most_rows}
+use Rattle.uc_check.proofs.Accepting.{accepted_for}
 use Rattle.uc_check.proofs.Verdicts.{schedule_true}
+use Rattle.search_core.specs.declared.limits.TheConstants.{MAX_BUDGET}
+use Rattle.uc_cli.proofs.FoundSizes.{found_little}
 
 -- a bound of this size has a text
 bound_text : (bound : Option ℤ) → IfSome bound (λ b. unsigned_abs b ≤ MAX_VALUE) → IfSome bound IsMoney
@@ -47,13 +51,17 @@ text_of exact instance budget gap found lawful result writable =
 
 pub answered : (asked : Solve) (file : SlotState) (instance : Instance) (rounded : ℕ) (found : Found) → IsLawfulInstance instance
     → HasInstance (solve_options asked) file instance rounded → IsSearchResult asked.exact_units instance asked.units asked.gap found → IsWritable instance found
-    → IsAnswer asked file instance rounded found
-answered asked file instance rounded found lawful read result writable = record {
+    → asked.units ≤ MAX_BUDGET → IsAnswer asked file instance rounded found
+answered asked file instance rounded found lawful read result writable small = record {
   read = read;
   search = result;
   schedule = schedule_true instance (certificate_of instance found) lawful result.truth.certificate;
   claim = certificates_claim_truly instance (certificate_of instance found) lawful result.truth.certificate;
   text = text_of asked.exact_units instance asked.units asked.gap found lawful result writable;
+  accepted = λ version text.
+      accepted_for (solve_options asked) file instance rounded (certificate_of instance found) version read result.truth.certificate text
+      (found_little instance found (omega (arith, result.nodes, small))
+      (All-weaker HasFewRows (λ (table : Table). length table.ramps ≤ most_rows) (λ table few. omega (arith, few)) (written_tables found) writable.tables));
 }
 
 pub demo_answered : (seed : ℕ) (instance : Instance) (found : Found) → instance ≡ demo_instance seed → IsLawfulInstance instance

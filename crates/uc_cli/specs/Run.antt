@@ -11,7 +11,9 @@ use Rattle.branch_tree.specs.Closing.{status_of}
 use Rattle.dual_model.specs.Certificate.{WrittenSchedule}
 use Rattle.branch_tree.specs.Claims.{certificate_of, written_of}
 use Rattle.search_answers.specs.SearchResult.{IsSearchResult}
-use Rattle.cert_text.specs.TextConditions.{HasWrittenText}
+use Rattle.cert_text.specs.CertificateText.{certificate_text, listing_of}
+use Rattle.cert_text.specs.TextConditions.{HasText, HasWrittenText}
+use Rattle.cert_text.specs.declared.cert.Version.{Version}
 use Rattle.branch_tree.specs.declared.found.Found.{Found}
 use Rattle.report.specs.FoundReport.{found_report}
 pub use Rattle.report.specs.declared.fault.Fault.{Fault}
@@ -20,6 +22,7 @@ use Rattle.uc_check.specs.Outside.{Outside}
 use Rattle.command_line.specs.Command.{Solve, Command, Solves, Checks, Demos, Upgrades, Uplifts, Rolls}
 use Rattle.uc_check.specs.Reading.{most_bytes, HasInstance, HasCause, IsOpenedByNoOther, IsOnlyRead}
 use Rattle.uc_check.specs.Checking.{IsCheckRun, IsScheduleTrue}
+use Rattle.uc_check.specs.Accepting.{IsAcceptedFor}
 use Rattle.uc_check.specs.Upgrading.{IsUpgradeRun}
 use Rattle.uc_check.specs.Uplifting.{IsUpliftRun}
 use Rattle.uc_check.specs.Ending.{Ends, IsFaulty}
@@ -33,15 +36,17 @@ use Rattle.uc_check.specs.declared.input.ReadOptions.{ReadOptions}
 abbrev pub solve_options : Solve → ReadOptions
 solve_options asked = record { exact = asked.exact; shed = asked.shed; spill_reserve = asked.spill_reserve }
 
--- an answer for the instance in the file: what was found, by exact values where these are asked, with the budget and at the gap that are asked; that its schedule obeys and
--- costs at most what is printed; that its bound, or that there is no schedule, is true of every schedule; and that its certificate has
--- a text of the grammar
+-- an answer for the instance in the file: what was found, by exact values where these are asked, with the budget and at the gap that are
+-- asked; that its schedule obeys and costs at most what is printed; that its bound, or that there is no schedule, is true of every schedule;
+-- that its certificate has a text of the grammar; and that each text of it, in the version in which it is written or another, is accepted
 pub record IsAnswer (asked : Solve) (file : SlotState) (instance : Instance) (rounded : ℕ) (found : Found) : Type 0 where
   pub read : HasInstance (solve_options asked) file instance rounded
   pub search : IsSearchResult asked.exact_units instance asked.units asked.gap found
   pub schedule : (written : WrittenSchedule) → written_of found.schedule ≡ Some written → IsScheduleTrue instance written
   pub claim : IsClaimTrue instance (tree_bound found.tree)
   pub text : HasWrittenText (certificate_of instance found)
+  pub accepted : (version : Version) → HasText version (listing_of (certificate_of instance found))
+      → IsAcceptedFor asked.shed asked.spill_reserve read.bytes (certificate_text version (certificate_of instance found))
 
 -- the instance in the file, and the answer for it
 pub record HasAnswer (asked : Solve) (before : Outside) (found : Found) : Type 0 where

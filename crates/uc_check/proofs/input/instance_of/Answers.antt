@@ -2,7 +2,7 @@
 use Rattle.std.proofs.Common.{sym, subst}
 use Rattle.std.proofs.lemmas.Result.{IfOk-weaker, IfErr-weaker}
 use Rattle.instance.specs.Bytes.{StandForCounted}
-use Rattle.uc_check.proofs.Prices.{none_given, too_dear_at}
+use Rattle.uc_check.proofs.Prices.{none_given, only_priced, too_dear_at}
 use Rattle.uc_check.proofs.Verdicts.{handed_up}
 use Rattle.uc_check.proofs.input.instance_of.Goals as goal
 
@@ -20,6 +20,14 @@ returns-clause-read c =
       stand = subst (StandForCounted c.args.options.exact c.args.bytes.now given.0) (sym is.1) c.in_ok-given.ensures.read;
       priced = is.0;
     }) c.priced.ensures.priced
+
+pub returns-clause-only : goal.returns-clause-only
+returns-clause-only c =
+    let given = c.in_ok-given.given in
+    IfOk-weaker c.priced.result _ _
+    (λ r is i count stand. only_priced c.args.options given.0 r.0 stand.given i is.0 stand.priced
+    (c.in_ok-given.ensures.only stand.given (stand.stand.0, stand.stand.1, stand.stand.2)))
+    c.priced.ensures.priced
 
 pub returns-clause-refused : goal.returns-clause-refused
 returns-clause-refused c =
