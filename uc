@@ -20,7 +20,7 @@ weights='uc_model 72 dual_model 48 outside 66 outside_system 132 decimal_json 14
   step_functions 114 hull_function 24 unit_path 84 unit_runs 18 unit_exact 144 dispatch_repair 228 dual_value 96
   quick_value 258 opening_tables 60 uplift 144 bundle 168 prices 216 repair_state 192 schedule_repair 228 roll 114
   branch_tree 78 incumbent 42 steal_pool 96 search_core 156 claims 42 book 150 decommitment 270 opening 138
-  search_desk 150 node_visits 110 closing_pass 75 tree_search 250 search_answers 110 workers 75
+  search_desk 120 node_visits 80 closing_pass 60 tree_search 430 search_answers 90 workers 150
   schedule_check 126 state_walk 126 leaf_values 114 cert_check 126 demo_gen 48 command_line 222 uc_check 138 uc_cli 126
   uc 210'
 
