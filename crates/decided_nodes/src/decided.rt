@@ -1,0 +1,96 @@
+//! The exact dispatch of the commitment that a node decides.
+
+ghost use Rattle.std.specs.Prelude.{◌≡◌, IfOk, IfSome, Some};
+ghost use Rattle.uc_model.specs.Limits.{IsLawfulInstance};
+ghost use Rattle.dual_model.specs.Fixings.{IsNodeOf};
+ghost use Rattle.dispatch_rules.specs.CommitmentTask.{AreAllowed};
+ghost use Rattle.dual_model.specs.declared.node.Node.{Node};
+ghost use Rattle.decided_nodes.specs.Decided.{ArePatternsAt, IsDecided};
+
+use crate::cells::decides_each;
+use dual_model::{Node, Table, Valued};
+use dual_value::{ValueFault, value};
+use found_schedule::accepted;
+use opening_tables::zero;
+use pivot_dispatch::{Pivot, best};
+use std::alloc::Global;
+use uc_model::{Instance, List, NoMemory, Pattern, Printed};
+use unit_path::Scratch;
+
+/// What the exact dispatch gives at a node at which each cell is decided: the table to evaluate it at, and the cheapest schedule with its cost,
+/// in micro-dollars, where there is one.
+#[derive(Drop)]
+pub struct Decided {
+    pub table: Table,
+    pub schedule: Option<(Printed, i64)>,
+}
+
+/// The exact dispatch of the commitment that the node decides; none where a cell is undecided, a unit has no allowed pattern there, or the run of
+/// pivots meets a limit. The only error is `NoMemory`.
+pub fn exact_dispatch(
+    alloc: Global,
+    instance: &Instance,
+    node: &Node,
+) -> Result<Option<Decided>, NoMemory>
+    requires lawful { IsLawfulInstance instance.now }
+    requires node { IsNodeOf instance.now node.now }
+    ensures { IfOk result (λ found. IfSome found (IsDecided instance.now node.now)) }
+{
+    if !decides_each(instance, node) {
+        return Ok(None);
+    }
+    match patterns(alloc, instance, node) {
+        Ok(patterns) => dispatched(alloc, instance, patterns.as_slice()),
+        Err(ValueFault::Empty(_)) => Ok(None),
+        Err(ValueFault::NoMemory) => Err(NoMemory),
+    }
+}
+
+// The pattern of each unit at the node.
+fn patterns(alloc: Global, instance: &Instance, node: &Node) -> Result<List<Pattern>, ValueFault>
+    requires lawful { IsLawfulInstance instance.now }
+    requires node { IsNodeOf instance.now node.now }
+    ensures { IfOk result (ArePatternsAt instance.now node.now) }
+{
+    let table = zero(alloc, instance)?;
+    let mut scratch = Scratch::new(alloc, instance.periods as usize)?;
+    let Valued { patterns, .. } = value(alloc, &mut scratch, instance, node, &table)?;
+    Ok(patterns)
+}
+
+// The exact dispatch of these patterns.
+fn dispatched(
+    alloc: Global,
+    instance: &Instance,
+    patterns: &[Pattern],
+) -> Result<Option<Decided>, NoMemory>
+    requires lawful { IsLawfulInstance instance.now }
+    requires allowed { AreAllowed instance.now patterns.now }
+    ensures { (node : Node) → ArePatternsAt instance.now node patterns.now → IfOk result (λ found. IfSome found (IsDecided instance.now node)) }
+{
+    match best(alloc, instance, patterns)? {
+        Pivot::Best { schedule, table } => {
+            let cost = accepted(instance, &schedule);
+            Ok(Some(Decided {
+                table,
+                schedule: priced(schedule, cost),
+            }))
+        }
+        Pivot::Ray(table) => Ok(Some(Decided {
+            table,
+            schedule: None,
+        })),
+        Pivot::Wide { .. } => Ok(None),
+    }
+}
+
+// The schedule with its cost, where it has one.
+fn priced(schedule: Printed, cost: Option<i64>) -> Option<(Printed, i64)>
+    ensures is { IfSome result (λ pair. pair.0 ≡ schedule) }
+    ensures cost { IfSome result (λ pair. cost ≡ Some pair.1) }
+{
+    match cost {
+        Some(cost) => Some((schedule, cost)),
+        None => None,
+    }
+}

@@ -1,0 +1,58 @@
+//! How a search uses the exact dispatch.
+
+ghost use Rattle.std.specs.Prelude.{◌≡◌};
+ghost use Rattle.uc_model.specs.Limits.{IsLawfulInstance};
+ghost use Rattle.decided_nodes.specs.Pivoting.{uses_exact_dispatch};
+
+use uc_model::Instance;
+
+/// In a system of more cells no budget has a claim for each node of the tree.
+const MOST_CELLS: u32 = 18;
+
+/// Whether the first claim on a node at which each cell is decided takes the exact dispatch of its commitment.
+#[derive(Clone, Copy, Debug, PartialEq, Eq)]
+pub enum Pivoting {
+    /// No claim does.
+    Off,
+    /// That claim does.
+    On,
+    /// That claim does, and each other one splits its node: the budget has a claim for each node of the tree.
+    Exhaustive,
+}
+
+impl Pivoting {
+    /// That of a search with this budget of claims, which uses the exact dispatch where that is asked.
+    pub fn of(is_asked: bool, instance: &Instance, budget: u32) -> Pivoting
+        requires { IsLawfulInstance instance.now }
+        ensures { uses_exact_dispatch result ≡ is_asked }
+    {
+        if !is_asked {
+            return Pivoting::Off;
+        }
+        if has_claim_for_each(instance, budget) {
+            Pivoting::Exhaustive
+        } else {
+            Pivoting::On
+        }
+    }
+
+    /// Whether the exact dispatch is used.
+    pub fn is_on(self) -> bool
+        ensures { result ≡ uses_exact_dispatch self }
+    {
+        match self {
+            Pivoting::Off => false,
+            Pivoting::On => true,
+            Pivoting::Exhaustive => true,
+        }
+    }
+}
+
+// Whether the budget is at least 2 to the number of cells and 1, so that each node of a tree on them can have a claim.
+fn has_claim_for_each(instance: &Instance, budget: u32) -> bool
+    requires { IsLawfulInstance instance.now }
+{
+    let units = instance.thermal.as_slice().len() as u32;
+    let cells = units.saturating_mul(instance.periods);
+    cells <= MOST_CELLS && budget >= 2 << cells
+}

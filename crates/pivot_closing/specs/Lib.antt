@@ -1,0 +1,3 @@
+pub mod TreeSizes
+pub mod Pivoted
+pub mod PivotedSteps
