@@ -5,7 +5,7 @@ prices='shed=1-1000000 spill-reserve=1-1000000'
 search='units=1-1000000 workers=1-64 gap=0-1000000 exact'
 # What a command takes: its places, and options with a range of whole numbers, with any text (a bare =), or by themselves; ! has to be given.
 declare -A takes=(
-  [solve]="FILE cert=! $search exact-units $prices"
+  [solve]="FILE cert=! $search exact-units pivot $prices"
   [check]="FILE CERT $prices"
   [uplift]="FILE CERT table=1-1000002 $prices"
   [upgrade]='CERT cert=!'

@@ -316,6 +316,15 @@ impl<C: Case> Book<C> {
         None
     }
 
+    /// The worker that holds the unit, its node and the number of this node's entries; none exactly where no worker holds it.
+    pub fn held(&self, unit: u32) -> Option<(u8, u32, u32)>
+        ensures some { IfSome result (λ found. IsHeldUnit self.now unit found.0 found.1 found.2) }
+        ensures none { result ≡ None → (worker node : ℕ) → ¬ IsHolding (state_of self.now) worker unit node }
+    {
+        let (worker, node) = self.claims.holder(unit)?;
+        Some((worker, node, self.log.count(node)))
+    }
+
     /// The first unit that is held, with its worker, its node and the number of this node's entries; none exactly where no node is held.
     pub fn first_held(&self) -> Option<(u32, u8, u32, u32)>
         ensures some { IfSome result (λ found. IsHeldUnit self.now found.0 found.1 found.2 found.3) }

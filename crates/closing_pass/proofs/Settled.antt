@@ -1,118 +1,111 @@
 -- A claim that is still held may be committed at the table that the closing pass takes.
-use Rattle.std.proofs.Common.{◌≡◌, ◌≢◌, ◌∙◌, ◌⊎◌, ⊎_elim, ℕ, ◌+◌, ◌<◌, Bool, All, List, [], length, ap, sym, subst, arith, ℤ, pos, Option, Some, slice_get, get_or, length-append, ◌∷◌}
+use Rattle.std.proofs.Common.{◌≡◌, ◌≢◌, ◌∙◌, ⊎_elim, ◌⊎◌, ℕ, ◌+◌, ◌<◌, ◌≤◌, Bool, All, List, [], ◌∷◌, drop, get_or, length, ap, sym, subst, arith, ℤ, pos, Option, Some, None, slice_get, length-append}
 use Rattle.std.proofs.lemmas.Int.{ints}
 use Rattle.std.proofs.lemmas.List.{nil_from_length}
-use Rattle.std.proofs.lemmas.List.Elements.{All-nil}
+use Rattle.std.proofs.lemmas.List.Elements.{All-nil, All-cons}
+use Rattle.uc_model.specs.declared.schedule.Printed.{Printed}
 use Rattle.uc_model.proofs.Ring.{linear}
-use Rattle.dual_model.specs.Prices.{IsLawfulTable}
 use Rattle.dual_model.specs.declared.node.Node.{Node}
 use Rattle.branch_tree.specs.NumberedTree.{node_at}
 use Rattle.branch_tree.specs.TreeView.{HasFreeCell}
+use Rattle.branch_tree.specs.declared.found.Entry.{Entry}
 use Rattle.branch_tree.specs.declared.found.Outcome.{Outcome}
-use Rattle.search_core.specs.Machine.{IsHolding, entries_of, stored_at}
+use Rattle.search_core.specs.Machine.{Machine, entries_of, stored_at}
 use Rattle.search_core.specs.Moves.{IsMoveLegal}
 use Rattle.search_core.specs.Steps.{IsFresh, IsStoredTable}
 use Rattle.search_core.specs.Runs.{TreeRunsHold}
 use Rattle.search_core.specs.declared.event.Move.{Move}
-use Rattle.search_core.specs.declared.holder.Holder.{Holder}
+use Rattle.search_core.proofs.TrueSteps.{NeverDecreases}
 use Rattle.book.specs.BookView.{BookView, state_of}
 use Rattle.book.specs.Calls.{IsCommitted, IsHeldUnit, IsStoredAt, MayCommit}
 use Rattle.book.specs.Opening.{Opening}
 use Rattle.book.specs.Running.{IsRunning}
 use Rattle.opening.specs.Outcomes.{IsSized}
-use Rattle.closing_pass.specs.inside.Tables.{IsClosingTable, IsNewScale}
+use Rattle.closing_pass.specs.inside.Tables.{Instance, IsNewScale, IsTrialAt, Settling, Table, Trial}
 use Rattle.closing_pass.specs.Closings.{IsLeft}
-use Rattle.branch_tree.specs.declared.found.Entry.{Entry}
-use Rattle.uc_model.specs.declared.instance.Instance.{Instance}
-use Rattle.dual_model.specs.declared.table.Table.{Table}
-use Rattle.search_desk.specs.Desks.{IsPrunedBy, IsScaledWithin}
-use Rattle.search_desk.proofs.Claimed.{listed}
-use Rattle.search_desk.proofs.Kept.{kept_committed, kept_wider, stay_committed}
+use Rattle.search_desk.specs.Best.{IsNoWorse, cost_of}
+use Rattle.search_desk.specs.Desks.{IsPrunedBy, IsScaledEntry}
+use Rattle.search_desk.proofs.Claimed.{later_of, one_node}
+use Rattle.search_desk.proofs.Kept.{kept_committed, kept_lower, kept_wider, stay_committed}
 
--- one node is held by a unit
-one_node : (book : BookView) (a b unit one other : ℕ) → IsHolding (state_of book) a unit one → IsHolding (state_of book) b unit other → one ≡ other
-one_node book a b unit one other first second =
-    let both : Some (record { worker = a; node = one }) ≡ Some (record { worker = b; node = other }) = sym first ∙ second in
-    let same : record { worker = a; node = one } ≡ record { worker = b; node = other } = cc in
-    ap (λ (h : Holder). h.node) same
+-- ---- a table that no entry is at
+abbrev IsElsewhere : Machine → Table → Bool → Entry → Type 0
+IsElsewhere m table exact entry = entry.exact ≡ exact → slice_get m.tables entry.table ≢ Some table
 
--- no entry is at a table of a scale above those of all tables
-new_fresh : (exact : Bool) (book : BookView) (limit scale node : ℕ) (table : Table) → All (IsScaledWithin limit) book.tables → limit < scale → IsNewScale scale table
-    → IsFresh (state_of book) (entries_of book.log node) table exact
-new_fresh exact book limit scale node table scaled below new i d within kind is =
-    let old = listed (IsScaledWithin limit) book.tables (get_or (entries_of book.log node) i d).table table scaled is in
-    omega (arith, ints, linear, old, new, below)
+pub fresh_none : (m : Machine) (entries : List Entry) (table : Table) (exact : Bool) → entries ≡ [] → IsFresh m entries table exact
+fresh_none m entries table exact none = subst (λ (es : List Entry). IsFresh m es table exact) (sym none) (All-nil (IsElsewhere m table exact))
 
-no_entry : (book : BookView) (had node : ℕ) → had ≡ length (entries_of book.log node) → had ≡ 0 → entries_of book.log node ≡ []
-no_entry book had node count none = nil_from_length (entries_of book.log node) (sym count ∙ none)
+-- no later entry has so great a scale
+later_fresh : (m : Machine) (limit scale : ℕ) (entries : List Entry) (table : Table) (exact : Bool) → limit < scale → IsNewScale scale table
+    → All (IsScaledEntry limit m.tables) entries → All (IsElsewhere m table exact) entries
+later_fresh m limit scale entries table exact below new later i d within kind is =
+    let old = later i d within table is in
+    absurd (omega (arith, ints, linear, old, new, below))
 
-module _ (exact : Bool) (opening : Opening) (book : BookView) (seen : Option ℤ) (limit scale unit worker node had : ℕ) (path : Node) (stored : Table) (value : ℤ)
-    (table : Table) (outcome : Outcome) (action : Move) (left : IsLeft exact opening book seen limit) (below : limit < scale)
-    (held : IsHeldUnit book unit worker node had) (at : IsStoredAt book unit path stored value)
-    (is : IsClosingTable opening.instance stored node had scale table) where
-  same : at.number ≡ node
-  same = one_node book at.worker worker unit at.number node at.holds held.holds
+-- where the first entry has one of two scales, it hasn't the other
+pub fresh_second : (m : Machine) (limit : ℕ) (entries : List Entry) (one two : Table) (exact : Bool) → IsNewScale (limit + 1) one
+    → IsNewScale (limit + 2) two → All (IsScaledEntry limit m.tables) (drop 1 entries) → (IsFresh m entries one exact → ⊥) → IsFresh m entries two exact
+fresh_second m limit [] one two exact first second later stale = All-nil (IsElsewhere m two exact)
+fresh_second m limit (entry ∷ entries) one two exact first second later stale =
+    All-cons (IsElsewhere m two exact) entry entries
+    (λ kind is. stale (All-cons (IsElsewhere m one exact) entry entries
+    (λ kind2 is2.
+    let both : Some two ≡ Some one = sym is ∙ is2 in
+    let same : two ≡ one = cc in
+    let scales = ap (λ (t : Table). t.k) same in
+    absurd (omega (arith, ints, linear, scales, first, second)))
+    (later_fresh m limit (limit + 1) entries one exact (omega arith) first later)))
+    (later_fresh m limit (limit + 2) entries two exact (omega arith) second later)
 
-  fresh : IsFresh (state_of book) (entries_of book.log node) table exact
-  fresh = ⊎_elim
-      (λ (h : (node ≢ 0) × (had ≡ 0) × (table ≡ stored)).
-      subst (λ (entries : List Entry). IsFresh (state_of book) entries table exact) (sym (no_entry book had node held.count h.1))
-      (All-nil (λ (entry : Entry). entry.exact ≡ exact → slice_get book.tables entry.table ≢ Some table)))
-      (λ (h : IsLawfulTable opening.instance table × IsNewScale scale table × ((node ≡ 0) ⊎ (had ≢ 0))).
-      new_fresh exact book limit scale node table left.kept.scaled below h.1)
-      is
+-- ---- the commit
+module _ (exact exact_dispatch : Bool) (instance : Instance) (opening : Opening) (book : BookView) (settling : Settling) (trial : Trial) (path : Node) (stored : Table)
+    (bound : ℤ) (outcome : Outcome) (action : Move) (held : IsHeldUnit book settling.held.unit settling.held.worker settling.held.node settling.held.had)
+    (at : IsStoredAt book settling.held.unit path stored bound) (is : IsTrialAt exact exact_dispatch instance book settling trial) where
+  pub same : at.number ≡ settling.held.node
+  same = one_node book at.worker settling.held.worker settling.held.unit at.number settling.held.node at.holds held.holds
 
-  first : entries_of book.log node ≡ [] → node ≢ 0 → HasFreeCell book.tree node → IsStoredTable (state_of book) node table
-  first none other free = ⊎_elim
-      (λ (h : (node ≢ 0) × (had ≡ 0) × (table ≡ stored)).
-      let here : slice_get book.tables (stored_at book.tree node).table ≡ Some stored =
-      subst (λ n. slice_get book.tables (stored_at book.tree n).table ≡ Some stored) same at.is_table in
-      subst (λ (t : Table). slice_get book.tables (stored_at book.tree node).table ≡ Some t) (sym h.2) here)
-      (λ (h : IsLawfulTable opening.instance table × IsNewScale scale table × ((node ≡ 0) ⊎ (had ≢ 0))). ⊎_elim
-      (λ (root : node ≡ 0). absurd (other root))
-      (λ (some : had ≢ 0). absurd (some (held.count ∙ ap (λ (l : List Entry). length l) none)))
-      h.2)
-      is
+  pub bound_is : bound ≡ (stored_at book.tree settling.held.node).value
+  bound_is = subst (λ n. bound ≡ (stored_at book.tree n).value) same at.is_value
 
-  pub settle_may : IsMoveLegal (λ cost. Unit {0}) (state_of book) node table exact outcome action
-      → MayCommit book worker unit path table exact outcome action
+  pub settle_may : IsMoveLegal (λ cost. Unit {0}) (state_of book) settling.held.node trial.table exact outcome action
+      → MayCommit book settling.held.worker settling.held.unit path trial.table exact outcome action
   settle_may legal = record {
-    node = node;
+    node = settling.held.node;
     holds = held.holds;
     may = record {
       is_node = subst (λ n. node_at book.tree.nodes n ≡ Some path) same at.is_node;
-      fresh = fresh;
-      first = first;
+      fresh = is.fresh;
+      first = is.first;
       legal = legal;
     };
   }
 
-  scaled : IsScaledWithin scale table
-  scaled = ⊎_elim
-      (λ (h : (node ≢ 0) × (had ≡ 0) × (table ≡ stored)).
-      let old : IsScaledWithin limit stored = listed (IsScaledWithin limit) book.tables _ stored left.kept.scaled at.is_table in
-      subst (IsScaledWithin scale) (sym h.2) (omega (arith, linear, old, below)))
-      (λ (h : IsLawfulTable opening.instance table × IsNewScale scale table × ((node ≡ 0) ⊎ (had ≢ 0))).
-      let new : table.k ≡ pos (1000000 + scale) = h.1 in omega (arith, linear, new))
-      is
-
-  pub settle_left : TreeRunsHold → (new : BookView) → IsRunning opening book → IsSized outcome → IsPrunedBy seen action
-      → IsCommitted book worker unit path table exact outcome action new → IsLeft exact opening new seen scale
-  settle_left law new running sized by done =
+  pub settle_left : TreeRunsHold → NeverDecreases → (best new_best : Option (Printed × ℤ)) → IsNoWorse best new_best
+      → IsLeft exact opening book (cost_of best) settling.scale → (new : BookView) → IsRunning opening book → IsSized outcome
+      → IsPrunedBy (cost_of new_best) action
+      → IsCommitted book settling.held.worker settling.held.unit path trial.table exact outcome action new
+      → IsLeft exact opening new (cost_of new_best) trial.used
+  settle_left law never best new_best no_worse left new running sized by done =
       let may = done.may in
-      subst (λ (b : BookView). IsLeft exact opening b seen scale) (sym done.is) (record {
-        kept = kept_committed law exact opening book seen scale worker unit may.node path table outcome action running may.holds may.may sized scaled by
-            (kept_wider exact opening book seen limit scale (omega (arith, below)) left.kept);
-        complete = stay_committed exact book worker unit may.node table outcome action may.holds left.complete;
+      let kept = kept_lower never exact opening book (cost_of best) (cost_of new_best) trial.used no_worse
+      (kept_wider exact opening book (cost_of best) settling.scale trial.used is.from left.kept) in
+      subst (λ (b : BookView). IsLeft exact opening b (cost_of new_best) trial.used) (sym done.is) (record {
+        kept = kept_committed law exact opening book (cost_of new_best) trial.used settling.held.worker settling.held.unit may.node path trial.table outcome action
+            running may.holds may.may sized
+            (later_of book trial.used settling.held.worker settling.held.unit settling.held.node settling.held.had settling.held.worker may.node trial.table held
+            is.later may.holds) by kept;
+        complete = stay_committed exact book settling.held.worker settling.held.unit may.node trial.table outcome action may.holds left.complete;
       })
 
--- the table is lawful
-pub closing_lawful : (instance : Instance) (stored table : Table) (node had scale : ℕ) → IsLawfulTable instance stored
-    → IsClosingTable instance stored node had scale table → IsLawfulTable instance table
-closing_lawful instance stored table node had scale lawful is = ⊎_elim
-    (λ (h : (node ≢ 0) × (had ≡ 0) × (table ≡ stored)). subst (IsLawfulTable instance) (sym h.2) lawful)
-    (λ (h : IsLawfulTable instance table × IsNewScale scale table × ((node ≡ 0) ⊎ (had ≢ 0))). h.0)
-    is
+-- the table that the node stores, where it has no entry
+pub stored_first : (book : BookView) (unit worker node had : ℕ) (path : Node) (stored : Table) (bound : ℤ) → IsHeldUnit book unit worker node had
+    → IsStoredAt book unit path stored bound → IsStoredTable (state_of book) node stored
+stored_first book unit worker node had path stored bound held at =
+    subst (λ n. slice_get book.tables (stored_at book.tree n).table ≡ Some stored)
+    (one_node book at.worker worker unit at.number node at.holds held.holds) at.is_table
+
+pub no_entry : (book : BookView) (had node : ℕ) → had ≡ length (entries_of book.log node) → had ≡ 0 → entries_of book.log node ≡ []
+no_entry book had node count none = nil_from_length (entries_of book.log node) (sym count ∙ none)
 
 -- one entry more
 pub settle_log : (exact : Bool) (book new : BookView) (worker unit : ℕ) (path : Node) (table : Table) (outcome : Outcome) (action : Move)

@@ -1,36 +1,20 @@
 //! The closing pass: once the workers have ended, the caller commits each claim that is still held, and then claims open nodes itself.
 
-ghost use Rattle.std.specs.Prelude.{◌≡◌, ℕ, ◌+◌, ◌*◌, ◌<◌, ◌≤◌, Bool, IfOk, IfSome, None, OnOk, Option, ℤ, length};
-ghost use Rattle.uc_model.specs.Limits.{IsLawfulInstance};
+ghost use Rattle.std.specs.Prelude.{◌≡◌, ℕ, ◌≤◌, IfOk, IfSome, None};
 ghost use Rattle.uc_model.specs.declared.tolerance.TheConstants.{WHOLE_GAP};
-ghost use Rattle.branch_tree.specs.NumberedTree.{node_count};
 ghost use Rattle.branch_tree.specs.StoredTree.{tree_bound};
-ghost use Rattle.dual_model.specs.Fixings.{IsNodeOf};
-ghost use Rattle.dual_model.specs.Prices.{IsLawfulTable};
-ghost use Rattle.search_core.specs.Moves.{IsMoveLegal};
-ghost use Rattle.search_core.specs.declared.limits.TheConstants.{MAX_BUDGET};
-ghost use Rattle.book.specs.BookView.{state_of};
-ghost use Rattle.book.specs.Calls.{IsCommitted, IsHeldUnit, MayCommit};
-ghost use Rattle.branch_tree.specs.declared.found.Outcome.TheVariants.{Value};
-ghost use Rattle.search_core.specs.Machine.{entries_of};
-ghost use Rattle.search_core.specs.Runs.{IsTrueOutcome};
-ghost use Rattle.opening.specs.Outcomes.{IsOutcomeAt};
-ghost use Rattle.search_desk.specs.Best.{cost_of};
-ghost use Rattle.closing_pass.specs.inside.Tables.{IsClosingTable};
+ghost use Rattle.book.specs.Calls.{IsHeldUnit};
+ghost use Rattle.decided_nodes.specs.Pivoting.{uses_exact_dispatch};
+ghost use Rattle.found_schedule.specs.Found.{IsFoundIfAny};
+ghost use Rattle.search_desk.specs.Best.{IsNoWorse, cost_of};
 ghost use Rattle.closing_pass.specs.Closings.{IsEnded, IsLeft, is_finished};
-ghost use Rattle.search_desk.specs.Desks.{IsPrunedBy};
-ghost use Rattle.dual_model.specs.declared.table.Table.{Table};
 
+use crate::settling::{Held, Settling};
 use book::{Book, Claimed};
-use branch_tree::Outcome;
-use dual_model::{Node, Table};
-use opening::Evaluator;
+use decided_nodes::Pivoting;
 use outside::Gate;
-use prices::{Ascent, Values, next_ascent};
-use search_core::Move;
 use search_core::laws::tree_runs_hold;
-use search_core::limits::NODE_ENTRIES;
-use search_desk::{Run, is_closed};
+use search_desk::{Run, cheaper, is_closed};
 use std::alloc::Global;
 use std::sync::Wait;
 use uc_model::{Instance, NoMemory, Printed};
@@ -38,30 +22,49 @@ use uc_model::{Instance, NoMemory, Printed};
 /// The caller, as a worker.
 const CALLER: u8 = 0;
 
-/// A claim that is held: its unit, its worker, its node, and how many entries the log has of this.
-#[derive(Clone, Copy)]
-struct Held {
-    unit: u32,
-    worker: u8,
-    node: u32,
-    had: u32,
+/// The book, and the best schedule so far with its cost in micro-dollars.
+#[derive(Drop)]
+pub struct Progress<C: Run> {
+    pub book: Book<C>,
+    pub best: Option<(Printed, i64)>,
 }
 
-/// The best schedule that the workers found; how the search ends, at a gap in parts per million, or once the budget is spent; and whether
-/// claims evaluate VE.
+impl<C: Run> Progress<C> {
+    ghost use Rattle.std.specs.Prelude.{◌≡◌};
+    ghost use Rattle.found_schedule.specs.Found.{IsFoundIfAny};
+    ghost use Rattle.search_desk.specs.Best.{IsNoWorse, cost_of};
+
+    /// Takes the schedule that was found, where it is cheaper.
+    pub(crate) fn offer(&mut self, found: Option<(Printed, i64)>)
+        requires best { IsFoundIfAny C.exact_dispatch C.opening.instance self.old.best }
+        requires found { IsFoundIfAny C.exact_dispatch C.opening.instance found }
+        ensures book { self.new.book ≡ self.old.book }
+        ensures best { IsFoundIfAny C.exact_dispatch C.opening.instance self.new.best }
+        ensures no_worse { IsNoWorse self.old.best self.new.best }
+    {
+        let best = self.best.take();
+        self.best = cheaper(best, found);
+    }
+
+    /// The cost of the best schedule, in micro-dollars.
+    pub(crate) fn cost(&self) -> Option<i64>
+        ensures { result ≡ cost_of self.now.best }
+    {
+        match &self.best {
+            Some((_, cost)) => Some(*cost),
+            None => None,
+        }
+    }
+}
+
+/// How the search ends, at a gap in parts per million, or once the budget is spent; whether claims evaluate VE; and how they use the exact
+/// dispatch.
 #[derive(Clone, Copy)]
-pub struct Closing<'a> {
-    pub best: &'a Option<(Printed, i64)>,
+pub struct Closing {
     pub gap: u32,
     pub budget: u32,
     pub exact: bool,
-}
-
-/// How a claim that is held is evaluated: at a table of this scale, by VE or else by V.
-#[derive(Clone, Copy)]
-struct Evaluation {
-    scale: u32,
-    exact: bool,
+    pub pivoting: Pivoting,
 }
 
 /// Commits each claim that is still held, and claims open nodes until the schedule closes the tree, no node is open or the budget is spent. The
@@ -70,7 +73,7 @@ pub fn close<C: Run, R: Wait, G: Gate>(
     rt: &R,
     alloc: Global,
     instance: &Instance,
-    book: &mut Book<C>,
+    progress: &mut Progress<C>,
     closing: Closing,
     gate: &G,
 ) -> Result<(), NoMemory>
@@ -78,42 +81,50 @@ pub fn close<C: Run, R: Wait, G: Gate>(
     requires gap { closing.gap ≡ C.opening.gap }
     requires budget { closing.budget ≡ C.opening.budget }
     requires kind { closing.exact ≡ C.exact }
-    requires left { IsLeft C.exact C.opening book.old (cost_of closing.best.now) C.opening.budget }
-    ensures { OnOk result (IsEnded C.exact C.opening book.new closing.entry.best.now) }
+    requires dispatch { uses_exact_dispatch closing.pivoting ≡ C.exact_dispatch }
+    requires left { IsLeft C.exact C.opening progress.old.book (cost_of progress.old.best) C.opening.budget }
+    requires found { IsFoundIfAny C.exact_dispatch C.opening.instance progress.old.best }
+    ensures ended { IfOk result (λ _. IsEnded C.exact C.opening progress.new.book progress.new.best) }
+    ensures found { IfOk result (λ _. IsFoundIfAny C.exact_dispatch C.opening.instance progress.new.best) }
+    ensures no_worse { IfOk result (λ _. IsNoWorse progress.old.best progress.new.best) }
 {
-    book.keeps_run();
+    progress.book.keeps_run();
+    let mut scale = closing.budget;
     for step in 0..closing.budget {
-        let Some(held) = next(rt, book, closing, gate) else {
+        let Some(held) = next(rt, progress, closing, gate) else {
             return Ok(());
         };
-        let evaluation = Evaluation {
-            scale: closing.budget + step + 1,
-            exact: closing.exact,
+        let settling = Settling {
+            instance,
+            closing,
+            held,
+            scale,
         };
-        settle(alloc, instance, book, held, evaluation)?;
+        scale = settling.settle(alloc, progress)?;
     }
-    book.keeps_run();
+    progress.book.keeps_run();
     Ok(())
 }
 
 // A claim that is held, or a new one of an open node; none where the schedule closes the tree, no node is open or the budget is spent.
 fn next<C: Run, R: Wait, G: Gate>(
     rt: &R,
-    book: &mut Book<C>,
+    progress: &mut Progress<C>,
     closing: Closing,
     gate: &G,
 ) -> Option<Held>
     requires gap { closing.gap ≡ C.opening.gap }
-    requires left { (limit : ℕ) × IsLeft C.exact C.opening book.old (cost_of closing.best.now) limit }
-    ensures held { IfSome result (λ held. IsHeldUnit book.new held.unit held.worker held.node held.had) }
-    ensures ended { result ≡ None → IsEnded C.exact C.opening book.new closing.entry.best.now }
-    ensures left { (limit : ℕ) → IsLeft C.exact C.opening book.old (cost_of closing.entry.best.now) limit
-        → IsLeft C.exact C.opening book.new (cost_of closing.entry.best.now) limit }
-    ensures log { book.new.log ≡ book.old.log }
+    requires left { (limit : ℕ) × IsLeft C.exact C.opening progress.old.book (cost_of progress.old.best) limit }
+    ensures held { IfSome result (λ held. IsHeldUnit progress.new.book held.unit held.worker held.node held.had) }
+    ensures ended { result ≡ None → IsEnded C.exact C.opening progress.new.book progress.new.best }
+    ensures best { progress.new.best ≡ progress.old.best }
+    ensures left { (limit : ℕ) → IsLeft C.exact C.opening progress.old.book (cost_of progress.old.best) limit
+        → IsLeft C.exact C.opening progress.new.book (cost_of progress.old.best) limit }
+    ensures log { progress.new.book.log ≡ progress.old.book.log }
 {
     tree_runs_hold();
-    book.keeps_run();
-    if let Some((unit, worker, node, had)) = book.first_held() {
+    progress.book.keeps_run();
+    if let Some((unit, worker, node, had)) = progress.book.first_held() {
         return Some(Held {
             unit,
             worker,
@@ -121,11 +132,11 @@ fn next<C: Run, R: Wait, G: Gate>(
             had,
         });
     }
-    if is_finished(book, closing) {
+    if is_finished(progress, closing.gap) {
         return None;
     }
-    let node = book.first_open()?;
-    match book.claim(CALLER, node) {
+    let node = progress.book.first_open()?;
+    match progress.book.claim(CALLER, node) {
         Claimed::Mine { unit, had } => {
             gate.enter(rt, CALLER, unit);
             Some(Held {
@@ -141,158 +152,12 @@ fn next<C: Run, R: Wait, G: Gate>(
 }
 
 // Whether the schedule's cost is within the gap of the tree's bound, or no leaf has one.
-fn is_finished<C: Run>(book: &Book<C>, closing: Closing) -> bool
-    requires { closing.gap ≤ WHOLE_GAP }
-    ensures { result ≡ is_finished closing.entry.best.now (tree_bound book.now.tree) closing.entry.gap }
+fn is_finished<C: Run>(progress: &Progress<C>, gap: u32) -> bool
+    requires { gap ≤ WHOLE_GAP }
+    ensures { result ≡ is_finished progress.now.best (tree_bound progress.now.book.tree) gap }
 {
-    match book.bound() {
-        Some(bound) => is_closed(closing.best, bound, closing.gap),
+    match progress.book.bound() {
+        Some(bound) => is_closed(&progress.best, bound, gap),
         None => true,
-    }
-}
-
-// Evaluates and commits a claim that is held, at a table of a scale that no other has. The only error is `NoMemory`.
-fn settle<C: Run>(
-    alloc: Global,
-    instance: &Instance,
-    book: &mut Book<C>,
-    held: Held,
-    evaluation: Evaluation,
-) -> Result<(), NoMemory>
-    requires instance { instance.now ≡ C.opening.instance }
-    requires held { IsHeldUnit book.old held.unit held.worker held.node held.had }
-    requires scale { evaluation.scale ≤ 2 * MAX_BUDGET }
-    requires kind { evaluation.exact ≡ C.exact }
-    requires left { (seen : Option ℤ) × (limit : ℕ) × (limit < evaluation.scale) × IsLeft C.exact C.opening book.old seen limit }
-    ensures left { (seen : Option ℤ) (limit : ℕ) → limit < evaluation.scale → IsLeft C.exact C.opening book.old seen limit
-        → OnOk result (IsLeft C.exact C.opening book.new seen evaluation.scale) }
-    ensures log { OnOk result (length book.new.log ≡ length book.old.log + 1) }
-{
-    tree_runs_hold();
-    book.keeps_run();
-    let (path, stored, _) = book.holding(alloc, held.unit)?;
-    let values = Values {
-        instance,
-        exact: evaluation.exact,
-    };
-    let table = table(alloc, values, &path, stored, held, evaluation.scale)?;
-    let outcome = outcome(alloc, instance, &path, &table, evaluation.exact)?;
-    let action = action(book, held, &outcome);
-    enter(
-        book,
-        held,
-        Settled {
-            path,
-            table,
-            exact: evaluation.exact,
-            outcome,
-        },
-        action,
-    );
-    Ok(())
-}
-
-/// A node with its evaluation, by VE where `exact`.
-#[derive(Drop)]
-struct Settled {
-    path: Node,
-    table: Table,
-    exact: bool,
-    outcome: Outcome,
-}
-
-// Commits the evaluation of a claim that is held.
-fn enter<C: Run>(book: &mut Book<C>, held: Held, settled: Settled, action: Move)
-    requires told { IsTrueOutcome settled.exact C.opening.instance settled.path settled.table settled.outcome }
-    requires may { MayCommit book.old held.worker held.unit settled.path settled.table settled.exact settled.outcome action }
-    ensures { IsCommitted book.old held.worker held.unit settled.path settled.table settled.exact settled.outcome action book.new }
-{
-    let Settled {
-        path,
-        table,
-        exact,
-        outcome,
-    } = settled;
-    if !book.commit(held.worker, held.unit, &path, table, exact, outcome, action) {
-        unreachable!();
-    }
-}
-
-// What an evaluation comes to, by VE where `exact`. The only error is `NoMemory`.
-fn outcome(
-    alloc: Global,
-    instance: &Instance,
-    path: &Node,
-    table: &Table,
-    exact: bool,
-) -> Result<Outcome, NoMemory>
-    requires lawful { IsLawfulInstance instance.now }
-    requires path { IsNodeOf instance.now path.now }
-    requires table { IsLawfulTable instance.now table.now }
-    ensures { IfOk result (IsOutcomeAt exact instance.now path.now table.now) }
-{
-    let mut evaluator = Evaluator::new(alloc, instance)?;
-    let outcome = evaluator.outcome(alloc, path, table, exact);
-    drop(evaluator);
-    outcome
-}
-
-// The table that the node stores, where it wasn't evaluated yet, or that of an ascent from it.
-fn table(
-    alloc: Global,
-    values: Values,
-    path: &Node,
-    stored: Table,
-    held: Held,
-    scale: u32,
-) -> Result<Table, NoMemory>
-    requires lawful { IsLawfulInstance values.instance.now }
-    requires path { IsNodeOf values.instance.now path.now }
-    requires stored { IsLawfulTable values.instance.now stored }
-    requires scale { scale ≤ 2 * MAX_BUDGET }
-    ensures { IfOk result (IsClosingTable values.entry.instance.now stored held.node held.had scale) }
-{
-    if held.node != 0 && held.had == 0 {
-        return Ok(stored);
-    }
-    let ascent = next_ascent(alloc, values, path, &stored, scale, i128::MAX);
-    drop(stored);
-    Ok(table_of(ascent?))
-}
-
-// The table of an ascent.
-fn table_of(ascent: Ascent) -> Table
-    ensures { result ≡ ascent.table }
-{
-    let Ascent { table, .. } = ascent;
-    table
-}
-
-// The move that ends the claim: the node is left open, or split where it had all the entries that it may have.
-fn action<C: Run>(book: &Book<C>, held: Held, outcome: &Outcome) -> Move
-    requires within { held.node < node_count book.now.tree.nodes }
-    requires had { held.had ≡ length (entries_of book.now.log held.node) }
-    ensures legal { (table : Table) (exact : Bool) → IsMoveLegal (λ cost. Unit {0}) (state_of book.now) held.node table exact outcome.now result }
-    ensures unpruned { (seen : Option ℤ) → IsPrunedBy seen result }
-{
-    match outcome {
-        Outcome::Empty(_) => Move::Empty,
-        Outcome::Value(_) => open_move(book, held),
-    }
-}
-
-// The move that leaves the node open, or splits it.
-fn open_move<C: Run>(book: &Book<C>, held: Held) -> Move
-    requires within { held.node < node_count book.now.tree.nodes }
-    requires had { held.had ≡ length (entries_of book.now.log held.node) }
-    ensures legal { (table : Table) (exact : Bool) (value : ℤ) → IsMoveLegal (λ cost. Unit {0}) (state_of book.now) held.node table exact (Value value) result }
-    ensures unpruned { (seen : Option ℤ) → IsPrunedBy seen result }
-{
-    if (held.had as usize) + 1 < NODE_ENTRIES {
-        return Move::Again;
-    }
-    match book.free_cell(held.node) {
-        Some((g, t)) => Move::Split { g, t },
-        None => Move::Again,
     }
 }

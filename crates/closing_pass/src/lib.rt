@@ -1,6 +1,7 @@
-//! The closing pass of a search: once its workers have ended, the caller commits what they still hold, and claims on to the end.
+//! What the caller does once the workers have ended: it commits each claim that is still held, and then claims open nodes itself.
 #![tactic(auto)]
 
 mod closing;
+mod settling;
 
-pub use closing::{Closing, close};
+pub use closing::{Closing, Progress, close};

@@ -60,11 +60,12 @@ table_option = record (new_rule (codes "table")) {
 abbrev pub switch : Text → Rule
 switch name = record (new_rule name) { long = Some name; action = Some SetTrue }
 
--- `solve FILE --cert FILE [--units N] [--workers N] [--gap PPM] [--exact] [--exact-units] [--shed PRICE] [--spill-reserve PRICE]`
+-- `solve FILE --cert FILE [--units N] [--workers N] [--gap PPM] [--exact] [--exact-units] [--pivot] [--shed PRICE] [--spill-reserve PRICE]`
 abbrev pub solve_shape : Shape
 solve_shape = record (new_shape (codes "solve")) {
   rules = place (codes "instance") ∷ needed_option (codes "cert") ∷ units_option ∷ workers_option ∷ gap_option
-      ∷ switch (codes "exact") ∷ switch (codes "exact-units") ∷ price_option (codes "shed") ∷ price_option (codes "spill-reserve") ∷ [];
+      ∷ switch (codes "exact") ∷ switch (codes "exact-units") ∷ switch (codes "pivot") ∷ price_option (codes "shed")
+      ∷ price_option (codes "spill-reserve") ∷ [];
 }
 
 -- `check FILE CERT [--shed PRICE] [--spill-reserve PRICE]`

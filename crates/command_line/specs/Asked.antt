@@ -24,6 +24,7 @@ solve_asked solve = record {
   gap = solve.gap;
   exact = solve.exact;
   exact_units = solve.exact_units;
+  pivot = solve.pivot;
   shed = solve.shed;
   spill_reserve = solve.spill_reserve;
 }
@@ -78,7 +79,7 @@ HasWorkers workers = (1 ≤ workers) × (workers ≤ 64)
 abbrev pub HasHours : ℕ → Type 0
 HasHours hours = (1 ≤ hours) × (hours ≤ 168)
 
--- windows and steps are in range, the budget is at most a million evaluations, workers are in range, the gap is at most the whole of a
+-- windows and steps are in range, the budget is at most a million claims, workers are in range, the gap is at most the whole of a
 -- cost, and prices are in range
 abbrev pub HasNumbers : CommandWords → Type 0
 HasNumbers (forms.Solve solve) =

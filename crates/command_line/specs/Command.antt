@@ -7,9 +7,10 @@ use Rattle.clap.specs.ValueTests.{is_unsigned_in}
 use Rattle.clap.specs.Words.{Row, Text, first_of, one_of, subcommand_of}
 use Rattle.command_line.specs.Arguments.{program, is_taken}
 
--- what `solve` is asked: the instance's file, the certificate's, the budget of evaluations, the number of workers, the gap in parts per
--- million of a cost at which a search is closed, whether a rounded number is refused, whether bounds keep ramps in each unit, and the
--- prices of unserved demand and of missing reserve in micro-dollars for a watt and an hour, 0 where there is none
+-- what `solve` is asked: the instance's file, the certificate's, the budget of claims, the number of workers, the gap in parts per
+-- million of a cost at which a search is closed, whether a rounded number is refused, whether bounds keep ramps in each unit, whether a
+-- commitment whose cells are all decided is dispatched exactly, and the prices of unserved demand and of missing reserve in micro-dollars for
+-- a watt and an hour, 0 where there is none
 pub record Solve : Type 0 where
   pub instance : List ℕ
   pub certificate : List ℕ
@@ -18,6 +19,7 @@ pub record Solve : Type 0 where
   pub gap : ℕ
   pub exact : Bool
   pub exact_units : Bool
+  pub pivot : Bool
   pub shed : ℕ
   pub spill_reserve : ℕ
 
@@ -88,6 +90,7 @@ solve_of rows = record {
   gap = number_of 0 1000000 (codes "gap") rows;
   exact = is_on (codes "exact") rows;
   exact_units = is_on (codes "exact-units") rows;
+  pivot = is_on (codes "pivot") rows;
   shed = number_of 0 1000000 (codes "shed") rows;
   spill_reserve = number_of 0 1000000 (codes "spill-reserve") rows;
 }

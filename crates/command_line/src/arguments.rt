@@ -141,6 +141,7 @@ fn solve_command<'a>(alloc: Global) -> Built<'a>
     let command = with_arg(command, gap_option(alloc));
     let command = with_arg(command, switch(alloc, "exact"));
     let command = with_arg(command, switch(alloc, "exact-units"));
+    let command = with_arg(command, switch(alloc, "pivot"));
     let command = with_arg(command, price_option(alloc, "shed"));
     with_arg(command, price_option(alloc, "spill-reserve"))
 }

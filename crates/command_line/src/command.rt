@@ -12,7 +12,7 @@ use clap::{ArgMatches, Error};
 use report::Fault;
 use std::alloc::Global;
 
-/// The greatest number of an option: evaluations of a budget, parts per million of a cost, and micro-dollars for a watt and an hour.
+/// The greatest number of an option: claims of a budget, parts per million of a cost, and micro-dollars for a watt and an hour.
 const MOST: u32 = 1_000_000;
 
 /// The most workers.
@@ -27,9 +27,10 @@ const MOST_TABLE: u32 = 1_000_002;
 /// The greatest seed.
 const MOST_SEED: u32 = 4_294_967_295;
 
-/// What `solve` is asked: the file of the instance, that of the certificate, the budget in evaluations, the number of workers, the gap at
-/// which a search is closed, in parts per million of a cost, whether a rounded number is refused, whether bounds keep ramps in each unit, and the
-/// prices of unserved demand and of missing reserve, in micro-dollars for a watt and an hour, 0 where there is none.
+/// What `solve` is asked: the file of the instance, that of the certificate, the budget in claims, the number of workers, the gap at
+/// which a search is closed, in parts per million of a cost, whether a rounded number is refused, whether bounds keep ramps in each unit,
+/// whether a commitment whose cells are all decided is dispatched exactly, and the prices of unserved demand and of missing reserve, in
+/// micro-dollars for a watt and an hour, 0 where there is none.
 #[derive(Clone, Copy, Debug)]
 pub struct Solve<'a> {
     pub instance: &'a str,
@@ -39,6 +40,7 @@ pub struct Solve<'a> {
     pub gap: u32,
     pub exact: bool,
     pub exact_units: bool,
+    pub pivot: bool,
     pub shed: u32,
     pub spill_reserve: u32,
 }
@@ -159,6 +161,7 @@ fn solve_of<'a>(given: &ArgMatches<'a>) -> Solve<'a>
         gap: number(given, "gap", 0, MOST),
         exact: is_given(given, "exact"),
         exact_units: is_given(given, "exact-units"),
+        pivot: is_given(given, "pivot"),
         shed: number(given, "shed", 0, MOST),
         spill_reserve: number(given, "spill-reserve", 0, MOST),
     }

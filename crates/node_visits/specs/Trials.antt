@@ -8,7 +8,7 @@ use Rattle.search_core.specs.Runs.{IsTrueOutcome}
 use Rattle.opening.specs.Outcomes.{IsSized}
 use Rattle.search_desk.specs.declared.desk.Claim.{Claim}
 use Rattle.search_desk.specs.declared.desk.Evaluated.{Evaluated}
-use Rattle.search_desk.specs.Desks.{IsScaledWithin}
+use Rattle.search_desk.specs.Desks.{IsLaterWithin}
 
 -- an ascent to a lawful table, whose scale is that of the claim of this unit, with a lawful ray if it ran off
 pub record IsAscentFor (instance : Instance) (unit : ℕ) (ascent : Ascent) : Type 0 where
@@ -22,10 +22,10 @@ abbrev pub IsNextAt : Instance → ℕ → Option Ascent → Type 0
 IsNextAt instance unit None = Unit {0}
 IsNextAt instance unit (Some ascent) = IsAscentFor instance unit ascent
 
--- a lawful table, of a scale at most that of the claim, or the one that its node stores
+-- a lawful table, of a scale at most that of the claim where the node has an entry
 pub record IsTableFor (instance : Instance) (claim : Claim) (table : Table) : Type 0 where
   pub lawful : IsLawfulTable instance table
-  pub scaled : (limit : ℕ) → claim.unit ≤ limit → IsScaledWithin limit claim.table → IsScaledWithin limit table
+  pub scaled : (limit : ℕ) → claim.unit ≤ limit → IsLaterWithin limit claim.had table
 
 -- an evaluation of the kind of the claim's node at such a table
 pub record IsEvaluatedFor (exact : Bool) (instance : Instance) (claim : Claim) (done : Evaluated) : Type 0 where

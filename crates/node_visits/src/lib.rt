@@ -11,5 +11,5 @@ mod worker;
 pub use effort::{Effort, enough, moves};
 pub use pair::beside;
 pub use start::{Start, first_ascent};
-pub use visit::{Aim, evaluated};
+pub use visit::{Aim, Visited, evaluated};
 pub use worker::Worker;

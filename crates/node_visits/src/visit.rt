@@ -4,6 +4,8 @@ ghost use Rattle.std.specs.Prelude.{◌≡◌, ◌≤◌, pos, IfOk, IfSome};
 ghost use Rattle.uc_model.specs.Limits.{IsLawfulInstance};
 ghost use Rattle.uc_model.specs.declared.tolerance.TheConstants.{WHOLE_GAP};
 ghost use Rattle.dual_model.specs.Prices.{IsLawfulTable};
+ghost use Rattle.decided_nodes.specs.Pivoting.{uses_exact_dispatch};
+ghost use Rattle.found_schedule.specs.Found.{IsFoundIfAny};
 ghost use Rattle.search_desk.specs.Desks.{IsHeldClaim};
 ghost use Rattle.node_visits.specs.Trials.{IsAscentFor, IsEvaluatedFor, IsNextAt, IsTableFor};
 ghost use Rattle.node_visits.specs.inside.Trying.{IsRay, IsTrialFor};
@@ -13,13 +15,14 @@ use crate::pair::beside;
 use crate::start::first_ascent;
 use crate::worker::Worker;
 use claims::{Branching, Hints, split_cell};
+use decided_nodes::{Decided, Pivoting, exact_dispatch};
 use dual_model::{Node, Table};
 use opening::{is_positive, node_ray};
 use prices::{Ascent, Values, next_ascent, with_cell, with_ray};
 use schedule_repair::is_small;
 use search_desk::{Claim, Evaluated};
 use std::alloc::Global;
-use uc_model::{Instance, NoMemory};
+use uc_model::{Instance, NoMemory, Printed};
 
 /// In so many claims a cell to split on is sought, each time by thousands of evaluations.
 const SEEKING_CLAIMS: u32 = 100;
@@ -30,33 +33,47 @@ const NODES: Branching = Branching { ripe: 1, late: 3 };
 /// One worker splits the root with its third entry, or on any cell with its fourth.
 const ROOT: Branching = Branching { ripe: 2, late: 3 };
 
-/// Several workers split the root at once.
-const SHARED_ROOT: Branching = Branching { ripe: 0, late: 0 };
+/// Several workers split the root at once, and a search that can claim each node splits every node so.
+const AT_ONCE: Branching = Branching { ripe: 0, late: 0 };
 
-/// What a claim is evaluated at: the table that its node inherited, a ray, or the table of an ascent; with the ascent that led to it, if there
-/// was one.
+/// What a claim is evaluated at: the table that its node inherited, a ray, or the table of an ascent or of an exact dispatch; with the ascent that
+/// led to it, or the schedule of the dispatch with its cost, in micro-dollars, if there was one.
 #[derive(Drop)]
 pub(crate) struct Trial {
     pub table: Table,
     pub ascent: Option<Ascent>,
+    pub found: Option<(Printed, i64)>,
 }
 
-/// How a node is searched: the gap that closes the search, in parts per million, whether several workers do it, and whether claims evaluate VE.
+/// How a node is searched: the gap that closes the search, in parts per million, whether several workers do it, whether claims evaluate VE, and how
+/// they use the exact dispatch.
 #[derive(Clone, Copy)]
 pub struct Aim {
     pub gap: u32,
     pub shared: bool,
     pub exact: bool,
+    pub pivoting: Pivoting,
+}
+
+/// An evaluation of a node, with the ascent that a repair is to begin with, and the schedule of an exact dispatch with its cost, in micro-dollars,
+/// if there is one.
+#[derive(Drop)]
+pub struct Visited {
+    pub done: Evaluated,
+    pub ascent: Option<Ascent>,
+    pub found: Option<(Printed, i64)>,
 }
 
 impl Trial {
     // A table that no ascent led to.
     fn of(table: Table) -> Trial
-        ensures { result.table ≡ table }
+        ensures table { result.table ≡ table }
+        ensures found { result.found ≡ None }
     {
         Trial {
             table,
             ascent: None,
+            found: None,
         }
     }
 
@@ -75,20 +92,20 @@ impl Trial {
     }
 }
 
-/// Evaluates the node that is held by the claim, with the ascent that a repair is to begin with, if there is one; the ascent of the first
-/// claim may have been made already. The only error is `NoMemory`.
+/// Evaluates the node that is held by the claim; the ascent of the first claim may have been made already. The only error is `NoMemory`.
 pub fn evaluated(
     alloc: Global,
     worker: &mut Worker,
     claim: &Claim,
     aim: Aim,
     next: &mut Option<Ascent>,
-) -> Result<(Evaluated, Option<Ascent>), NoMemory>
+) -> Result<Visited, NoMemory>
     requires claim { IsHeldClaim worker.old claim.now }
     requires gap { aim.gap ≤ WHOLE_GAP }
     requires next { IsNextAt worker.old 1 next.old }
     ensures kept { worker.new ≡ worker.old }
-    ensures evaluated { IfOk result (λ both. IsEvaluatedFor aim.exact worker.old claim.now both.0) }
+    ensures evaluated { IfOk result (λ visited. IsEvaluatedFor aim.exact worker.old claim.now visited.done) }
+    ensures found { IfOk result (λ visited. IsFoundIfAny (uses_exact_dispatch aim.pivoting) worker.old visited.found) }
 {
     let goal = goal(claim.seen, aim.gap);
     let trial = chosen(alloc, worker, claim, Search { aim, goal }, next)?;
@@ -104,13 +121,20 @@ pub fn evaluated(
         branching(claim, aim),
         trial.hints(),
     );
-    let Trial { table, ascent } = trial;
-    let done = Evaluated {
+    let Trial {
         table,
-        outcome,
-        cell,
-    };
-    Ok((done, repairable(claim, goal, ascent, is_small(instance))))
+        ascent,
+        found,
+    } = trial;
+    Ok(Visited {
+        done: Evaluated {
+            table,
+            outcome,
+            cell,
+        },
+        ascent: repairable(claim, goal, ascent, is_small(instance)),
+        found,
+    })
 }
 
 /// How a node is searched, and at which bound it is pruned.
@@ -122,15 +146,15 @@ struct Search {
 
 // After how many entries the node is split.
 fn branching(claim: &Claim, aim: Aim) -> Branching {
-    match (claim.node, aim.shared) {
-        (0, true) => SHARED_ROOT,
-        (0, false) => ROOT,
+    match (aim.pivoting, claim.node, aim.shared) {
+        (Pivoting::Exhaustive, _, _) => AT_ONCE,
+        (_, 0, true) => AT_ONCE,
+        (_, 0, false) => ROOT,
         _ => NODES,
     }
 }
 
-// What to evaluate the node at: the table that it inherited, where it wasn't evaluated yet; a ray that excludes it, where no schedule is
-// known; or else the table of an ascent.
+// What to evaluate the node at: the table of an exact dispatch, where there is one, or else one that isn't.
 fn chosen(
     alloc: Global,
     worker: &mut Worker,
@@ -141,7 +165,50 @@ fn chosen(
     requires claim { IsHeldClaim worker.old claim.now }
     requires next { IsNextAt worker.old 1 next.old }
     ensures kept { worker.new ≡ worker.old }
-    ensures trial { IfOk result (IsTrialFor worker.old claim.now) }
+    ensures trial { IfOk result (IsTrialFor (uses_exact_dispatch search.aim.pivoting) worker.old claim.now) }
+{
+    match dispatched(alloc, worker.instance(), claim, search.aim.pivoting)? {
+        Some(trial) => Ok(trial),
+        None => priced(alloc, worker, claim, search, next),
+    }
+}
+
+// The exact dispatch at the first claim of a node at which each cell is decided, where the search uses it.
+fn dispatched(
+    alloc: Global,
+    instance: &Instance,
+    claim: &Claim,
+    pivoting: Pivoting,
+) -> Result<Option<Trial>, NoMemory>
+    requires { IsHeldClaim instance.now claim.now }
+    ensures { IfOk result (λ trial. IfSome trial (IsTrialFor (uses_exact_dispatch pivoting) instance.now claim.now)) }
+{
+    if claim.had > 0 || !pivoting.is_on() {
+        return Ok(None);
+    }
+    match exact_dispatch(alloc, instance, &claim.path)? {
+        Some(Decided { table, schedule }) => Ok(Some(Trial {
+            table,
+            ascent: None,
+            found: schedule,
+        })),
+        None => Ok(None),
+    }
+}
+
+// What to evaluate the node at without an exact dispatch: the table that it inherited, where it wasn't evaluated yet; a ray that excludes it, where
+// no schedule is known; or else the table of an ascent.
+fn priced(
+    alloc: Global,
+    worker: &mut Worker,
+    claim: &Claim,
+    search: Search,
+    next: &mut Option<Ascent>,
+) -> Result<Trial, NoMemory>
+    requires claim { IsHeldClaim worker.old claim.now }
+    requires next { IsNextAt worker.old 1 next.old }
+    ensures kept { worker.new ≡ worker.old }
+    ensures trial { IfOk result (IsTrialFor (uses_exact_dispatch search.aim.pivoting) worker.old claim.now) }
 {
     if claim.node != 0 && claim.had == 0 {
         return Ok(Trial::of(claim.table.copy(alloc)?));
@@ -164,7 +231,7 @@ fn ascended(
     requires claim { IsHeldClaim worker.old claim.now }
     requires next { IsNextAt worker.old 1 next.old }
     ensures kept { worker.new ≡ worker.old }
-    ensures trial { IfOk result (IsTrialFor worker.old claim.now) }
+    ensures trial { IfOk result (IsTrialFor (uses_exact_dispatch search.aim.pivoting) worker.old claim.now) }
 {
     let ascent = ascent(alloc, worker.values(), claim, search, next)?;
     let table = ascended_table(alloc, worker, claim, &ascent, search.aim.exact);
@@ -172,6 +239,7 @@ fn ascended(
     Ok(Trial {
         table,
         ascent: Some(ascent),
+        found: None,
     })
 }
 

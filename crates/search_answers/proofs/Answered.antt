@@ -131,8 +131,8 @@ searched_found grown stuck layout = record {
   layout = layout;
 }
 
-module _ (exact : Bool) (instance : Instance) (stands : Standing) (opening : Priced) (grown : Grown) (layout : Layout) (budget gap : ℕ)
-    (lawful : IsLawfulInstance instance) (dropped : IsDropped instance stands) (is_best : IsBest instance (ending_of stands) grown.best)
+module _ (exact exact_dispatch : Bool) (instance : Instance) (stands : Standing) (opening : Priced) (grown : Grown) (layout : Layout) (budget gap : ℕ)
+    (lawful : IsLawfulInstance instance) (dropped : IsDropped instance stands) (is_best : IsBest exact_dispatch instance (ending_of stands) grown.best)
     (opens : IsRootTable instance (ending_of stands) opening.table opening.value) (priced : IsPricedOf instance opening)
     (is : IsGrown exact instance opening budget gap grown)
     (of_tree : IsLayoutOf grown.tree layout) (within : All (λ i. i < length grown.tables) layout.tables) where
@@ -145,7 +145,7 @@ module _ (exact : Bool) (instance : Instance) (stands : Standing) (opening : Pri
   searched_truth : IsTrueFound instance found
   searched_truth = record {
     layout = record { layout = of_tree; within = used_within };
-    certificate = certificate_holds instance found is_best.accepted is.tree.cover is.tree.lawful used_within is.tree.stored is.tree.bound;
+    certificate = certificate_holds exact_dispatch instance found is_best.found is.tree.cover is.tree.lawful used_within is.tree.stored is.tree.bound;
     log = is.tree.logged;
   }
 
@@ -164,7 +164,8 @@ module _ (exact : Bool) (instance : Instance) (stands : Standing) (opening : Pri
   scale : pos 0 <ℤ opening.table.k
   scale = subst (λ k. pos 0 <ℤ k) (sym priced.scale) million
 
-  searched_own : IsQuiet (ending_of stands) opening gap grown.log → HasEachPattern instance → HasNoBlockedUnit exact instance → HasNoRay exact instance → IsAnswerOf exact instance budget gap found
+  searched_own : IsQuiet (ending_of stands) opening gap grown.log → HasEachPattern instance → HasNoBlockedUnit exact instance → HasNoRay exact instance
+      → IsAnswerOf exact exact_dispatch instance budget gap found
   searched_own quiet each unblocked none = record {
     result = record {
       truth = searched_truth;
@@ -196,7 +197,7 @@ module _ (exact : Bool) (instance : Instance) (stands : Standing) (opening : Pri
     };
     writable = record {
       tree = is.tree.whole;
-      schedule = is_best.accepted;
+      schedule = is_best.found;
       bound = least_small grown.tree.units grown.tree.periods grown.tables grown.log root first grown.tree.nodes
           (bound_small opening.value opening.table.k scale priced.valued.size) is.sized is.tree.own;
       tables = All-weaker (IsLawfulTable instance) HasFewRows (λ table. few_rows instance table lawful) (written_tables found)
@@ -204,12 +205,12 @@ module _ (exact : Bool) (instance : Instance) (stands : Standing) (opening : Pri
     };
   }
 
-pub searched_answer : (exact : Bool) (instance : Instance) (stands : Standing) (stuck : Option Stuck) (opening : Priced) (grown : Grown) (layout : Layout)
+pub searched_answer : (exact exact_dispatch : Bool) (instance : Instance) (stands : Standing) (stuck : Option Stuck) (opening : Priced) (grown : Grown) (layout : Layout)
     (budget gap : ℕ) → IsLawfulInstance instance → HasEachPattern instance → HasNoBlockedUnit exact instance → HasNoRay exact instance → IsDropped instance stands
-    → stuck ≡ kept_stuck stands → IsBest instance (ending_of stands) grown.best → IsRootTable instance (ending_of stands) opening.table opening.value
+    → stuck ≡ kept_stuck stands → IsBest exact_dispatch instance (ending_of stands) grown.best → IsRootTable instance (ending_of stands) opening.table opening.value
     → IsPricedOf instance opening → IsGrown exact instance opening budget gap grown → IsQuiet (ending_of stands) opening gap grown.log
     → IsLayoutOf grown.tree layout → All (λ i. i < length grown.tables) layout.tables
-    → IsAnswerOf exact instance budget gap (searched_found grown stuck layout)
-searched_answer exact instance stands stuck opening grown layout budget gap lawful each unblocked none dropped kept is_best opens priced is quiet of_tree within =
-    subst (λ (s : Option Stuck). IsAnswerOf exact instance budget gap (searched_found grown s layout)) (sym kept)
-    (searched_own exact instance stands opening grown layout budget gap lawful dropped is_best opens priced is of_tree within quiet each unblocked none)
+    → IsAnswerOf exact exact_dispatch instance budget gap (searched_found grown stuck layout)
+searched_answer exact exact_dispatch instance stands stuck opening grown layout budget gap lawful each unblocked none dropped kept is_best opens priced is quiet of_tree within =
+    subst (λ (s : Option Stuck). IsAnswerOf exact exact_dispatch instance budget gap (searched_found grown s layout)) (sym kept)
+    (searched_own exact exact_dispatch instance stands opening grown layout budget gap lawful dropped is_best opens priced is of_tree within quiet each unblocked none)

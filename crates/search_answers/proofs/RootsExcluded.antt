@@ -68,15 +68,15 @@ lone_truth instance l tables used layout of_tree is_used within lawful unbounded
     }
 
 -- what is told of it
-lone_answer : (asked : Bool) (instance : Instance) (budget gap : ℕ) (l : Leaf) (tables : List Table) (layout : Layout)
+lone_answer : (asked exact_dispatch : Bool) (instance : Instance) (budget gap : ℕ) (l : Leaf) (tables : List Table) (layout : Layout)
     → (let found = lone_found (lone_root instance l) tables layout in
     IsTrueFound instance found → tree_bound (lone_root instance l) ≡ None → (asked ≡ false → IsPlainTree (lone_root instance l))
     → ((g : ℕ) → IsFirstEmpty instance root g → IsExcludedByUnit false g found)
     → (asked ≡ true → HasEachPattern instance → (g : ℕ) → IsFirstUnscheduled instance root g → IsExcludedByUnit true g found)
     → ((n : ℕ) → IsFirstRay asked instance n → IsExcludedByFirst asked instance n found)
     → (HasEachPattern instance → HasNoBlockedUnit asked instance → FollowsOpening asked instance gap found)
-    → IsWhole (lone_root instance l) → All HasFewRows (written_tables found) → IsAnswerOf asked instance budget gap found)
-lone_answer asked instance budget gap l tables layout truth unbounded plain empty unscheduled ray opened whole few = record {
+    → IsWhole (lone_root instance l) → All HasFewRows (written_tables found) → IsAnswerOf asked exact_dispatch instance budget gap found)
+lone_answer asked exact_dispatch instance budget gap l tables layout truth unbounded plain empty unscheduled ray opened whole few = record {
   result = record {
     truth = truth;
     plain = plain;
@@ -102,12 +102,12 @@ blocked_truth false instance g layout of_tree first =
 blocked_truth true instance g layout of_tree first =
     lone_truth instance (empty_leaf true g) [] [] layout of_tree refl (All-nil (λ i. i < 0)) (All-nil (IsLawfulTable instance)) refl (first.within, first.none)
 
-blocked_lone : (exact asked : Bool) (instance : Instance) (g budget gap : ℕ) (layout : Layout) → (exact ≡ true → asked ≡ true)
+blocked_lone : (exact asked exact_dispatch : Bool) (instance : Instance) (g budget gap : ℕ) (layout : Layout) → (exact ≡ true → asked ≡ true)
     → (exact ≡ true → HasEachPattern instance) → IsWhole (lone_root instance (empty_leaf exact g)) → IsLayoutOf (lone_root instance (empty_leaf exact g)) layout
     → IsFirstBlocked exact instance root g
-    → IsAnswerOf asked instance budget gap (lone_found (lone_root instance (empty_leaf exact g)) [] layout)
-blocked_lone false asked instance g budget gap layout kind patterns whole of_tree first =
-    lone_answer asked instance budget gap (empty_leaf false g) [] layout (blocked_truth false instance g layout of_tree first) refl (λ plain. tt)
+    → IsAnswerOf asked exact_dispatch instance budget gap (lone_found (lone_root instance (empty_leaf exact g)) [] layout)
+blocked_lone false asked exact_dispatch instance g budget gap layout kind patterns whole of_tree first =
+    lone_answer asked exact_dispatch instance budget gap (empty_leaf false g) [] layout (blocked_truth false instance g layout of_tree first) refl (λ plain. tt)
     (λ other empty. (ap (λ unit. Ends (empty_leaf false unit)) (one_first (HasNoPattern instance root) g other first.empty empty.empty first.first empty.first), refl))
     (λ exactly each other unscheduled. absurd (each g first.within first.empty))
     (λ n ray. absurd (no_pattern_no_ray asked n ray))
@@ -119,8 +119,8 @@ blocked_lone false asked instance g budget gap layout kind patterns whole of_tre
         not_blocked false instance root (ray_table instance n) ray.positive.value ray.positive.is_value g first.within first.empty
     no_pattern_no_ray true n ray =
         let unit = ray.positive.is_value.units g first.within in first.empty unit.on unit.best.pattern
-blocked_lone true asked instance g budget gap layout kind patterns whole of_tree first =
-    lone_answer asked instance budget gap (empty_leaf true g) [] layout (blocked_truth true instance g layout of_tree first) refl
+blocked_lone true asked exact_dispatch instance g budget gap layout kind patterns whole of_tree first =
+    lone_answer asked exact_dispatch instance budget gap (empty_leaf true g) [] layout (blocked_truth true instance g layout of_tree first) refl
     (λ plain. absurd (false≢true (sym plain ∙ kind refl)))
     (λ other empty. absurd (patterns refl other empty.within empty.empty))
     (λ exactly each other again. (
@@ -134,12 +134,12 @@ blocked_lone true asked instance g budget gap layout kind patterns whole of_tree
     exactly : (n : ℕ) → IsFirstRay asked instance n → IsFirstRay true instance n
     exactly n ray = subst (λ b. IsFirstRay b instance n) (kind refl) ray
 
-pub blocked_answer : (exact asked : Bool) (instance : Instance) (g budget gap : ℕ) (tree : Tree) (layout : Layout) → (exact ≡ true → asked ≡ true)
+pub blocked_answer : (exact asked exact_dispatch : Bool) (instance : Instance) (g budget gap : ℕ) (tree : Tree) (layout : Layout) → (exact ≡ true → asked ≡ true)
     → (exact ≡ true → HasEachPattern instance) → tree ≡ lone_root instance (empty_leaf exact g) → IsWhole tree → IsLayoutOf tree layout
-    → IsFirstBlocked exact instance root g → IsAnswerOf asked instance budget gap (lone_found tree [] layout)
-blocked_answer exact asked instance g budget gap tree layout kind patterns is whole of_tree first =
-    subst (λ (t : Tree). IsAnswerOf asked instance budget gap (lone_found t [] layout)) (sym is)
-    (blocked_lone exact asked instance g budget gap layout kind patterns (subst IsWhole is whole) (subst (λ (t : Tree). IsLayoutOf t layout) is of_tree) first)
+    → IsFirstBlocked exact instance root g → IsAnswerOf asked exact_dispatch instance budget gap (lone_found tree [] layout)
+blocked_answer exact asked exact_dispatch instance g budget gap tree layout kind patterns is whole of_tree first =
+    subst (λ (t : Tree). IsAnswerOf asked exact_dispatch instance budget gap (lone_found t [] layout)) (sym is)
+    (blocked_lone exact asked exact_dispatch instance g budget gap layout kind patterns (subst IsWhole is whole) (subst (λ (t : Tree). IsLayoutOf t layout) is of_tree) first)
 
 -- ---- a ray
 -- the drop commitment of an instance without a schedule is stuck
@@ -175,14 +175,14 @@ ray_used : (exact : Bool) → used_tables (Ends (ray_leaf exact 0)) ≡ 0 ∷ []
 ray_used false = refl
 ray_used true = refl
 
-ray_lone : (exact : Bool) (instance : Instance) (n budget gap : ℕ) (stands : Standing) (layout : Layout) → IsLawfulInstance instance
+ray_lone : (exact exact_dispatch : Bool) (instance : Instance) (n budget gap : ℕ) (stands : Standing) (layout : Layout) → IsLawfulInstance instance
     → HasEachPattern instance → HasNoBlockedUnit exact instance → IsFirstRay exact instance n → IsDropped instance stands
     → IsWhole (lone_root instance (ray_leaf exact 0)) → IsLayoutOf (lone_root instance (ray_leaf exact 0)) layout
-    → IsAnswerOf exact instance budget gap (lone_found (lone_root instance (ray_leaf exact 0)) (ray_table instance n ∷ []) layout)
-ray_lone exact instance n budget gap stands layout lawful each units first dropped whole of_tree =
+    → IsAnswerOf exact exact_dispatch instance budget gap (lone_found (lone_root instance (ray_leaf exact 0)) (ray_table instance n ∷ []) layout)
+ray_lone exact exact_dispatch instance n budget gap stands layout lawful each units first dropped whole of_tree =
     let table = ray_table instance n in
     let tables = table ∷ [] in
-    lone_answer exact instance budget gap (ray_leaf exact 0) tables layout (ray_truth exact instance n layout lawful of_tree first)
+    lone_answer exact exact_dispatch instance budget gap (ray_leaf exact 0) tables layout (ray_truth exact instance n layout lawful of_tree first)
     (ray_unbounded exact instance) (ray_plain exact instance)
     (λ g empty. absurd (each g empty.within empty.empty))
     (λ exactly patterns g unscheduled. absurd (subst (λ b. HasNoBlockedUnit b instance) exactly units g unscheduled.within unscheduled.none))
@@ -204,11 +204,11 @@ ray_lone exact instance n budget gap stands layout lawful each units first dropp
     (subst (λ used. All HasFewRows (map (table_at tables) used)) (sym (ray_used exact))
     (All-cons HasFewRows table [] (few_rows instance table lawful (ray_lawful instance n lawful first.within)) (All-nil HasFewRows)))
 
-pub ray_answer : (exact : Bool) (instance : Instance) (n budget gap : ℕ) (stands : Standing) (tree : Tree) (layout : Layout) → IsLawfulInstance instance
+pub ray_answer : (exact exact_dispatch : Bool) (instance : Instance) (n budget gap : ℕ) (stands : Standing) (tree : Tree) (layout : Layout) → IsLawfulInstance instance
     → HasEachPattern instance → HasNoBlockedUnit exact instance → IsFirstRay exact instance n → IsDropped instance stands
     → tree ≡ lone_root instance (ray_leaf exact 0) → IsWhole tree → IsLayoutOf tree layout
-    → IsAnswerOf exact instance budget gap (lone_found tree (ray_table instance n ∷ []) layout)
-ray_answer exact instance n budget gap stands tree layout lawful each units first dropped is whole of_tree =
-    subst (λ (t : Tree). IsAnswerOf exact instance budget gap (lone_found t (ray_table instance n ∷ []) layout)) (sym is)
-    (ray_lone exact instance n budget gap stands layout lawful each units first dropped (subst IsWhole is whole)
+    → IsAnswerOf exact exact_dispatch instance budget gap (lone_found tree (ray_table instance n ∷ []) layout)
+ray_answer exact exact_dispatch instance n budget gap stands tree layout lawful each units first dropped is whole of_tree =
+    subst (λ (t : Tree). IsAnswerOf exact exact_dispatch instance budget gap (lone_found t (ray_table instance n ∷ []) layout)) (sym is)
+    (ray_lone exact exact_dispatch instance n budget gap stands layout lawful each units first dropped (subst IsWhole is whole)
     (subst (λ (t : Tree). IsLayoutOf t layout) is of_tree))

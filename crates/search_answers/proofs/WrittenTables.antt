@@ -28,7 +28,7 @@ use Rattle.branch_tree.specs.declared.tree.Leaf.{Leaf}
 use Rattle.branch_tree.specs.declared.tree.Leaf.TheVariants as leaf
 use Rattle.branch_tree.proofs.Bounds.{at_most_itself, at_most_through, lesser_first, lesser_second}
 use Rattle.branch_tree.proofs.Preorder.{unlike}
-use Rattle.schedule_check.specs.Accepted.{IsAcceptedIfFound}
+use Rattle.found_schedule.specs.Found.{IsFoundIfAny}
 
 -- ---- a number among others
 abbrev IsAmong : List ℕ → ℕ → Type 0
@@ -209,18 +209,18 @@ covered instance used here (Ends l) h = tt
 covered instance used here (Splits g t off on) h = (h.0, h.1, covered instance used (child here g t false) off h.2, covered instance used (child here g t true) on h.3)
 
 -- ---- the schedule
-schedule_holds : (instance : Instance) (schedule : Option (Printed × ℤ)) → IsAcceptedIfFound instance schedule
+schedule_holds : (exact_dispatch : Bool) (instance : Instance) (schedule : Option (Printed × ℤ)) → IsFoundIfAny exact_dispatch instance schedule
     → (written : WrittenSchedule) → written_of schedule ≡ Some written → ScheduleHolds instance written
-schedule_holds instance None accepted written e = absurd (cc)
-schedule_holds instance (Some pair) accepted written e =
+schedule_holds exact_dispatch instance None found written e = absurd (cc)
+schedule_holds exact_dispatch instance (Some pair) found written e =
     subst (ScheduleHolds instance) (same_Some _ written e)
-    (record { shape = accepted.shape; obeys = accepted.obeys; cost = accepted.cost_is })
+    (record { shape = found.shape; obeys = found.obeys; cost = found.cost_is })
 
 -- there is none where none obeys
-no_schedule : (instance : Instance) (schedule : Option (Printed × ℤ)) → IsAcceptedIfFound instance schedule → IsInfeasible instance
-    → written_of schedule ≡ None
-no_schedule instance None accepted infeasible = refl
-no_schedule instance (Some pair) accepted infeasible = absurd (infeasible _ _ accepted.obeys)
+no_schedule : (exact_dispatch : Bool) (instance : Instance) (schedule : Option (Printed × ℤ)) → IsFoundIfAny exact_dispatch instance schedule
+    → IsInfeasible instance → written_of schedule ≡ None
+no_schedule exact_dispatch instance None found infeasible = refl
+no_schedule exact_dispatch instance (Some pair) found infeasible = absurd (infeasible _ _ found.obeys)
 
 -- ---- the certificate
 -- the written tables are lawful
@@ -229,18 +229,18 @@ pub written_lawful : (instance : Instance) (found : Found) → All (IsLawfulTabl
 written_lawful instance found lawful within =
     All-map (IsLawfulTable instance) (table_at found.tables) (used_tables (tree_of found.tree)) (λ k d inside. lawful (get_or (used_tables (tree_of found.tree)) k d) no_table (within k d inside))
 
-pub certificate_holds : (instance : Instance) (found : Found) → IsAcceptedIfFound instance found.schedule → IsCover instance (tree_of found.tree)
+pub certificate_holds : (exact_dispatch : Bool) (instance : Instance) (found : Found) → IsFoundIfAny exact_dispatch instance found.schedule → IsCover instance (tree_of found.tree)
     → All (IsLawfulTable instance) found.tables → All (λ i. i < length found.tables) (used_tables (tree_of found.tree))
     → EachLeaf (StoredHolds instance found.tables) root (tree_of found.tree) → IsClaimTrue instance (tree_bound found.tree)
     → CertificateHolds instance (certificate_of instance found)
-certificate_holds instance found accepted cover lawful within stored true_claim = record {
+certificate_holds exact_dispatch instance found accepted cover lawful within stored true_claim = record {
   periods = refl;
   thermal = refl;
   renewable = refl;
   penalty = (refl, refl);
   tables = written_lawful instance found lawful within;
   tree = covered instance (used_tables (tree_of found.tree)) root (tree_of found.tree) cover;
-  schedule = schedule_holds instance found.schedule accepted;
+  schedule = schedule_holds exact_dispatch instance found.schedule accepted;
   claim = claimed (tree_bound found.tree) refl;
 }
   where
@@ -254,7 +254,7 @@ certificate_holds instance found accepted cover lawful within stored true_claim 
           (subst (λ bound. AtMost bound (tree_bound found.tree)) is (at_most_itself (tree_bound found.tree))) stored,
     )
     claimed None is = (
-      no_schedule instance found.schedule accepted (subst (IsClaimTrue instance) is true_claim),
+      no_schedule exact_dispatch instance found.schedule accepted (subst (IsClaimTrue instance) is true_claim),
       each_excluded instance found.tables (used_tables (tree_of found.tree)) root (tree_of found.tree) named is stored,
     )
 

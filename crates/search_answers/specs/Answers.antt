@@ -21,9 +21,9 @@ abbrev pub lone_root : Instance → Leaf → TreeView
 lone_root instance leaf = record { units = thermal_count instance; periods = instance.periods; room = 1; nodes = EndAt 0 leaf }
 
 -- a search result that can be written
-pub record IsAnswerOf (exact : Bool) (instance : Instance) (budget gap : ℕ) (found : Found) : Type 0 where
+pub record IsAnswerOf (exact exact_dispatch : Bool) (instance : Instance) (budget gap : ℕ) (found : Found) : Type 0 where
   pub result : IsSearchResult exact instance budget gap found
-  pub writable : IsWritable instance found
+  pub writable : IsWritable exact_dispatch instance found
 
 -- what is told of the most-on commitment: nothing where there is a schedule, or no bound
 abbrev pub told_by : Option ℤ → Option (Printed × ℤ) → Option Stuck → Option Stuck

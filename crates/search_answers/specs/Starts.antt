@@ -8,7 +8,9 @@ use Rattle.search_answers.specs.Opening.{IsRootTable}
 use Rattle.search_answers.specs.declared.start.Opened.{Opened}
 use Rattle.uc_model.specs.declared.schedule.Printed.{Printed}
 use Rattle.decommitment.specs.declared.pass.Standing.{Standing}
-use Rattle.search_answers.specs.Best.{IsBest, kept_stuck}
+use Rattle.schedule_check.specs.Accepted.{IsAcceptedIfFound}
+use Rattle.search_answers.specs.Best.{kept_stuck}
+use Rattle.search_answers.specs.SearchResult.{IsNoDearer}
 use Rattle.node_visits.specs.Trials.{IsNextAt}
 
 -- the best schedule is that of the drop commitment, where this has one
@@ -23,6 +25,7 @@ pub record IsOpened (instance : Instance) (opened : Opened) : Type 0 where
   pub stuck : opened.most_on ≡ kept_stuck standing
   pub table : IsRootTable instance (ending_of standing) opened.start.opening.table opened.start.opening.value
   pub priced : IsPricedOf instance opened.start.opening
-  pub is_best : IsBest instance (ending_of standing) opened.start.best
+  pub accepted : IsAcceptedIfFound instance opened.start.best
+  pub no_dearer : IsNoDearer opened.start.best (ending_of standing)
   pub is_first : IsFirstBest standing opened.start.best
   pub is_next : IsNextAt instance 1 opened.start.next

@@ -71,7 +71,7 @@ pub fn without_unit(
     requires lawful { IsLawfulInstance instance.now }
     requires blocked { IsFirstBlocked exact instance.now root g }
     requires patterns { exact ≡ true → HasEachPattern instance.now }
-    ensures { (asked : Bool) (budget gap : ℕ) → (exact ≡ true → asked ≡ true) → IfOk result (IsAnswerOf asked instance.now budget gap) }
+    ensures { (asked exact_dispatch : Bool) (budget gap : ℕ) → (exact ≡ true → asked ≡ true) → IfOk result (IsAnswerOf asked exact_dispatch instance.now budget gap) }
 {
     let tree = lone_root(alloc, instance, by_unit(g, exact))?;
     let layout = Layout::of(alloc, &tree, 0)?;
@@ -97,8 +97,8 @@ pub fn excluded(
     requires accepted { IsAcceptedIfFound worker.old best.now }
     ensures kept { worker.new ≡ worker.old }
     ensures rays { result ≡ None → HasNoRay exact worker.old }
-    ensures answer { (budget gap : ℕ) (stands : Standing) → IsDropped worker.old stands
-        → IfSome result (λ answer. IfOk answer (IsAnswerOf exact worker.old budget gap)) }
+    ensures answer { (exact_dispatch : Bool) (budget gap : ℕ) (stands : Standing) → IsDropped worker.old stands
+        → IfSome result (λ answer. IfOk answer (IsAnswerOf exact exact_dispatch worker.old budget gap)) }
 {
     let instance = worker.instance();
     match worker.excluding_ray(alloc, best, exact) {
@@ -119,7 +119,8 @@ fn without_schedule(
     requires patterns { HasEachPattern instance.now }
     requires unblocked { HasNoBlockedUnit exact instance.now }
     requires ray { IsFirstRay exact instance.now n }
-    ensures { (budget gap : ℕ) (stands : Standing) → IsDropped instance.now stands → IfOk result (IsAnswerOf exact instance.now budget gap) }
+    ensures { (exact_dispatch : Bool) (budget gap : ℕ) (stands : Standing) → IsDropped instance.now stands
+        → IfOk result (IsAnswerOf exact exact_dispatch instance.now budget gap) }
 {
     let mut tables = Vec::new(alloc);
     tables.push(opening_ray(alloc, instance, n)?)?;
@@ -156,11 +157,11 @@ pub fn bounded(
     requires patterns { HasEachPattern instance.now }
     requires whole { IsWhole grown.tree }
     requires stored { All (λ table. table < length grown.tables) (stored_tables (tree_of grown.tree)) }
-    ensures { (exact : Bool) (budget gap : ℕ) (stands : Standing) (opening : Priced) → HasNoRay exact instance.now
+    ensures { (exact exact_dispatch : Bool) (budget gap : ℕ) (stands : Standing) (opening : Priced) → HasNoRay exact instance.now
         → HasNoBlockedUnit exact instance.now → IsDropped instance.now stands → most_on ≡ kept_stuck stands
-        → IsBest instance.now (ending_of stands) grown.best → IsRootTable instance.now (ending_of stands) opening.table opening.value
+        → IsBest exact_dispatch instance.now (ending_of stands) grown.best → IsRootTable instance.now (ending_of stands) opening.table opening.value
         → IsPricedOf instance.now opening → IsGrown exact instance.now opening budget gap grown
-        → IsQuiet (ending_of stands) opening gap grown.log → IfOk result (IsAnswerOf exact instance.now budget gap) }
+        → IsQuiet (ending_of stands) opening gap grown.log → IfOk result (IsAnswerOf exact exact_dispatch instance.now budget gap) }
 {
     let Grown {
         tree,

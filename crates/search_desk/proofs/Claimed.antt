@@ -1,5 +1,6 @@
 -- What a worker knows of a node that it holds.
-use Rattle.std.proofs.Common.{◌≡◌, ⊎_elim, ◌⊎◌, ℕ, suc, ◌<◌, ◌≤◌, Bool, false, true, All, List, [], ◌∷◌, ◌++◌, length, ap, sym, subst, arith, ℤ, Option, Some, refl, length-append, slice_get}
+use Rattle.std.proofs.Common.{◌≡◌, ◌≢◌, ◌∙◌, ⊎_elim, ◌⊎◌, ℕ, suc, ◌<◌, ◌≤◌, Bool, false, true, All, List, [], ◌∷◌, ◌++◌, length, ap, sym, subst, arith, ℤ, Option, Some, refl, length-append, slice_get}
+use Rattle.std.proofs.lemmas.List.{nil_from_length}
 use Rattle.std.proofs.lemmas.List.Elements.{All-nil, All-cons, All-append}
 use Rattle.std.proofs.lemmas.Option.{get_or_from_slice_get, slice_get_within}
 use Rattle.dual_model.specs.Fixings.{IsCell, IsNodeOf}
@@ -12,13 +13,14 @@ use Rattle.branch_tree.specs.StoredTree.{IsNodeAt}
 use Rattle.branch_tree.proofs.Changes.{from_some}
 use Rattle.branch_tree.proofs.Subtrees.{IsHere, leaf_case, subtree_cases}
 use Rattle.book.specs.BookView.{BookView, state_of}
-use Rattle.book.specs.Calls.{IsClaimAnswer, IsStoredAt, IsUnitHeld, claimed}
+use Rattle.book.specs.Calls.{IsClaimAnswer, IsHeldUnit, IsStoredAt, IsUnitHeld, claimed}
 use Rattle.book.specs.Claims.{holders}
 use Rattle.book.specs.declared.claims.Claim.{Claim}
 use Rattle.book.specs.declared.claims.Claimed.TheVariants.{Mine}
 use Rattle.book.specs.declared.claims.Status.TheVariants.{Held}
 use Rattle.book.proofs.Units.{held_part}
-use Rattle.search_core.specs.Machine.{IsHolding, holder_in}
+use Rattle.search_core.specs.Machine.{IsHolding, entries_of, holder_in}
+use Rattle.search_core.specs.declared.holder.Holder.{Holder}
 use Rattle.book.specs.Opening.{Opening, IsTrueOpening}
 use Rattle.book.specs.Replay.{number_of, replayed}
 use Rattle.book.proofs.Books.{run_holds}
@@ -26,7 +28,7 @@ use Rattle.book.proofs.Steps.{held_still}
 use Rattle.search_core.specs.Runs.{TreeRunsHold}
 use Rattle.search_core.proofs.Claims.{holdable}
 use Rattle.book.specs.Running.{IsRunning}
-use Rattle.search_desk.specs.Desks.{Instance, Table, IsKeptBy, IsScaledWithin}
+use Rattle.search_desk.specs.Desks.{Instance, Table, IsLaterWithin, IsScaledWithin}
 
 -- a node of a cover is a node of the instance
 below_node_of : (instance : Instance) (here : Node) (tree : NumberedTree) (wanted : ℕ) (part : Subtree) → IsNodeOf instance here
@@ -65,11 +67,6 @@ pub stored_lawful : (opening : Opening) (book : BookView) (unit : ℕ) (node : N
 stored_lawful opening book unit node table value running is =
     listed (IsLawfulTable opening.instance) book.tables _ table running.tree.tables is.is_table
 
-pub stored_scaled : (exact : Bool) (opening : Opening) (book : BookView) (seen : Option ℤ) (limit unit : ℕ) (node : Node) (table : Table) (value : ℤ)
-    → IsKeptBy exact opening book seen limit → IsStoredAt book unit node table value → IsScaledWithin limit table
-stored_scaled exact opening book seen limit unit node table value kept is =
-    listed (IsScaledWithin limit) book.tables _ table kept.scaled is.is_table
-
 -- a unit that is held is one of the budget's
 pub unit_within : (opening : Opening) (book : BookView) (worker unit node : ℕ) → IsRunning opening book
     → IsHolding (state_of book) worker unit node → unit ≤ opening.budget
@@ -99,6 +96,21 @@ claim_held old new worker node unit had answer = record {
     last_held : (claims : List Claim) → holder_in (holders (claims ++ own ∷ [])) (suc (length claims)) ≡ Some (record { worker = worker; node = node })
     last_held [] = refl
     last_held (claim ∷ claims) = last_held claims
+
+-- one node is held by a unit
+pub one_node : (book : BookView) (a b unit one other : ℕ) → IsHolding (state_of book) a unit one → IsHolding (state_of book) b unit other → one ≡ other
+one_node book a b unit one other first second =
+    let both : Some (record { worker = a; node = one }) ≡ Some (record { worker = b; node = other }) = sym first ∙ second in
+    let same : record { worker = a; node = one } ≡ record { worker = b; node = other } = cc in
+    ap (λ (h : Holder). h.node) same
+
+-- at the first entry of a node the table may have any scale
+pub later_of : (book : BookView) (limit worker unit node had holder other : ℕ) (table : Table) → IsHeldUnit book unit worker node had
+    → IsLaterWithin limit had table → IsHolding (state_of book) holder unit other → entries_of book.log other ≢ [] → IsScaledWithin limit table
+later_of book limit worker unit node had holder other table held later holds some =
+    let same = one_node book holder worker unit other node holds held.holds in
+    later (λ (none : had ≡ 0). some (nil_from_length (entries_of book.log other)
+    (ap (λ n. length (entries_of book.log n)) same ∙ sym held.count ∙ none)))
 
 -- a node that is held is one of the tree
 pub held_below : TreeRunsHold → (opening : Opening) (book : BookView) (worker unit node : ℕ) → IsTrueOpening opening → IsRunning opening book

@@ -1,10 +1,9 @@
 -- What the calls of a book keep of what the desk and the closing pass rest on.
-use Rattle.std.proofs.Common.{◌≡◌, ◌∙◌, Bool, ℕ, ◌+◌, ◌≤◌, true, false, All, List, [], ◌∷◌, ◌++◌, length, refl, ap, sym, subst, arith, ℤ, Option, Some, None, length-append}
+use Rattle.std.proofs.Common.{◌≡◌, ◌≢◌, ◌∙◌, Bool, ℕ, ◌+◌, ◌≤◌, true, false, All, List, [], ◌∷◌, ◌++◌, length, refl, ap, sym, subst, arith, ℤ, Option, Some, None, length-append}
 use Rattle.std.proofs.lemmas.List.Sums.{sum_by-append, sum_by-cons}
-use Rattle.std.proofs.lemmas.List.Elements.{All-nil, All-cons, All-head, All-tail, All-push, All-weaker}
+use Rattle.std.proofs.lemmas.List.Elements.{All-nil, All-cons, All-head, All-tail, All-push}
 use Rattle.std.specs.Prelude.{sum_by}
 use Rattle.uc_model.specs.declared.tolerance.TheConstants.{WHOLE_GAP}
-use Rattle.uc_model.proofs.Ring.{linear}
 use Rattle.dual_model.specs.Tree.{root}
 use Rattle.dual_model.specs.declared.node.Node.{Node}
 use Rattle.branch_tree.specs.TreeView.{IsOpenAt, tree_of}
@@ -13,7 +12,7 @@ use Rattle.branch_tree.specs.declared.tree.Leaf.{Leaf}
 use Rattle.branch_tree.specs.declared.tree.Leaf.TheVariants as leaf
 use Rattle.branch_tree.proofs.Grown.{each_leaf_map}
 use Rattle.incumbent.specs.Costs as incumbent
-use Rattle.search_core.specs.Machine.{IsHolding}
+use Rattle.search_core.specs.Machine.{IsHolding, entries_of}
 use Rattle.search_core.specs.Moves.{IsMoveLegal, kept, unit_of}
 use Rattle.search_core.specs.Runs.{IsBestWithin, IsPrunedWithin, TreeRunsHold}
 use Rattle.search_core.specs.declared.event.Move.{Move}
@@ -42,6 +41,7 @@ use Rattle.book.proofs.Units.{held_part, ended_part}
 use Rattle.opening.specs.Outcomes.{IsSized}
 use Rattle.search_desk.specs.Desks.{Entry, Table, IsKeptBy, IsKeptClaim, IsPrunedBy, IsScaledWithin, IsSizedEntry, commits_of}
 use Rattle.search_desk.specs.Kinds.{IsOfKind}
+use Rattle.search_desk.proofs.Later.{later_none, later_pushed, later_wider}
 
 -- ---- how many claims were committed
 push_count : (claims : List Claim) (next : Claim) → sum_by commits_of (claims ++ next ∷ []) ≡ sum_by commits_of claims + commits_of next
@@ -118,12 +118,12 @@ pruned_new exact book node here table outcome Ray seen gap same by legal = of_ra
 pruned_new exact book node here table outcome Empty seen gap same by legal = of_empty (IsPrunedWithin seen gap) exact (unit_of outcome) tt tt
 
 -- ---- each call
-pub kept_opened : (exact : Bool) (opening : Opening) (seen : Option ℤ) → IsTrueOpening opening → (limit : ℕ) → IsScaledWithin limit opening.table
+pub kept_opened : (exact : Bool) (opening : Opening) (seen : Option ℤ) → IsTrueOpening opening → (limit : ℕ)
     → IsKeptBy exact opening (opened opening) seen limit
-kept_opened exact opening seen begun limit scaled = record {
+kept_opened exact opening seen begun limit = record {
   begun = begun;
   sized = All-nil IsSizedEntry;
-  scaled = All-cons (IsScaledWithin limit) opening.table [] scaled (All-nil (IsScaledWithin limit));
+  scaled = later_none limit (opened opening).tables;
   plain = λ plain. refl;
   of_kind = All-nil (IsOfKind exact);
   pruned = tt;
@@ -145,15 +145,12 @@ kept_lower law exact opening book seen lower limit below is = record {
 }
 
 -- a higher limit of the scales
-scaled_more : (limit more : ℕ) → limit ≤ more → (table : Table) → IsScaledWithin limit table → IsScaledWithin more table
-scaled_more limit more le table is = omega (arith, linear, is, le)
-
 pub kept_wider : (exact : Bool) (opening : Opening) (book : BookView) (seen : Option ℤ) (limit more : ℕ) → limit ≤ more → IsKeptBy exact opening book seen limit
     → IsKeptBy exact opening book seen more
 kept_wider exact opening book seen limit more le is = record {
   begun = is.begun;
   sized = is.sized;
-  scaled = All-weaker (IsScaledWithin limit) (IsScaledWithin more) (scaled_more limit more le) book.tables is.scaled;
+  scaled = later_wider limit more le book.tables book.log is.scaled;
   plain = is.plain;
   of_kind = is.of_kind;
   pruned = is.pruned;
@@ -198,8 +195,8 @@ stay_committed exact book worker unit node table outcome action holds each =
 
 pub kept_committed : TreeRunsHold → (exact : Bool) (opening : Opening) (book : BookView) (seen : Option ℤ) (limit worker unit node : ℕ) (given : Node) (table : Table)
     (outcome : Outcome) (action : Move) → IsRunning opening book → IsHolding (state_of book) worker unit node
-    → MayBe book node given table exact outcome action → IsSized outcome → IsScaledWithin limit table → IsPrunedBy seen action
-    → IsKeptBy exact opening book seen limit → IsKeptBy exact opening (committed book worker unit node table exact outcome action) seen limit
+    → MayBe book node given table exact outcome action → IsSized outcome → (entries_of book.log node ≢ [] → IsScaledWithin limit table)
+    → IsPrunedBy seen action → IsKeptBy exact opening book seen limit → IsKeptBy exact opening (committed book worker unit node table exact outcome action) seen limit
 kept_committed law exact opening book seen limit worker unit node given table outcome action running holds may sized scaled by is =
     let m = replayed book running.replays.desks in
     let orderly = (run_holds law opening book is.begun running.replays).1 in
@@ -215,7 +212,8 @@ kept_committed law exact opening book seen limit worker unit node given table ou
     record {
       begun = is.begun;
       sized = All-push IsSizedEntry book.log entry is.sized sized;
-      scaled = All-push (IsScaledWithin limit) book.tables table is.scaled scaled;
+      scaled = later_pushed limit book.tables table book.log entry refl
+          (λ k d within. (running.replays.marked k d within).table) scaled is.scaled;
       plain = λ plain. (committed_plain plain).tree;
       of_kind = All-push (IsOfKind exact) book.log entry is.of_kind refl;
       pruned = after_holds (λ n l. IsPrunedWithin seen opening.gap l) (λ n l. IsPrunedWithin seen opening.gap l) (λ n l h. h)
@@ -246,15 +244,16 @@ safe_claim exact opening book new seen limit worker node failed (Mine unit had) 
     })
 
 pub safe_commit : TreeRunsHold → (exact : Bool) (opening : Opening) (book new : BookView) (seen : Option ℤ) (limit worker unit : ℕ) (failed : Bool) (given : Node)
-    (table : Table) (outcome : Outcome) (action : Move) (result : Bool) → IsRunning opening book → IsSized outcome → IsScaledWithin limit table
-    → IsPrunedBy seen action → IsSafe exact opening book seen limit failed
+    (table : Table) (outcome : Outcome) (action : Move) (result : Bool) → IsRunning opening book → IsSized outcome
+    → ((node : ℕ) → IsHolding (state_of book) worker unit node → entries_of book.log node ≢ [] → IsScaledWithin limit table) → IsPrunedBy seen action → IsSafe exact opening book seen limit failed
     → IsCommitAnswer book worker unit given table exact outcome action new result → IsSafe exact opening new seen limit failed
 safe_commit law exact opening book new seen limit worker unit failed given table outcome action false running sized scaled by is answer =
     subst (λ b. IsSafe exact opening b seen limit failed) (sym answer.1) is
 safe_commit law exact opening book new seen limit worker unit failed given table outcome action true running sized scaled by is answer =
     let may = answer.may in
     subst (λ b. IsSafe exact opening b seen limit failed) (sym answer.is) (record {
-      kept = kept_committed law exact opening book seen limit worker unit may.node given table outcome action running may.holds may.may sized scaled by is.kept;
+      kept = kept_committed law exact opening book seen limit worker unit may.node given table outcome action running may.holds may.may sized (scaled may.node may.holds) by
+          is.kept;
       complete = λ whole. stay_committed exact book worker unit may.node table outcome action may.holds (is.complete whole);
     })
 

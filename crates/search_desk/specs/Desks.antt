@@ -1,5 +1,5 @@
 -- What holds of the desk, which workers share under a lock, whenever the lock is free. This project's own form.
-use Rattle.std.specs.Prelude.{◌≡◌, ℕ, ◌+◌, ◌≤◌, Bool, true, false, All, ℤ, pos, ◌≤ℤ◌, Option, Some, None, length, sum_by}
+use Rattle.std.specs.Prelude.{◌≡◌, ◌≢◌, ℕ, ◌+◌, ◌≤◌, Bool, true, false, All, List, ℤ, pos, ◌≤ℤ◌, Option, Some, None, drop, length, slice_get, sum_by}
 use Rattle.atomic_table.specs.Seated.{TableId}
 pub use Rattle.uc_model.specs.declared.instance.Instance.{Instance}
 use Rattle.uc_model.specs.Limits.{IsLawfulInstance}
@@ -10,6 +10,7 @@ pub use Rattle.dual_model.specs.declared.table.Table.{Table}
 use Rattle.branch_tree.specs.Kinds.{IsPlainTree}
 use Rattle.branch_tree.specs.TreeView.{tree_of}
 pub use Rattle.branch_tree.specs.declared.found.Entry.{Entry}
+use Rattle.search_core.specs.Machine.{entries_of}
 use Rattle.search_core.specs.Runs.{IsPrunedWithin}
 use Rattle.search_core.specs.declared.limits.TheConstants.{MAX_BUDGET}
 use Rattle.search_core.specs.declared.event.Move.{Move}
@@ -35,6 +36,18 @@ IsSizedEntry entry = IsSized entry.outcome
 abbrev pub IsScaledWithin : ℕ → Table → Type 0
 IsScaledWithin limit table = table.k ≤ℤ pos (1000000 + limit)
 
+-- so is that of an entry's table
+abbrev pub IsScaledEntry : ℕ → List Table → Entry → Type 0
+IsScaledEntry limit tables entry = (table : Table) → slice_get tables entry.table ≡ Some table → IsScaledWithin limit table
+
+-- and of each node those of all entries but the first
+abbrev pub AreLaterScaled : ℕ → List Table → List Entry → Type 0
+AreLaterScaled limit tables log = (node : ℕ) → All (IsScaledEntry limit tables) (drop 1 (entries_of log node))
+
+-- a table for a node that has so many entries: its first one may have any scale
+abbrev pub IsLaterWithin : ℕ → ℕ → Table → Type 0
+IsLaterWithin limit had table = had ≢ 0 → IsScaledWithin limit table
+
 -- how many commits ended a claim that stands so: one or none
 abbrev pub commits_by : Status → ℕ
 commits_by Held = 0
@@ -54,12 +67,12 @@ IsPrunedBy seen (move.Prune cost) = seen ≡ Some cost
 IsPrunedBy seen _ = Unit {0}
 
 -- ---- a book
--- a true run's book, by values of the kind: its numbers have a size, its scales a limit, each pruned leaf is within the gap of the cost that was seen,
+-- a true run's book, by values of the kind: its numbers have a size, the scales of later entries a limit, each pruned leaf is within the gap of the cost that was seen,
 -- and as many claims were committed as the log has entries
 pub record IsKeptBy (exact : Bool) (opening : Opening) (book : BookView) (seen : Option ℤ) (limit : ℕ) : Type 0 where
   pub begun : IsTrueOpening opening
   pub sized : All IsSizedEntry book.log
-  pub scaled : All (IsScaledWithin limit) book.tables
+  pub scaled : AreLaterScaled limit book.tables book.log
   pub plain : exact ≡ false → IsPlainTree book.tree
   pub of_kind : All (IsOfKind exact) book.log
   pub pruned : EachLeaf (λ node leaf. IsPrunedWithin seen opening.gap leaf) root (tree_of book.tree)
@@ -88,10 +101,9 @@ pub record IsHeldClaim (instance : Instance) (claim : Claimed) : Type 0 where
   pub table : IsLawfulTable instance claim.table
   pub unit : claim.unit ≤ MAX_BUDGET
 
--- and of this run: its table's scale is within the limit, and its unit within the budget
+-- and of this run: its unit is within the budget
 pub record IsClaimOf (opening : Opening) (claim : Claimed) : Type 0 where
   pub held : IsHeldClaim opening.instance claim
-  pub scaled : IsScaledWithin opening.budget claim.table
   pub unit : claim.unit ≤ opening.budget
 
 abbrev pub IsTakenOf : Opening → Taken → Type 0

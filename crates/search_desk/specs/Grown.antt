@@ -17,7 +17,6 @@ pub use Rattle.branch_tree.specs.declared.found.Entry.{Entry}
 use Rattle.search_core.specs.Moves.{bound_of}
 use Rattle.search_core.specs.OwnTables.{Owns, HasFewEntries}
 pub use Rattle.opening.specs.declared.root_tables.Priced.{Priced}
-use Rattle.schedule_check.specs.Accepted.{IsAcceptedIfFound}
 use Rattle.search_desk.specs.Desks.{IsSizedEntry}
 use Rattle.search_desk.specs.Kinds.{IsOfKind}
 use Rattle.search_desk.specs.declared.grown.Grown.{Grown}
@@ -46,7 +45,6 @@ pub record IsGrown (exact : Bool) (instance : Instance) (opening : Priced) (budg
   pub plain : exact ≡ false → IsPlainTree grown.tree
   pub of_kind : All (IsOfKind exact) grown.log
   pub sized : All IsSizedEntry grown.log
-  pub accepted : IsAcceptedIfFound instance grown.best
   pub spent : IsSpentUnlessClosed grown.tree grown.log grown.best budget gap
   -- a claim adds two nodes at most
   pub nodes : node_count grown.tree.nodes ≤ 2 * budget + 1

@@ -3,4 +3,5 @@ pub mod Passes
 pub mod Kinds
 pub mod Desks
 pub mod DeskCode
+pub mod Commits
 pub mod Grown

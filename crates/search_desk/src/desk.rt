@@ -1,22 +1,24 @@
 //! The desk: what the workers share under the lock.
 
-ghost use Rattle.std.specs.Prelude.{◌≡◌, ◌≤◌, false, None, IfOk};
+ghost use Rattle.std.specs.Prelude.{◌≡◌, ◌≤◌, ◌↔◌, IsTrue, false, None, IfOk};
 ghost use Rattle.uc_model.specs.declared.tolerance.TheConstants.{WHOLE_GAP};
 ghost use Rattle.search_core.specs.Runs.{IsTrueOutcome};
 ghost use Rattle.opening.specs.Outcomes.{IsSized};
-ghost use Rattle.search_desk.specs.Desks.{IsPrunedBy, IsScaledWithin};
+ghost use Rattle.search_desk.specs.Commits.{Stands, bound_after, move_of, open_move, told_move, value_move as value_move_of};
+ghost use Rattle.search_desk.specs.Desks.{IsLaterWithin, IsPrunedBy};
 
+use crate::own_best::OwnBest;
 use crate::run::Run;
 use book::{Book, Claimed};
 use branch_tree::{Outcome, is_within_gap};
 use dual_model::{Node, Table};
 use incumbent::{Best, Pass};
-use search_core::Move;
 use search_core::laws::tree_runs_hold;
+use search_core::{Move, Stored, kept_after};
 use std::alloc::Global;
 use std::marker::Model;
+use uc_model::NoMemory;
 use uc_model::tolerance::cost_less_tolerance_never_decreases;
-use uc_model::{NoMemory, floor_div};
 
 /// A node that a worker holds by the claim of a unit: its number, how many entries the log had of it, the decisions on its path, the table
 /// that it stores with its bound, and the least cost that was seen, both in micro-dollars.
@@ -111,17 +113,18 @@ impl<C: Run> Model for Desk<C> {
 }
 
 impl<C: Run> Desk<C> {
-    ghost use Rattle.std.specs.Prelude.{◌≡◌, ◌≤◌, false, None, All, IfOk};
+    ghost use Rattle.std.specs.Prelude.{◌≡◌, ◌≤◌, ◌↔◌, IsTrue, false, None, All, IfOk};
     ghost use Rattle.book.specs.BookView.{opened};
     ghost use Rattle.book.specs.Calls.{IsUnitHeld, IsClaimAnswer};
     ghost use Rattle.book.specs.Opening.{IsTrueOpening};
     ghost use Rattle.incumbent.specs.Costs.{AtMost};
+    ghost use Rattle.search_desk.specs.Best.{cost_of};
+    ghost use Rattle.search_desk.specs.Commits.{IsDeskCommit, IsEntry};
     ghost use Rattle.search_desk.specs.Desks.{IsKeptBy, IsKeptClaim, IsPrunedBy, IsTakenOf};
 
     /// The desk of a search that begins with this book.
     pub fn new(book: Book<C>, pass: Pass, gap: u32, exact: bool) -> Desk<C>
         requires begun { IsTrueOpening C.opening }
-        requires scaled { IsScaledWithin C.opening.budget C.opening.table }
         requires book { book ≡ opened C.opening }
         requires object { pass.object ≡ C.incumbent }
         requires mine { pass.mine ≡ None }
@@ -149,10 +152,29 @@ impl<C: Run> Desk<C> {
     fn look(&mut self, best: &Best) -> Option<i64>
         requires { best.now.object ≡ C.incumbent }
         ensures seen { self.new.seen ≡ result }
+        ensures lower { AtMost self.new.seen self.old.seen }
         ensures book { self.new.book ≡ self.old.book }
     {
         cost_less_tolerance_never_decreases();
         best.look(&mut self.pass)
+    }
+
+    /// The desk comes to know what the worker has published, and the worker what the desk has seen: a part of the worker's pass goes into the
+    /// desk's, and one comes back.
+    pub fn meet(&mut self, best: &Best, own: &mut OwnBest<C>)
+        requires object { best.now.object ≡ C.incumbent }
+        requires parts { own.old.parts ≡ 2 }
+        ensures seen { AtMost self.new.seen (cost_of own.old.schedule) }
+        ensures lower { AtMost self.new.seen self.old.seen }
+        ensures book { self.new.book ≡ self.old.book }
+        ensures schedule { own.new.schedule ≡ own.old.schedule }
+        ensures parts { own.new.parts ≡ 2 }
+    {
+        cost_less_tolerance_never_decreases();
+        let lent = own.split(best, 1);
+        best.join(&mut self.pass, lent);
+        let back = best.split(&mut self.pass, 1);
+        own.join_pass(best, back);
     }
 
     /// Claims the node for the worker, unless the search is over: the least cost is within the gap of the tree's bound, no leaf has a
@@ -232,19 +254,20 @@ impl<C: Run> Desk<C> {
     }
 
     /// Commits the evaluation of the node that the worker holds by the claim: it is closed where this may be, and else split on its cell or left open.
-    /// A claim whose commit is refused stays held.
+    /// A claim whose commit is refused stays held: the claim has to stand as it was told, and the table to be fresh at its node.
     pub fn commit(&mut self, best: &Best, me: u8, claim: &Claim, done: Evaluated) -> Left
         requires object { best.now.object ≡ C.incumbent }
         requires outcome { IsTrueOutcome C.exact C.opening.instance claim.now.path done.table done.outcome }
         requires sized { IsSized done.outcome }
-        requires scaled { IsScaledWithin C.opening.budget done.table }
+        requires scaled { IsLaterWithin C.opening.budget claim.now.had done.table }
+        ensures { IsDeskCommit C.exact C.opening.gap me claim.now done self.old self.new result }
     {
         let seen = self.look(best);
-        let stored = stored_bound(claim.bound, &done);
+        let stored = stored_bound(&claim.bound, &done);
         let action = ending(seen, stored, self.gap, &done);
         let entered = self.enter(me, claim, done, action);
         Left {
-            action: if entered { Some(action) } else { None },
+            action: told(entered, action),
             children: self.book.children(claim.node),
             stored,
             bound: self.book.bound(),
@@ -257,11 +280,16 @@ impl<C: Run> Desk<C> {
     fn enter(&mut self, me: u8, claim: &Claim, done: Evaluated, action: Move) -> bool
         requires outcome { IsTrueOutcome C.exact C.opening.instance claim.now.path done.table done.outcome }
         requires sized { IsSized done.outcome }
-        requires scaled { IsScaledWithin C.opening.budget done.table }
+        requires scaled { IsLaterWithin C.opening.budget claim.now.had done.table }
         requires pruned { IsPrunedBy self.old.seen action }
+        ensures book { IsEntry C.exact me claim.now done action self.old.book self.new.book result }
+        ensures seen { self.new.seen ≡ self.old.seen }
     {
         tree_runs_hold();
         self.book.keeps_run();
+        if !self.stands(me, claim) {
+            return false;
+        }
         self.book.commit(
             me,
             claim.unit,
@@ -271,6 +299,16 @@ impl<C: Run> Desk<C> {
             done.outcome,
             action,
         )
+    }
+
+    // Whether the worker holds the claim's node by it, and the log has as many entries of it as it had.
+    fn stands(&self, me: u8, claim: &Claim) -> bool
+        ensures { IsTrue result ↔ Stands self.now.book me claim.now }
+    {
+        match self.book.held(claim.unit) {
+            Some((worker, node, had)) => worker == me && node == claim.node && had == claim.had,
+            None => false,
+        }
     }
 
     /// A worker begins.
@@ -334,35 +372,56 @@ impl<C: Run> Desk<C> {
     }
 }
 
-// The bound that the node stores after the evaluation, in micro-dollars.
-fn stored_bound(former: i128, done: &Evaluated) -> i128 {
+/// The bound that the node stores after the evaluation, where it stored this one before, in micro-dollars.
+pub fn stored_bound(former: &i128, done: &Evaluated) -> i128
+    ensures { result ≡ bound_after former.now done.now.table.k done.now.outcome }
+{
+    let stored = Stored {
+        table: 0,
+        value: *former,
+        exact: false,
+    };
+    kept_after(&stored, 0, &done.table.k(), false, &done.outcome).value
+}
+
+/// The move that ends the claim: a unit has no pattern at the node, the table is a ray that excludes it, or its bound is within the gap of
+/// the cost that was seen; else the node is split or left open.
+pub fn ending(seen: Option<i64>, stored: i128, gap: u32, done: &Evaluated) -> Move
+    requires { gap ≤ WHOLE_GAP }
+    ensures is { result ≡ move_of seen stored gap done.now.table.k done.now.cell done.now.outcome }
+    ensures pruned { IsPrunedBy seen result }
+{
     match done.outcome {
-        Outcome::Value(value) if done.table.k() > 0 => {
-            former.max(floor_div(value, i128::from(done.table.k())))
-        }
-        _ => former,
+        Outcome::Empty(_) => Move::Empty,
+        Outcome::Value(value) if done.table.k() == 0 && value > 0 => Move::Ray,
+        Outcome::Value(_) => value_move(seen, stored, gap, done.cell),
     }
 }
 
-// The move that ends the claim: a unit has no pattern at the node, the table is a ray that excludes it, or its bound is within the gap of
-// the cost that was seen; else the node is split or left open.
-fn ending(seen: Option<i64>, stored: i128, gap: u32, done: &Evaluated) -> Move
+// The move after a value: the node is pruned where its bound is within the gap of the cost that was seen; else it is split on the cell, or left
+// open.
+fn value_move(seen: Option<i64>, stored: i128, gap: u32, cell: Option<(u32, u32)>) -> Move
     requires { gap ≤ WHOLE_GAP }
-    ensures { IsPrunedBy seen result }
+    ensures is { result ≡ value_move_of seen stored gap cell }
+    ensures pruned { IsPrunedBy seen result }
 {
-    match (done.outcome, seen) {
-        (Outcome::Empty(_), _) => Move::Empty,
-        (Outcome::Value(value), _) if done.table.k() == 0 && value > 0 => Move::Ray,
-        (Outcome::Value(_), Some(cost)) if is_within_gap(&cost, &Some(stored), gap) => {
-            Move::Prune { seen: cost }
-        }
-        _ => open_move(done.cell),
+    match seen {
+        Some(cost) if is_within_gap(&cost, &Some(stored), gap) => Move::Prune { seen: cost },
+        _ => open_move(cell),
     }
+}
+
+// The move, where the evaluation was entered.
+fn told(entered: bool, action: Move) -> Option<Move>
+    ensures { result ≡ told_move entered action }
+{
+    if entered { Some(action) } else { None }
 }
 
 // The move that leaves the node open, or splits it on the cell.
 fn open_move(cell: Option<(u32, u32)>) -> Move
-    ensures { (seen : _) → IsPrunedBy seen result }
+    ensures is { result ≡ open_move cell }
+    ensures pruned { (seen : _) → IsPrunedBy seen result }
 {
     match cell {
         Some((g, t)) => Move::Split { g, t },

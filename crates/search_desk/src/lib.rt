@@ -8,8 +8,8 @@ mod own_best;
 mod run;
 mod tickets;
 
-pub use desk::{Claim, Desk, Evaluated, Left, Taken};
+pub use desk::{Claim, Desk, Evaluated, Left, Taken, ending, stored_bound};
 pub use grown::Grown;
-pub use own_best::{OwnBest, is_closed};
+pub use own_best::{OwnBest, cheaper, is_closed};
 pub use run::Run;
 pub use tickets::Tickets;

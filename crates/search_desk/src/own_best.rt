@@ -1,9 +1,9 @@
 //! The cheapest schedule that a worker has found, and its pass of the incumbent.
 
-ghost use Rattle.std.specs.Prelude.{◌≡◌, ◌+◌, ◌-◌, ◌<◌, ◌≤◌, IsTrue, false, None, Some};
+ghost use Rattle.std.specs.Prelude.{◌≡◌, ◌+◌, ◌-◌, ◌<◌, ◌≤◌, Bool, IsTrue, false, None, Some};
 ghost use Rattle.uc_model.specs.declared.tolerance.TheConstants.{WHOLE_GAP};
 ghost use Rattle.branch_tree.specs.Closing.{is_schedule_within};
-ghost use Rattle.schedule_check.specs.Accepted.{IsAccepted, IsAcceptedIfFound};
+ghost use Rattle.found_schedule.specs.Found.{IsFound, IsFoundIfAny};
 ghost use Rattle.incumbent.specs.Costs.{AtMost, least};
 ghost use Rattle.search_desk.specs.Best.{IsLower, IsNoWorse, cost_of};
 ghost use Rattle.search_desk.specs.Passes.{Instance, IsCheaper, IsNoCheaper};
@@ -30,7 +30,7 @@ impl<C: Run> Model for OwnBest<C> {
 
     ghost view = { λ own. own_best_of own.pass own.schedule };
 
-    ghost invariant = { λ own. IsOwnBest C.opening.instance C.incumbent own.pass own.schedule };
+    ghost invariant = { λ own. IsOwnBest C.exact_dispatch C.opening.instance C.incumbent own.pass own.schedule };
 }
 
 impl<C: Run> OwnBest<C> {
@@ -50,7 +50,7 @@ impl<C: Run> OwnBest<C> {
     /// Takes the schedule that was found, where it is cheaper, and publishes its cost.
     pub fn offer(&mut self, best: &Best, found: Option<(Printed, i64)>)
         requires object { best.now.object ≡ C.incumbent }
-        requires accepted { IsAcceptedIfFound C.opening.instance found }
+        requires found { IsFoundIfAny C.exact_dispatch C.opening.instance found }
         ensures no_worse { IsNoWorse self.old.schedule self.new.schedule }
         ensures found { IsNoWorse found self.new.schedule }
         ensures parts { self.new.parts ≡ self.old.parts }
@@ -65,7 +65,7 @@ impl<C: Run> OwnBest<C> {
     // Takes a schedule that is cheaper.
     fn take(&mut self, best: &Best, printed: Printed, cost: i64)
         requires object { best.now.object ≡ C.incumbent }
-        requires accepted { IsAccepted C.opening.instance printed cost }
+        requires found { IsFound C.exact_dispatch C.opening.instance printed cost }
         requires lower { IsCheaper cost self.old.schedule }
         ensures schedule { self.new.schedule ≡ Some (printed, cost) }
         ensures parts { self.new.parts ≡ self.old.parts }
@@ -84,6 +84,7 @@ impl<C: Run> OwnBest<C> {
         ensures mine { result.mine ≡ None }
         ensures parts { result.parts ≡ parts }
         ensures seen { result.seen ≡ self.old.seen }
+        ensures below { AtMost self.old.seen (cost_of self.old.schedule) }
     {
         best.split(&mut self.pass, parts)
     }
@@ -116,7 +117,7 @@ impl<C: Run> OwnBest<C> {
         requires object { best.object ≡ C.incumbent }
         requires whole { self.parts ≡ best.parts }
         ensures schedule { result ≡ self.schedule }
-        ensures accepted { IsAcceptedIfFound C.opening.instance result }
+        ensures found { IsFoundIfAny C.exact_dispatch C.opening.instance result }
         ensures least { AtMost (cost_of result) self.seen }
     {
         let OwnBest { pass, schedule, .. } = self;
@@ -136,9 +137,13 @@ fn is_lower(cost: i64, schedule: &Option<(Printed, i64)>) -> bool
     }
 }
 
-// The cheaper of two schedules that may be missing, the first where both cost the same.
-fn cheaper(first: Option<(Printed, i64)>, second: Option<(Printed, i64)>) -> Option<(Printed, i64)>
-    ensures accepted { (instance : Instance) → IsAcceptedIfFound instance first → IsAcceptedIfFound instance second → IsAcceptedIfFound instance result }
+/// The cheaper of two schedules that may be missing, the first where both cost the same.
+pub fn cheaper(
+    first: Option<(Printed, i64)>,
+    second: Option<(Printed, i64)>,
+) -> Option<(Printed, i64)>
+    ensures found { (exact_dispatch : Bool) (instance : Instance) → IsFoundIfAny exact_dispatch instance first → IsFoundIfAny exact_dispatch instance second
+        → IsFoundIfAny exact_dispatch instance result }
     ensures no_worse { IsNoWorse first result }
     ensures least { cost_of result ≡ least (cost_of first) (cost_of second) }
 {

@@ -3,8 +3,8 @@
 use book::Case;
 use std::marker::Brand;
 
-/// A search: the run of its book, the incumbent that its passes are of, and whether its claims evaluate VE. It has no call and no data; a type that is generic in it says of
-/// which search its values are. Each search picks it once, where it passes `Brand`.
+/// A search: the run of its book, the incumbent that its passes are of, whether its claims evaluate VE, and whether it lets out schedules of the
+/// exact dispatch. It has no call and no data; a type that is generic in it says of which search its values are. Each search picks it once, where it passes `Brand`.
 pub trait Run: Case {
     ghost use Rattle.atomic_table.specs.Seated.{TableId};
 
@@ -13,6 +13,8 @@ pub trait Run: Case {
     ghost use Rattle.std.specs.Prelude.{Bool};
 
     ghost exact: { Bool };
+
+    ghost exact_dispatch: { Bool };
 }
 
 impl Run for Brand {
@@ -23,4 +25,6 @@ impl Run for Brand {
     ghost use Rattle.std.specs.Prelude.{false};
 
     ghost exact = { false };
+
+    ghost exact_dispatch = { false };
 }

@@ -110,6 +110,7 @@ fn meetings<R: Threads + Wait + Sync>(
         workers: 2,
         gap: 0,
         exact_units: false,
+        pivot: false,
     };
     let meeting = Meeting::new(awaited);
     match search(rt, alloc, instance, &options, &meeting) {

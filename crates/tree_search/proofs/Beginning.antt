@@ -14,7 +14,6 @@ use Rattle.book.specs.Opening.{Opening, IsTrueOpening}
 use Rattle.opening.specs.RootTables.{IsPricedOf}
 use Rattle.search_desk.specs.Best.{cost_of}
 use Rattle.closing_pass.specs.Closings.{IsEnded}
-use Rattle.search_desk.specs.Desks.{IsScaledWithin}
 use Rattle.uc_model.specs.declared.instance.Instance.{Instance}
 use Rattle.opening.specs.declared.root_tables.Priced.{Priced}
 use Rattle.tree_search.specs.inside.Searches.{opening_by}
@@ -39,16 +38,12 @@ true_opening instance priced budget gap lawful few whole is =
       };
     }
 
--- its scale is a million
-pub million_within : (budget : ℕ) (priced : Priced) → priced.table.k ≡ ZERO_SCALE → IsScaledWithin budget priced.table
-million_within budget priced scale = subst (λ k. k ≤ℤ pos (1000000 + budget)) (sym scale) (omega (arith, linear))
-
 -- no claim is made where the schedule is within the gap
-pub opened_ended : (exact : Bool) (opening : Opening) (best : Option (Printed × ℤ)) → IsTrueOpening opening → IsScaledWithin opening.budget opening.table
+pub opened_ended : (exact : Bool) (opening : Opening) (best : Option (Printed × ℤ)) → IsTrueOpening opening
     → is_schedule_within best (Some opening.value) opening.gap ≡ true → IsEnded exact opening (opened opening) best
-opened_ended exact opening best begun scaled closed = record {
+opened_ended exact opening best begun closed = record {
   limit = opening.budget;
-  kept = kept_opened exact opening (cost_of best) begun opening.budget scaled;
+  kept = kept_opened exact opening (cost_of best) begun opening.budget;
   spent = record {
     within = omega arith;
     spent = λ some unclosed. let differ : true ≡ false = sym closed ∙ unclosed in absurd (cc);
@@ -61,5 +56,5 @@ pub closed_ended : (exact : Bool) (opening : Opening) (book : BookView) (instanc
     → book ≡ opened opening → is_schedule_within best (Some (bound_of priced.value priced.table.k)) gap ≡ true → IsEnded exact opening book best
 closed_ended exact opening book instance priced budget gap best of lawful few whole is new closed =
     let own = opening_by instance priced budget gap in
-    let ended = opened_ended exact own best (true_opening instance priced budget gap lawful few whole is) (million_within budget priced is.scale) closed in
+    let ended = opened_ended exact own best (true_opening instance priced budget gap lawful few whole is) closed in
     subst (λ b. IsEnded exact opening b best) (sym new) (subst (λ o. IsEnded exact o (opened o) best) (sym of) ended)

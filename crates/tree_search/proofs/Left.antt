@@ -11,7 +11,6 @@ use Rattle.search_core.specs.Moves.{bound_of}
 use Rattle.search_core.specs.OwnTables.{HasFreeCellAt, HoldsStored, OwnsBelow, StartsAt, stored_after, stored_by}
 use Rattle.search_core.specs.Runs.{TreeRunsHold}
 use Rattle.search_core.specs.declared.stored.Stored.{Stored}
-use Rattle.schedule_check.specs.Accepted.{IsAcceptedIfFound}
 use Rattle.book.specs.BookView.{BookView}
 use Rattle.book.specs.Opening.{Opening, IsTrueOpening}
 use Rattle.book.specs.Replay.{with_unit, number_of}
@@ -82,9 +81,9 @@ few_nodes runs opening book begun running =
 -- ---- what is left
 pub ended_grown : TreeRunsHold → (exact : Bool) (opening : Opening) (book : BookView) (best : Option (Printed × ℤ)) (instance : Instance) (priced : Priced) (budget gap : ℕ)
     (grown : Grown) → opening ≡ opening_by instance priced budget gap → IsRunning opening book → IsWhole book.tree → IsEnded exact opening book best
-    → IsAcceptedIfFound instance best → grown.tree ≡ book.tree → grown.tables ≡ book.tables → grown.log ≡ book.log → grown.best ≡ best
+    → grown.tree ≡ book.tree → grown.tables ≡ book.tables → grown.log ≡ book.log → grown.best ≡ best
     → IsGrown exact instance priced budget gap grown
-ended_grown runs exact opening book best instance priced budget gap grown same running whole ended accepted tree tables log best_is =
+ended_grown runs exact opening book best instance priced budget gap grown same running whole ended tree tables log best_is =
     subst (λ (x : Grown). IsGrown exact instance priced budget gap x) (sym (λ i. record {
       tree = tree i;
       tables = tables i;
@@ -124,7 +123,6 @@ ended_grown runs exact opening book best instance priced budget gap grown same r
           plain = end2.kept.plain;
           of_kind = end2.kept.of_kind;
           sized = end2.kept.sized;
-          accepted = accepted;
           spent = end2.spent;
           nodes = few_nodes runs by book end2.kept.begun run2;
         }

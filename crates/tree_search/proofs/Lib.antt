@@ -1,4 +1,3 @@
 pub mod Beginning
-pub mod Joined
 pub mod Left
 pub mod Seats

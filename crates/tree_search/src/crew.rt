@@ -3,13 +3,14 @@
 ghost use Rattle.std.specs.Prelude.{◌≡◌, ◌≤◌};
 ghost use Rattle.uc_model.specs.declared.tolerance.TheConstants.{WHOLE_GAP};
 ghost use Rattle.search_desk.specs.Desks.{IsClaimOf};
+ghost use Rattle.decided_nodes.specs.Pivoting.{uses_exact_dispatch};
 ghost use Rattle.node_visits.specs.Trials.{IsEvaluatedFor, IsNextAt};
 
 use branch_tree::is_within_gap;
 use claims::Ticket;
 use crossbeam_utils::Backoff;
 use incumbent::Best;
-use node_visits::{Aim, Effort, Worker, beside, enough, evaluated, moves};
+use node_visits::{Aim, Effort, Visited, Worker, beside, enough, evaluated, moves};
 use outside::Gate;
 use prices::Ascent;
 use search_core::Move;
@@ -32,6 +33,7 @@ pub(crate) struct Shared<C: Run> {
     ghost object: { best.object ≡ C.incumbent },
     ghost whole: { aim.gap ≤ WHOLE_GAP },
     ghost kind: { aim.exact ≡ C.exact },
+    ghost dispatch: { uses_exact_dispatch aim.pivoting ≡ C.exact_dispatch },
 }
 
 impl<C: Run> Shared<C> {
@@ -40,6 +42,7 @@ impl<C: Run> Shared<C> {
         requires object { best.object ≡ C.incumbent }
         requires whole { aim.gap ≤ WHOLE_GAP }
         requires kind { aim.exact ≡ C.exact }
+        requires dispatch { uses_exact_dispatch aim.pivoting ≡ C.exact_dispatch }
         ensures { result.best ≡ best }
     {
         Shared {
@@ -62,7 +65,7 @@ pub(crate) struct Member<'a, C: Run> {
     me: u8,
     waiting: u32,
     ghost of: { worker ≡ C.opening.instance },
-    ghost parts: { own.parts ≡ 1 },
+    ghost parts: { own.parts ≡ 2 },
 }
 
 /// An ascent that is still to be repaired, with what the commit of its claim left.
@@ -82,7 +85,7 @@ impl<'a, C: Run> Member<'a, C> {
         me: u8,
     ) -> Member<'a, C>
         requires of { worker ≡ C.opening.instance }
-        requires parts { own.parts ≡ 1 }
+        requires parts { own.parts ≡ 2 }
     {
         Member {
             worker,
@@ -96,7 +99,7 @@ impl<'a, C: Run> Member<'a, C> {
 
     /// What it has found.
     pub(crate) fn into_best(self) -> OwnBest<C>
-        ensures { result.parts ≡ 1 }
+        ensures { result.parts ≡ 2 }
     {
         let Member {
             worker,
@@ -327,7 +330,7 @@ fn visited<C: Run, R: Wait, G: Gate>(
     Ok(true)
 }
 
-// Evaluates the node that is held, commits it, and puts its ascent off, if one is to be repaired.
+// Evaluates the node that is held, publishes the schedule that comes of it, commits it, and puts its ascent off, if one is to be repaired.
 fn held<C: Run, R: Wait, G: Gate>(
     rt: &R,
     alloc: Global,
@@ -343,7 +346,14 @@ fn held<C: Run, R: Wait, G: Gate>(
     let unit = claim.unit;
     gate.enter(rt, member.me, unit);
     match evaluated(alloc, &mut member.worker, claim, shared.aim, next) {
-        Ok((done, ascent)) => {
+        Ok(
+            Visited {
+                done,
+                ascent,
+                found,
+            },
+        ) => {
+            member.own.offer(&shared.best, found);
             let left = entered(rt, shared, member, claim, done);
             let (ascent, left) = beside(ascent, left)?;
             member.put_off(put_by(ascent, left, unit));
@@ -364,7 +374,7 @@ fn put_by(ascent: Option<Ascent>, left: Left, unit: u32) -> Option<Late> {
     }
 }
 
-// Commits the evaluation, and takes the tickets that it leaves before the lock is given back.
+// Commits the evaluation, by what the worker has published, and takes the tickets that it leaves before the lock is given back.
 fn entered<C: Run, R: Wait>(
     rt: &R,
     shared: &Shared<C>,
@@ -376,6 +386,7 @@ fn entered<C: Run, R: Wait>(
     requires done { IsEvaluatedFor C.exact C.opening.instance claim.now done }
 {
     let mut desk = shared.desk.lock(rt);
+    desk.meet(&shared.best, &mut member.own);
     let left = desk.commit(&shared.best, member.me, claim, done);
     if member.take_tickets(claim, &left)? {
         desk.tell();

@@ -1,11 +1,10 @@
 //! The workers from their seats to what they found: how they are gathered, do their work in threads and are joined.
 
-ghost use Rattle.std.specs.Prelude.{◌≡◌, ◌+◌, IfOk, vec_len};
-ghost use Rattle.schedule_check.specs.Accepted.{IsAcceptedIfFound};
+ghost use Rattle.std.specs.Prelude.{◌≡◌, ◌+◌, ◌*◌, IfOk, vec_len};
+ghost use Rattle.found_schedule.specs.Found.{IsFoundIfAny};
 ghost use Rattle.book.specs.BookView.{opened};
 ghost use Rattle.book.specs.Opening.{IsTrueOpening};
 ghost use Rattle.search_desk.specs.Best.{IsNoWorse, cost_of};
-ghost use Rattle.search_desk.specs.Desks.{IsScaledWithin};
 ghost use Rattle.node_visits.specs.Trials.{IsNextAt};
 ghost use Rattle.closing_pass.specs.Closings.{IsLeft};
 ghost use Rattle.tree_search.specs.Options.{AreOptions};
@@ -15,6 +14,7 @@ use crate::crew::{Member, Shared, open_root, work};
 use crate::members::members;
 use crate::options::Options;
 use book::Book;
+use decided_nodes::Pivoting;
 use node_visits::{Aim, beside};
 use outside::Gate;
 use prices::Ascent;
@@ -32,7 +32,7 @@ pub(crate) struct Crowd<'a, C: Run> {
     own: OwnBest<C>,
     members: Vec<Member<'a, C>>,
     next: Option<Ascent>,
-    ghost parts: { own.parts + vec_len members + 1 ≡ shared.best.parts },
+    ghost parts: { own.parts + 2 * vec_len members + 1 ≡ shared.best.parts },
 }
 
 /// The book and the best schedule after all workers have ended. The only error is `NoMemory`.
@@ -48,16 +48,16 @@ pub(crate) fn crowded<C: Run + Send + Sync, R: Threads + Wait + Sync, G: Gate + 
     requires gap { options.now.gap ≡ C.opening.gap }
     requires budget { options.now.budget ≡ C.opening.budget }
     requires kind { options.now.exact_units ≡ C.exact }
+    requires dispatch { options.now.pivot ≡ C.exact_dispatch }
     requires begun { IsTrueOpening C.opening }
-    requires scaled { IsScaledWithin C.opening.budget C.opening.table }
     requires book { book ≡ opened C.opening }
     requires of { crew.worker ≡ C.opening.instance }
     requires object { crew.best.object ≡ C.incumbent }
-    requires whole { crew.best.parts ≡ options.now.workers + 2 }
-    requires parts { crew.own.parts ≡ options.now.workers + 2 }
+    requires whole { crew.best.parts ≡ 2 * options.now.workers + 2 }
+    requires parts { crew.own.parts ≡ 2 * options.now.workers + 2 }
     requires next { IsNextAt C.opening.instance 1 crew.next }
     ensures left { IfOk result (λ both. IsLeft C.exact C.opening both.0 (cost_of both.1) C.opening.budget) }
-    ensures accepted { IfOk result (λ both. IsAcceptedIfFound C.opening.instance both.1) }
+    ensures found { IfOk result (λ both. IsFoundIfAny C.exact_dispatch C.opening.instance both.1) }
     ensures no_worse { IfOk result (λ both. IsNoWorse crew.entry.own.schedule both.1) }
 {
     let Crowd {
@@ -82,13 +82,13 @@ fn gathered<'a, C: Run>(
     requires options { AreOptions options.now }
     requires gap { options.now.gap ≡ C.opening.gap }
     requires kind { options.now.exact_units ≡ C.exact }
+    requires dispatch { options.now.pivot ≡ C.exact_dispatch }
     requires begun { IsTrueOpening C.opening }
-    requires scaled { IsScaledWithin C.opening.budget C.opening.table }
     requires book { book ≡ opened C.opening }
     requires of { crew.worker ≡ C.opening.instance }
     requires object { crew.best.object ≡ C.incumbent }
-    requires whole { crew.best.parts ≡ options.now.workers + 2 }
-    requires parts { crew.own.parts ≡ options.now.workers + 2 }
+    requires whole { crew.best.parts ≡ 2 * options.now.workers + 2 }
+    requires parts { crew.own.parts ≡ 2 * options.now.workers + 2 }
     requires next { IsNextAt C.opening.instance 1 crew.next }
     ensures schedule { IfOk result (λ crowd. crowd.own.schedule ≡ crew.entry.own.schedule) }
     ensures next { IfOk result (λ crowd. IsNextAt C.opening.instance 1 crowd.next) }
@@ -104,6 +104,7 @@ fn gathered<'a, C: Run>(
         gap: options.gap,
         shared: options.workers > 1,
         exact: options.exact_units,
+        pivoting: Pivoting::of(options.pivot, worker.instance(), options.budget),
     };
     let desk = Desk::new(book, pass, options.gap, options.exact_units);
     let shared = Shared::new(desk, best, aim);
@@ -165,9 +166,9 @@ fn joined<C: Run>(
     mut own: OwnBest<C>,
     members: Vec<Member<C>>,
 ) -> Result<(Book<C>, Option<(Printed, i64)>), NoMemory>
-    requires parts { own.parts + vec_len members + 1 ≡ shared.best.parts }
+    requires parts { own.parts + 2 * vec_len members + 1 ≡ shared.best.parts }
     ensures left { IfOk result (λ both. IsLeft C.exact C.opening both.0 (cost_of both.1) C.opening.budget) }
-    ensures accepted { IfOk result (λ both. IsAcceptedIfFound C.opening.instance both.1) }
+    ensures found { IfOk result (λ both. IsFoundIfAny C.exact_dispatch C.opening.instance both.1) }
     ensures no_worse { IfOk result (λ both. IsNoWorse own.schedule both.1) }
 {
     cost_less_tolerance_never_decreases();

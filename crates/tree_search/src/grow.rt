@@ -1,6 +1,6 @@
 //! The search over the tree: the desk and its workers, and what they leave.
 
-ghost use Rattle.std.specs.Prelude.{◌≡◌, ℕ, ◌+◌, true, [], IfOk, Some};
+ghost use Rattle.std.specs.Prelude.{◌≡◌, ℕ, ◌+◌, ◌*◌, true, [], IfOk, Some};
 ghost use Rattle.uc_model.specs.Limits.{IsLawfulInstance};
 ghost use Rattle.branch_tree.specs.Closing.{is_schedule_within};
 ghost use Rattle.search_core.specs.Moves.{bound_of};
@@ -11,7 +11,7 @@ ghost use Rattle.book.specs.Opening.{IsTrueOpening};
 ghost use Rattle.tree_search.specs.Options.{AreOptions};
 ghost use Rattle.search_desk.specs.Best.{IsNoWorse};
 ghost use Rattle.closing_pass.specs.Closings.{IsEnded};
-ghost use Rattle.search_desk.specs.Desks.{IsScaledWithin};
+ghost use Rattle.found_schedule.specs.Found.{IsFoundIfAny};
 ghost use Rattle.uc_model.specs.declared.instance.Instance.{Instance};
 ghost use Rattle.opening.specs.declared.root_tables.Priced.{Priced};
 ghost use Rattle.search_desk.specs.Grown.{IsGrown};
@@ -22,7 +22,8 @@ use crate::begun::{Begun, Crew};
 use crate::crowd::crowded;
 use crate::options::Options;
 use book::Book;
-use closing_pass::{Closing, close};
+use closing_pass::{Closing, Progress, close};
+use decided_nodes::Pivoting;
 use incumbent::Best;
 use node_visits::{Start, Worker, beside};
 use outside::Gate;
@@ -50,11 +51,12 @@ pub fn search_tree<R: Threads + Wait + Sync, G: Gate + Sync>(
     requires accepted { IsAcceptedIfFound worker start.best }
     requires next { IsNextAt worker 1 start.next }
     ensures grown { IfOk result (IsGrown options.now.exact_units worker.entry start.opening options.now.budget options.now.gap) }
+    ensures found { IfOk result (λ grown. IsFoundIfAny options.now.pivot worker.entry grown.best) }
     ensures no_worse { IfOk result (λ grown. IsNoWorse start.best grown.best) }
     ensures quiet { is_schedule_within start.best (Some (bound_of start.opening.value start.opening.table.k)) options.now.gap ≡ true
         → IfOk result (λ grown. grown.log ≡ []) }
 {
-    let made = Best::new(alloc, u32::from(options.workers) + 2);
+    let made = Best::new(alloc, 2 * u32::from(options.workers) + 2);
     let ((worker, start), (best, pass)) = beside((worker, start), made)?;
     let begun = Begun {
         worker,
@@ -77,11 +79,13 @@ fn grow<C: Run + Send + Sync, R: Threads + Wait + Sync, G: Gate + Sync>(
     requires lawful { IsLawfulInstance begun.worker }
     requires opening { C.opening ≡ opening_by begun.worker begun.start.opening options.now.budget options.now.gap }
     requires kind { C.exact ≡ options.now.exact_units }
+    requires dispatch { C.exact_dispatch ≡ options.now.pivot }
     requires priced { IsPricedOf begun.worker begun.start.opening }
     requires accepted { IsAcceptedIfFound begun.worker begun.start.best }
     requires next { IsNextAt begun.worker 1 begun.start.next }
-    requires whole { IsWholeOf C.incumbent (options.now.workers + 2) begun.best begun.pass }
+    requires whole { IsWholeOf C.incumbent (2 * options.now.workers + 2) begun.best begun.pass }
     ensures grown { IfOk result (IsGrown options.now.exact_units begun.entry.worker begun.entry.start.opening options.now.budget options.now.gap) }
+    ensures found { IfOk result (λ grown. IsFoundIfAny options.now.pivot begun.entry.worker grown.best) }
     ensures no_worse { IfOk result (λ grown. IsNoWorse begun.entry.start.best grown.best) }
     ensures quiet { is_schedule_within begun.entry.start.best (Some (bound_of begun.entry.start.opening.value begun.entry.start.opening.table.k)) options.now.gap ≡ true
         → IfOk result (λ grown. grown.log ≡ []) }
@@ -104,12 +108,14 @@ fn grown<C: Run + Send + Sync, R: Threads + Wait + Sync, G: Gate + Sync>(
     requires lawful { IsLawfulInstance begun.worker }
     requires opening { C.opening ≡ opening_by begun.worker begun.start.opening options.now.budget options.now.gap }
     requires kind { C.exact ≡ options.now.exact_units }
+    requires dispatch { C.exact_dispatch ≡ options.now.pivot }
     requires priced { IsPricedOf begun.worker begun.start.opening }
     requires accepted { IsAcceptedIfFound begun.worker begun.start.best }
     requires next { IsNextAt begun.worker 1 begun.start.next }
-    requires whole { IsWholeOf C.incumbent (options.now.workers + 2) begun.best begun.pass }
+    requires whole { IsWholeOf C.incumbent (2 * options.now.workers + 2) begun.best begun.pass }
     requires book { book ≡ opened C.opening }
     ensures grown { IfOk result (IsGrown options.now.exact_units begun.entry.worker begun.entry.start.opening options.now.budget options.now.gap) }
+    ensures found { IfOk result (λ grown. IsFoundIfAny options.now.pivot begun.entry.worker grown.best) }
     ensures no_worse { IfOk result (λ grown. IsNoWorse begun.entry.start.best grown.best) }
     ensures quiet { is_schedule_within begun.entry.start.best (Some (bound_of begun.entry.start.opening.value begun.entry.start.opening.table.k)) options.now.gap ≡ true
         → IfOk result (λ grown. grown.log ≡ []) }
@@ -125,7 +131,7 @@ fn grown<C: Run + Send + Sync, R: Threads + Wait + Sync, G: Gate + Sync>(
 fn left<C: Run>(book: Book<C>, best: Option<(Printed, i64)>) -> Grown
     requires { IsEnded C.exact C.opening book best }
     ensures grown { (instance : Instance) (opening : Priced) (budget gap : ℕ) → C.opening ≡ opening_by instance opening budget gap
-        → IsAcceptedIfFound instance best → IsGrown C.exact instance opening budget gap result }
+        → IsGrown C.exact instance opening budget gap result }
     ensures best { result.best ≡ best }
     ensures log { result.log ≡ book.log }
 {
@@ -154,27 +160,29 @@ fn ended<C: Run + Send + Sync, R: Threads + Wait + Sync, G: Gate + Sync>(
     requires gap { options.now.gap ≡ C.opening.gap }
     requires budget { options.now.budget ≡ C.opening.budget }
     requires kind { options.now.exact_units ≡ C.exact }
+    requires dispatch { options.now.pivot ≡ C.exact_dispatch }
     requires begun { IsTrueOpening C.opening }
-    requires scaled { IsScaledWithin C.opening.budget C.opening.table }
     requires book { book ≡ opened C.opening }
     requires of { crew.worker ≡ C.opening.instance }
     requires object { crew.best.object ≡ C.incumbent }
-    requires whole { crew.best.parts ≡ options.now.workers + 2 }
-    requires parts { crew.own.parts ≡ options.now.workers + 2 }
+    requires whole { crew.best.parts ≡ 2 * options.now.workers + 2 }
+    requires parts { crew.own.parts ≡ 2 * options.now.workers + 2 }
     requires next { IsNextAt C.opening.instance 1 crew.next }
     ensures ended { IfOk result (λ both. IsEnded C.exact C.opening both.0 both.1) }
-    ensures accepted { IfOk result (λ both. IsAcceptedIfFound C.opening.instance both.1) }
+    ensures found { IfOk result (λ both. IsFoundIfAny C.exact_dispatch C.opening.instance both.1) }
     ensures no_worse { IfOk result (λ both. IsNoWorse crew.entry.own.schedule both.1) }
 {
     let instance = crew.worker.instance();
-    let (mut book, schedule) = crowded(rt, alloc, options, crew, book, gate)?;
+    let (book, best) = crowded(rt, alloc, options, crew, book, gate)?;
     let closing = Closing {
-        best: &schedule,
         gap: options.gap,
         budget: options.budget,
         exact: options.exact_units,
+        pivoting: Pivoting::of(options.pivot, instance, options.budget),
     };
-    let closed = close(rt, alloc, instance, &mut book, closing, gate);
-    let (both, ()) = beside((book, schedule), closed)?;
-    Ok(both)
+    let mut progress = Progress { book, best };
+    let closed = close(rt, alloc, instance, &mut progress, closing, gate);
+    let (progress, ()) = beside(progress, closed)?;
+    let Progress { book, best } = progress;
+    Ok((book, best))
 }

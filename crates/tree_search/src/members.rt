@@ -1,6 +1,6 @@
 //! The workers of a search, each with its seat and its pass.
 
-ghost use Rattle.std.specs.Prelude.{◌≡◌, ◌+◌, ◌≤◌, All, IfOk, OnOk, vec_len};
+ghost use Rattle.std.specs.Prelude.{◌≡◌, ◌+◌, ◌*◌, ◌≤◌, All, IfOk, OnOk, vec_len};
 ghost use Rattle.uc_model.specs.Limits.{IsLawfulInstance};
 ghost use Rattle.search_core.specs.declared.limits.TheConstants.{MAX_BUDGET};
 ghost use Rattle.steal_pool.specs.Pools.{IsFreshPool};
@@ -17,6 +17,9 @@ use std::alloc::Global;
 use steal_pool::{Pool, Seat};
 use uc_model::NoMemory;
 
+/// The parts of a worker's pass: one that it keeps, and one that it exchanges with the desk.
+const PARTS: u32 = 2;
+
 /// The workers, each with its seat and its pass. The only error is `NoMemory`.
 pub(crate) fn members<'a, C: Run>(
     alloc: Global,
@@ -30,7 +33,7 @@ pub(crate) fn members<'a, C: Run>(
     requires budget { options.now.budget ≤ MAX_BUDGET }
     requires object { best.now.object ≡ C.incumbent }
     requires of { worker ≡ C.opening.instance }
-    requires parts { own.old.parts ≡ options.now.workers + 1 }
+    requires parts { own.old.parts ≡ 2 * options.now.workers + 1 }
     ensures left { OnOk result (own.new.parts ≡ 1) }
     ensures schedule { own.new.schedule ≡ own.old.schedule }
     ensures count { IfOk result (λ members. vec_len members ≡ options.now.workers) }
@@ -55,7 +58,7 @@ fn seated<'a, C: Run>(
     requires budget { options.now.budget ≤ MAX_BUDGET }
     requires few { options.now.workers ≤ MAX_WORKERS }
     requires object { best.now.object ≡ C.incumbent }
-    requires parts { own.old.parts ≡ options.now.workers + 1 }
+    requires parts { own.old.parts ≡ 2 * options.now.workers + 1 }
     requires seats { IsFreshPool options.now.workers (options.now.budget + 2) seats.items }
     requires workers { vec_len workers.old ≡ options.now.workers }
     requires of { All (IsOn C.opening.instance) workers.old.items }
@@ -70,7 +73,7 @@ fn seated<'a, C: Run>(
         };
         let me = members.len() as u8;
         let tickets = Tickets::new(alloc, seat, me, options.workers, options.budget + 2);
-        let own = OwnBest::new(own.split(best, 1));
+        let own = OwnBest::new(own.split(best, PARTS));
         members.push(Member::new(worker, own, tickets, me))?;
     }
     Ok(members)

@@ -1,30 +1,28 @@
--- A schedule that is accepted has a text of the certificate's grammar.
-use Rattle.std.proofs.Common.{◌≡◌, ◌∙◌, ℕ, zero, suc, ◌<◌, ◌≤◌, Bool, true, false, List, [], ◌∷◌, get_or, length, replicate, refl, subst, sym, arith, ap, ℤ, pos, ◌*ℤ◌, ◌<ℤ◌, ◌/◌, Some, None, Option, IfSome}
+-- A schedule that a search lets out has a text of the certificate's grammar, in the third version.
+use Rattle.std.proofs.Common.{◌≡◌, ◌∙◌, ℕ, zero, suc, ◌<◌, ◌*◌, ◌≤◌, Bool, true, false, List, [], ◌∷◌, get_or, length, replicate, refl, subst, sym, arith, ap, ℤ, pos, ◌*ℤ◌, ◌<ℤ◌, ◌/◌, Some, None, Option, IfSome}
 use Rattle.std.proofs.lemmas.List.{get_or_default}
-use Rattle.uc_model.specs.Limits.{IsLimit}
 use Rattle.uc_model.specs.Schedule.{thermal_count, renewable_count}
 use Rattle.uc_model.specs.PrintedSchedule.{cell_at, shed_at, short_at, printed_denominator, printed_schedule}
 use Rattle.uc_model.proofs.Ring.{linear, le_from_mul, mul-zero}
+use Rattle.uc_model.proofs.PrintedCosts.{watts-factor}
 use Rattle.uc_model.proofs.Shortages.{share_is, shed_parts, short_parts}
 use Rattle.uc_model.specs.declared.instance.Instance.{Instance}
 use Rattle.uc_model.specs.declared.schedule.Cell.{Cell}
 use Rattle.uc_model.specs.declared.schedule.Printed.{Printed}
-use Rattle.schedule_check.specs.SizedNumbers.{HasSizedNumbers, IsSizedCell}
-use Rattle.schedule_check.specs.PlainNumbers.{IsPlainCell, HasPlainNumbers}
-use Rattle.schedule_check.proofs.Plain.{sized}
+use Rattle.schedule_check.specs.SizedNumbers.{HasSizedNumbers, IsSized, IsSizedCell}
 use Rattle.branch_tree.specs.Claims.{written_of}
 use Rattle.cert_text.specs.CertificateText.{has_price}
-use Rattle.cert_text.specs.TextConditions.{AreShortagesText, HasNoShortage, HasDigits, IsCellText, IsDenominator, IsThermalRow, IsPowerRow, IsScheduleText}
-use Rattle.cert_text.specs.declared.cert.Version.{Version}
+use Rattle.cert_text.specs.TextConditions.{AreShortagesText, HasNoShortage, HasDigits, IsCellText, IsThermalRow, IsPowerRow, IsScheduleText}
+use Rattle.cert_text.specs.declared.cert.Version.TheVariants.{Third}
 use Rattle.cert_text.proofs.PlanLaws.{no_prices}
-use Rattle.schedule_check.specs.Accepted.{IsAccepted}
+use Rattle.found_schedule.specs.Found.{HasFoundNumbers, IsFound, IsFoundCell, IsFoundIfAny}
 
 -- ---- the text
 -- where a schedule has no cell
 abbrev no_cell : Cell
 no_cell = record { on = false; p = pos 0; r = pos 0; category = 0 }
 
-cell_text : (cell : Cell) → IsPlainCell cell → IsSizedCell cell → IsCellText cell
+cell_text : (cell : Cell) → IsFoundCell cell → IsSizedCell cell → IsCellText cell
 cell_text cell plain small = record {
   on = λ on. record {
     output = omega (arith, small.output);
@@ -36,13 +34,13 @@ cell_text cell plain small = record {
       record { output = idle.output; reserve = idle.reserve; category = idle.category };
 }
 
-thermal_row : (periods : ℕ) (printed : Printed) (g : ℕ) (row : List Cell) → HasPlainNumbers printed → HasSizedNumbers printed
-    → row ≡ get_or printed.thermal g [] → length row ≡ periods → IsThermalRow periods row
-thermal_row periods printed g row plain small is count = record {
+thermal_row : (periods : ℕ) (printed : Printed) (g : ℕ) (row : List Cell) → HasFoundNumbers printed → row ≡ get_or printed.thermal g []
+    → length row ≡ periods → IsThermalRow periods row
+thermal_row periods printed g row numbers is count = record {
   cells = count;
   written = λ t d within.
       let same : cell_at printed g t ≡ get_or row t d = ap (λ r. get_or r t no_cell) (sym is) ∙ get_or_default row t no_cell d within in
-      subst IsCellText same (cell_text (cell_at printed g t) (plain.cells g t) (small.thermal g t));
+      subst IsCellText same (cell_text (cell_at printed g t) (numbers.cells g t) (numbers.sized.thermal g t));
 }
 
 renewable_row : (periods : ℕ) (printed : Printed) (w : ℕ) (row : List ℤ) → HasSizedNumbers printed
@@ -55,11 +53,11 @@ renewable_row periods printed w row small is count = record {
       subst (HasDigits 15) same (omega (arith, output));
 }
 
-power_row : (periods : ℕ) (row : List ℤ) → length row ≡ periods → ((t : ℕ) → IsLimit (get_or row t (pos 0))) → IsPowerRow periods row
-power_row periods row count limits = record {
+power_row : (periods : ℕ) (row : List ℤ) → length row ≡ periods → ((t : ℕ) → IsSized (get_or row t (pos 0))) → IsPowerRow periods row
+power_row periods row count small = record {
   powers = count;
   written = λ t d within.
-      let power = (limits t).power in
+      let power = small t in
       subst (HasDigits 15) (get_or_default row t (pos 0) d within) (omega (arith, power));
 }
 
@@ -80,59 +78,55 @@ no_powers (suc n) [] count none = absurd (omega (arith, count))
 no_powers (suc n) (z ∷ powers) count none = λ i.
     none 0 (omega arith) i ∷ no_powers n powers (omega (arith, count)) (λ t below. none (suc t) (omega (arith, below))) i
 
--- the watts are whole, so the denominator is that of the schedule
-whole_share : (q d : ℕ) (missing : ℤ) → d ≡ 1 → pos (q / d) *ℤ missing ≡ pos 0 → pos q *ℤ missing ≡ pos 0
-whole_share q d missing whole e =
-    let same : q / d ≡ q = subst (λ n. q / n ≡ q) (sym whole) (share_is q q 1 (omega arith) (omega arith)) in
-    ap (λ n. pos n *ℤ missing) (sym same) ∙ e
+-- a share of the schedule's denominator is at least 1
+share_zero : (q c d : ℕ) (missing : ℤ) → 0 < d → q ≡ c * d → 1 ≤ q → pos (q / d) *ℤ missing ≡ pos 0 → missing ≡ pos 0
+share_zero q zero d missing some e positive h = absurd (omega (arith, e, positive))
+share_zero q (suc c) d missing some e positive h =
+    zero_over (suc c) missing (omega arith) (ap (λ n. pos n *ℤ missing) (sym (share_is q (suc c) d some e)) ∙ h)
 
-lacks_nothing : (instance : Instance) (printed : Printed) (cost : ℤ) → IsAccepted instance printed cost
+lacks_nothing : (over : Bool) (instance : Instance) (printed : Printed) (cost : ℤ) → IsFound over instance printed cost
     → (instance.a ≡ 0) × (instance.b ≡ 0) → HasNoShortage instance.periods printed
-lacks_nothing instance printed cost accepted free =
+lacks_nothing over instance printed cost found free =
     let q = printed_denominator instance printed in
     let x = printed_schedule instance printed q in
-    let some = accepted.obeys.denominator in
+    let some = found.obeys.denominator in
+    let least = found.numbers.least in
+    let share = watts-factor instance printed in
     record {
-      shed = no_powers instance.periods printed.shed accepted.shape.shed (λ t below.
-          zero_over q (shed_at printed t) some (whole_share q printed.denominator (shed_at printed t) accepted.whole
-          ((shed_parts instance q x t accepted.obeys below).priced free.0)));
-      short = no_powers instance.periods printed.short accepted.shape.short (λ t below.
-          zero_over q (short_at printed t) some (whole_share q printed.denominator (short_at printed t) accepted.whole
-          ((short_parts instance q x t accepted.obeys below).priced free.1)));
+      shed = no_powers instance.periods printed.shed found.shape.shed (λ t below.
+          share_zero q share.0 printed.denominator (shed_at printed t) (omega (arith, least)) share.1 some
+          ((shed_parts instance q x t found.obeys below).priced free.0));
+      short = no_powers instance.periods printed.short found.shape.short (λ t below.
+          share_zero q share.0 printed.denominator (short_at printed t) (omega (arith, least)) share.1 some
+          ((short_parts instance q x t found.obeys below).priced free.1));
     }
 
-shortages_text : (instance : Instance) (printed : Printed) (cost : ℤ) (priced : Bool) → IsAccepted instance printed cost
+shortages_text : (over : Bool) (instance : Instance) (printed : Printed) (cost : ℤ) (priced : Bool) → IsFound over instance printed cost
     → has_price instance.a instance.b ≡ priced → AreShortagesText priced instance.periods printed
-shortages_text instance printed cost false accepted none =
-    lacks_nothing instance printed cost accepted (no_prices instance.a instance.b none)
-shortages_text instance printed cost true accepted some = record {
-  shed = power_row instance.periods printed.shed accepted.shape.shed accepted.numbers.shed;
-  short = power_row instance.periods printed.short accepted.shape.short accepted.numbers.short;
+shortages_text over instance printed cost false found none =
+    lacks_nothing over instance printed cost found (no_prices instance.a instance.b none)
+shortages_text over instance printed cost true found some = record {
+  shed = power_row instance.periods printed.shed found.shape.shed found.numbers.shed;
+  short = power_row instance.periods printed.short found.shape.short found.numbers.short;
 }
 
--- whole watts have the denominator 1, in whichever version
-whole_denominator : (version : Version) (denominator : ℕ) → denominator ≡ 1 → IsDenominator version denominator
-whole_denominator version denominator whole = record { least = omega (arith, whole); most = omega (arith, whole); divided = λ other. absurd (other whole) }
-
-schedule_text : (version : Version) (instance : Instance) (printed : Printed) (cost : ℤ) → IsAccepted instance printed cost
-    → IsScheduleText version (has_price instance.a instance.b) instance.periods (thermal_count instance) (renewable_count instance)
+schedule_text : (over : Bool) (instance : Instance) (printed : Printed) (cost : ℤ) → IsFound over instance printed cost
+    → IsScheduleText Third (has_price instance.a instance.b) instance.periods (thermal_count instance) (renewable_count instance)
     (record { printed = printed; cost = cost })
-schedule_text version instance printed cost accepted =
-    let small = sized printed accepted.numbers in
-    record {
-      cost = omega (arith, accepted.size);
-      thermal_rows = accepted.shape.thermal;
-      cells = λ g d within.
-          thermal_row instance.periods printed g _ accepted.numbers small (get_or_default printed.thermal g d [] within) (accepted.shape.cells g d within);
-      renewable_rows = accepted.shape.renewable;
-      outputs = λ w d within.
-          renewable_row instance.periods printed w _ small (get_or_default printed.renewable w d [] within) (accepted.shape.outputs w d within);
-      shortages = shortages_text instance printed cost (has_price instance.a instance.b) accepted refl;
-      denominator = whole_denominator version printed.denominator accepted.whole;
-    }
+schedule_text over instance printed cost found = record {
+  cost = omega (arith, found.size);
+  thermal_rows = found.shape.thermal;
+  cells = λ g d within.
+      thermal_row instance.periods printed g _ found.numbers (get_or_default printed.thermal g d [] within) (found.shape.cells g d within);
+  renewable_rows = found.shape.renewable;
+  outputs = λ w d within.
+      renewable_row instance.periods printed w _ found.numbers.sized (get_or_default printed.renewable w d [] within) (found.shape.outputs w d within);
+  shortages = shortages_text over instance printed cost (has_price instance.a instance.b) found refl;
+  denominator = record { least = found.numbers.least; most = found.numbers.most; divided = λ other. refl };
+}
 
-pub has_schedule_text : (version : Version) (instance : Instance) (schedule : Option (Printed × ℤ)) → IfSome schedule (λ pair. IsAccepted instance pair.0 pair.1)
+pub has_schedule_text : (over : Bool) (instance : Instance) (schedule : Option (Printed × ℤ)) → IsFoundIfAny over instance schedule
     → IfSome (written_of schedule)
-    (IsScheduleText version (has_price instance.a instance.b) instance.periods (thermal_count instance) (renewable_count instance))
-has_schedule_text version instance None accepted = tt
-has_schedule_text version instance (Some pair) accepted = schedule_text version instance pair.0 pair.1 accepted
+    (IsScheduleText Third (has_price instance.a instance.b) instance.periods (thermal_count instance) (renewable_count instance))
+has_schedule_text over instance None found = tt
+has_schedule_text over instance (Some pair) found = schedule_text over instance pair.0 pair.1 found

@@ -9,7 +9,7 @@ use Rattle.outside.specs.Slots.{SlotState}
 use Rattle.branch_tree.specs.StoredTree.{tree_bound}
 use Rattle.branch_tree.specs.Claims.{certificate_of, written_tables}
 use Rattle.cert_text.specs.TextConditions.{HasWrittenText, IsMoney}
-use Rattle.cert_text.specs.declared.cert.Version.TheVariants.{Second}
+use Rattle.cert_text.specs.declared.cert.Version.TheVariants.{Third}
 use Rattle.cert_text.proofs.Parts.{found_has_text}
 use Rattle.demo_gen.specs.Demo.{demo_instance}
 use Rattle.roll.specs.NextWindow.{IsNextWindow}
@@ -42,22 +42,22 @@ bound_text (Some b) size = omega (arith, size)
 countable : (table : Table) → HasFewRows table → length table.ramps < 10 ^ 18
 countable table few = omega (arith, few)
 
-text_of : (exact : Bool) (instance : Instance) (budget gap : ℕ) (found : Found) → IsLawfulInstance instance → IsSearchResult exact instance budget gap found
-    → IsWritable instance found → HasWrittenText (certificate_of instance found)
-text_of exact instance budget gap found lawful result writable =
-    found_has_text Second instance found lawful writable.tree result.truth.certificate (has_schedule_text Second instance found.schedule writable.schedule)
+text_of : (exact over : Bool) (instance : Instance) (budget gap : ℕ) (found : Found) → IsLawfulInstance instance → IsSearchResult exact instance budget gap found
+    → IsWritable over instance found → HasWrittenText (certificate_of instance found)
+text_of exact over instance budget gap found lawful result writable =
+    found_has_text Third instance found lawful writable.tree result.truth.certificate (has_schedule_text over instance found.schedule writable.schedule)
     (bound_text (tree_bound found.tree) writable.bound)
     (All-weaker HasFewRows (λ (table : Table). length table.ramps < 10 ^ 18) countable (written_tables found) writable.tables)
 
 pub answered : (asked : Solve) (file : SlotState) (instance : Instance) (rounded : ℕ) (found : Found) → IsLawfulInstance instance
-    → HasInstance (solve_options asked) file instance rounded → IsSearchResult asked.exact_units instance asked.units asked.gap found → IsWritable instance found
-    → asked.units ≤ MAX_BUDGET → IsAnswer asked file instance rounded found
+    → HasInstance (solve_options asked) file instance rounded → IsSearchResult asked.exact_units instance asked.units asked.gap found
+    → IsWritable asked.pivot instance found → asked.units ≤ MAX_BUDGET → IsAnswer asked file instance rounded found
 answered asked file instance rounded found lawful read result writable small = record {
   read = read;
   search = result;
   schedule = schedule_true instance (certificate_of instance found) lawful result.truth.certificate;
   claim = certificates_claim_truly instance (certificate_of instance found) lawful result.truth.certificate;
-  text = text_of asked.exact_units instance asked.units asked.gap found lawful result writable;
+  text = text_of asked.exact_units asked.pivot instance asked.units asked.gap found lawful result writable;
   accepted = λ version text.
       accepted_for (solve_options asked) file instance rounded (certificate_of instance found) version read result.truth.certificate text
       (found_little instance found (omega (arith, result.nodes, small))

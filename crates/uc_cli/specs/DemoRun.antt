@@ -19,7 +19,7 @@ use Rattle.uc_check.specs.Ending.{Ends}
 use Rattle.uc_check.specs.Writing.{IsTold, FailsToTell}
 use Rattle.uc_check.specs.declared.ending.End.{End}
 
--- an answer for the instance of the seed: what was found with a budget of 200 evaluations and at a gap of a thousandth of the cost; that
+-- an answer for the instance of the seed: what was found with a budget of 200 claims and at a gap of a thousandth of the cost; that
 -- its schedule obeys and costs at most what is printed; and that its bound, or that there is no schedule, is true of every schedule
 pub record IsDemoAnswer (seed : ℕ) (found : Found) : Type 0 where
   pub search : IsSearchResult false (demo_instance seed) 200 1000 found

@@ -19,7 +19,7 @@ use std::thread::Threads;
 use uc_check::{End, Failure, end_of};
 use workers::{Options, search};
 
-/// The budget of a demo, in evaluations.
+/// The budget of a demo, in claims.
 const BUDGET: u32 = 200;
 
 // Searches the instance of the seed.
@@ -38,6 +38,7 @@ fn find<R: Threads + Wait + Sync, G: Gate + Sync>(
         workers: 1,
         gap: DEMO_GAP,
         exact_units: false,
+        pivot: false,
     };
     let found = search(rt, alloc, &instance, &options, gate)?;
     Ok(found)

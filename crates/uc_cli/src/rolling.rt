@@ -67,6 +67,7 @@ fn find<R: Threads + Wait + Sync, F: Files, G: Gate + Sync>(
         workers: asked.workers,
         gap: asked.gap,
         exact_units: false,
+        pivot: false,
     };
     let rolled = roll(
         rt,

@@ -66,6 +66,7 @@ fn find<R: Threads + Wait + Sync, F: Files, G: Gate + Sync>(
         workers: asked.workers,
         gap: asked.gap,
         exact_units: asked.exact_units,
+        pivot: asked.pivot,
     };
     let found = search(rt, alloc, &instance, &options, gate)?;
     Ok(Answer {

@@ -1,5 +1,5 @@
 -- The steps of a roll, from what the calls of a step give.
-use Rattle.std.proofs.Common.{◌≡◌, suc, ◌+◌, ◌<◌, sym, subst, arith, length, Result, Ok, Err, IfOk}
+use Rattle.std.proofs.Common.{◌≡◌, false, suc, ◌+◌, ◌<◌, sym, subst, arith, length, Result, Ok, Err, IfOk}
 use Rattle.uc_model.specs.Limits.{IsLawfulInstance}
 use Rattle.branch_tree.specs.declared.found.Found.{Found}
 use Rattle.roll.specs.Kept.{IsKept}
@@ -10,6 +10,7 @@ use Rattle.roll.specs.declared.places.Place.{Place}
 use Rattle.roll.proofs.SoFar.{continuation, further, place_within}
 use Rattle.uc_model.specs.declared.instance.Instance.{Instance}
 use Rattle.uc_model.specs.declared.schedule.Printed.{Printed}
+use Rattle.found_schedule.proofs.Whole.{accepted_if_found}
 use Rattle.search_answers.specs.Writable.{IsWritable}
 use Rattle.workers.specs.declared.rolling.Kept.{Kept}
 use Rattle.workers.specs.declared.rolling.Plan.{Plan}
@@ -17,15 +18,15 @@ use Rattle.workers.specs.inside.Rolls.{IsFoundAhead, IsKeptSoFar, IsPlan, IsShow
 
 pub found_ahead : {E : Type 0} (plan : Plan) (kept : Kept) (place : Place) (ahead : Instance) (result : Result Found E)
     → IsNextWindow plan.instance.now kept.schedule kept.done place.len ahead → IsLawfulInstance ahead → IfOk result (MayFind plan ahead)
-    → IfOk result (IsWritable ahead) → IfOk result (IsFoundAhead plan kept place)
-found_ahead plan kept place ahead (Ok found) next lawful search writable = record {
+    → plan.options.now.pivot ≡ false → IfOk result (IsWritable plan.options.now.pivot ahead) → IfOk result (IsFoundAhead plan kept place)
+found_ahead plan kept place ahead (Ok found) next lawful search whole writable = record {
   ahead = ahead;
   next = next;
   lawful = lawful;
   search = search;
-  accepted = writable.schedule;
+  accepted = accepted_if_found plan.options.now.pivot ahead found.schedule whole writable.schedule;
 }
-found_ahead plan kept place ahead (Err e) next lawful search writable = tt
+found_ahead plan kept place ahead (Err e) next lawful search whole writable = tt
 
 -- ---- one more window
 -- what is kept has as many periods as its row of unserved demand

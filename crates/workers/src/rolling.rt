@@ -1,6 +1,6 @@
 //! Rolling windows: one search after another, each from the state that the periods kept before it leave.
 
-ghost use Rattle.std.specs.Prelude.{◌≡◌, ◌≤◌, ◌<◌, ℕ, IfOk, IfSome, None};
+ghost use Rattle.std.specs.Prelude.{◌≡◌, ◌≤◌, ◌<◌, ℕ, false, IfOk, IfSome, None};
 ghost use Rattle.uc_model.specs.Limits.{IsLawfulInstance};
 ghost use Rattle.uc_model.specs.declared.limits.TheConstants.{MAX_PERIODS};
 ghost use Rattle.roll.specs.Rolling.{IsNextPlace};
@@ -46,7 +46,7 @@ pub(crate) enum Step {
 /// Rolls the instance. Each window is searched by the options, from the state that the kept schedule leaves; it has `window` periods, or
 /// those that are left. The first `step` of its schedule are kept, but no more than it has, and all where it reaches the last period. In
 /// the schedule of all periods each start has the cheapest category that the whole history allows. The roll stops at the first window
-/// whose search finds no schedule. The only error is `NoMemory`.
+/// whose search finds no schedule. The options have no `pivot`, as what is kept is in whole watts. The only error is `NoMemory`.
 pub fn roll<R: Threads + Wait + Sync, G: Gate + Sync>(
     rt: &R,
     alloc: Global,
@@ -58,6 +58,7 @@ pub fn roll<R: Threads + Wait + Sync, G: Gate + Sync>(
 ) -> Result<Rolled, NoMemory>
     requires lawful { IsLawfulInstance instance.now }
     requires options { AreOptions options.now }
+    requires pivot { options.now.pivot ≡ false }
     requires window { (1 ≤ window) × (window ≤ MAX_PERIODS) }
     requires step { (1 ≤ step) × (step ≤ MAX_PERIODS) }
     ensures { IfOk result (IsRolled options.now.exact_units instance.now options.now.budget options.now.gap window step) }

@@ -36,7 +36,7 @@ pub fn search<R: Threads + Wait + Sync, G: Gate + Sync>(
     requires lawful { IsLawfulInstance instance.now }
     requires options { AreOptions options.now }
     ensures result { IfOk result (IsSearchResult options.now.exact_units instance.now options.now.budget options.now.gap) }
-    ensures writable { IfOk result (IsWritable instance.now) }
+    ensures writable { IfOk result (IsWritable options.now.pivot instance.now) }
 {
     let values = Values {
         instance,
@@ -55,7 +55,7 @@ fn answered<R: Threads + Wait + Sync, G: Gate + Sync>(
     gate: &G,
 ) -> Result<Found, NoMemory>
     requires options { AreOptions options.now }
-    ensures { IfOk result (IsAnswerOf options.now.exact_units worker.entry options.now.budget options.now.gap) }
+    ensures { IfOk result (IsAnswerOf options.now.exact_units options.now.pivot worker.entry options.now.budget options.now.gap) }
 {
     let mut worker = worker;
     let empty = worker.first_empty(alloc);
@@ -80,7 +80,7 @@ fn patterned<R: Threads + Wait + Sync, G: Gate + Sync>(
 ) -> Result<Found, NoMemory>
     requires patterns { HasEachPattern worker }
     requires options { AreOptions options.now }
-    ensures { IfOk result (IsAnswerOf options.now.exact_units worker.entry options.now.budget options.now.gap) }
+    ensures { IfOk result (IsAnswerOf options.now.exact_units options.now.pivot worker.entry options.now.budget options.now.gap) }
 {
     let mut worker = worker;
     let unscheduled = worker.first_unscheduled(alloc, options.exact_units);
@@ -106,7 +106,7 @@ fn searched<R: Threads + Wait + Sync, G: Gate + Sync>(
     requires patterns { HasEachPattern worker }
     requires unblocked { HasNoBlockedUnit options.now.exact_units worker }
     requires options { AreOptions options.now }
-    ensures { IfOk result (IsAnswerOf options.now.exact_units worker.entry options.now.budget options.now.gap) }
+    ensures { IfOk result (IsAnswerOf options.now.exact_units options.now.pivot worker.entry options.now.budget options.now.gap) }
 {
     let mut worker = worker;
     let opened = started(alloc, &mut worker, options.gap);
@@ -134,7 +134,7 @@ fn claimed<R: Threads + Wait + Sync, G: Gate + Sync>(
     requires rays { HasNoRay options.now.exact_units worker }
     requires options { AreOptions options.now }
     requires opened { IsOpened worker opened }
-    ensures { IfOk result (IsAnswerOf options.now.exact_units worker.entry options.now.budget options.now.gap) }
+    ensures { IfOk result (IsAnswerOf options.now.exact_units options.now.pivot worker.entry options.now.budget options.now.gap) }
 {
     let instance = worker.instance();
     let Opened { start, most_on } = opened;

@@ -1,14 +1,41 @@
 -- At which table the closing pass evaluates a node.
-use Rattle.std.specs.Prelude.{◌≡◌, ◌≢◌, ℕ, ◌⊎◌, ◌+◌, pos}
-use Rattle.uc_model.specs.declared.instance.Instance.{Instance}
+use Rattle.std.specs.Prelude.{◌≡◌, ◌≢◌, ℕ, ◌+◌, ◌≤◌, Bool, [], pos}
+pub use Rattle.uc_model.specs.declared.instance.Instance.{Instance}
+use Rattle.uc_model.specs.Limits.{IsLawfulInstance}
+use Rattle.dual_model.specs.Fixings.{IsNodeOf}
 use Rattle.dual_model.specs.Prices.{IsLawfulTable}
-use Rattle.dual_model.specs.declared.table.Table.{Table}
+pub use Rattle.dual_model.specs.declared.table.Table.{Table}
+use Rattle.branch_tree.specs.TreeView.{HasFreeCell}
+use Rattle.search_core.specs.Machine.{entries_of}
+use Rattle.search_core.specs.Steps.{IsFresh, IsStoredTable}
+pub use Rattle.book.specs.BookView.{BookView}
+use Rattle.book.specs.BookView.{state_of}
+use Rattle.book.specs.Calls.{IsStoredAt}
+use Rattle.found_schedule.specs.Found.{IsFoundIfAny}
+use Rattle.search_desk.specs.Desks.{IsLaterWithin}
+pub use Rattle.closing_pass.specs.declared.settling.Holding.{Holding}
+pub use Rattle.closing_pass.specs.declared.settling.Settling.{Settling}
+pub use Rattle.closing_pass.specs.declared.settling.Trial.{Trial}
 
 -- the scale is a million and so much more
 abbrev pub IsNewScale : ℕ → Table → Type 0
 IsNewScale more table = table.k ≡ pos (1000000 + more)
 
--- the table that the node stores, where the log has no entry of it and it isn't the root; else a lawful table of this scale
-abbrev pub IsClosingTable : Instance → Table → ℕ → ℕ → ℕ → Table → Type 0
-IsClosingTable instance stored node had scale table =
-    ((node ≢ 0) × (had ≡ 0) × (table ≡ stored)) ⊎ (IsLawfulTable instance table × IsNewScale scale table × ((node ≡ 0) ⊎ (had ≢ 0)))
+-- the node of the unit, and what it stores
+pub record IsHolding (instance : Instance) (book : BookView) (unit : ℕ) (holding : Holding) : Type 0 where
+  pub lawful : IsLawfulInstance instance
+  pub path : IsNodeOf instance holding.path
+  pub table : IsLawfulTable instance holding.stored
+  pub stored : IsStoredAt book unit holding.path holding.stored holding.bound
+
+-- a lawful table for the next entry of the node: no entry of it is at the table; where it has none and isn't the root, while a cell is undecided
+-- there, it is the one that it stores; and where it has one, the scale is within the one that is used then
+pub record IsTrialAt (exact exact_dispatch : Bool) (instance : Instance) (book : BookView) (settling : Settling) (trial : Trial) : Type 0 where
+  pub lawful : IsLawfulTable instance trial.table
+  pub fresh : IsFresh (state_of book) (entries_of book.log settling.held.node) trial.table exact
+  pub first : entries_of book.log settling.held.node ≡ [] → settling.held.node ≢ 0 → HasFreeCell book.tree settling.held.node
+      → IsStoredTable (state_of book) settling.held.node trial.table
+  pub later : IsLaterWithin trial.used settling.held.had trial.table
+  pub from : settling.scale ≤ trial.used
+  pub used : trial.used ≤ settling.scale + 2
+  pub found : IsFoundIfAny exact_dispatch instance trial.found

@@ -1,5 +1,5 @@
 -- What the steps of a roll are for each other.
-use Rattle.std.specs.Prelude.{◌≡◌, ℕ, ◌<◌, ◌≤◌, ℤ, Some}
+use Rattle.std.specs.Prelude.{◌≡◌, ℕ, ◌<◌, ◌≤◌, ℤ, false, Some}
 use Rattle.uc_model.specs.Limits.{IsLawfulInstance}
 use Rattle.schedule_check.specs.Accepted.{IsAccepted, IsAcceptedIfFound}
 use Rattle.branch_tree.specs.declared.found.Found.{Found}
@@ -20,10 +20,12 @@ use Rattle.workers.specs.declared.rolling.Step.TheVariants.{Further, Ended}
 abbrev pub MayFind : Plan → Instance → Found → Type 0
 MayFind plan ahead found = IsSearchResult plan.options.now.exact_units ahead plan.options.now.budget plan.options.now.gap found
 
--- a lawful instance, lawful options, and windows of at least one period, of which at least one is kept
+-- a lawful instance, lawful options without exact dispatch, whose powers may be no whole watts, and windows of at least one period, of which
+-- at least one is kept
 pub record IsPlan (plan : Plan) : Type 0 where
   pub lawful : IsLawfulInstance plan.instance.now
   pub options : AreOptions plan.options.now
+  pub pivot : plan.options.now.pivot ≡ false
   pub window : 1 ≤ plan.window
   pub step : 1 ≤ plan.step
 

@@ -13,12 +13,13 @@ returns-clause-shape c =
     let fifth = c.with_arg-command-5.ensures.app _ _ c.gap_option.ensures.rule fourth in
     let sixth = c.with_arg-command-6.ensures.app _ _ c.switch.ensures.rule fifth in
     let seventh = c.with_arg-command-7.ensures.app _ _ c.switch-2.ensures.rule sixth in
-    let eighth = c.with_arg-command-8.ensures.app _ _ c.price_option.ensures.rule seventh in
+    let eighth = c.with_arg-command-8.ensures.app _ _ c.switch-3.ensures.rule seventh in
+    let ninth = c.with_arg-command-9.ensures.app _ _ c.price_option.ensures.rule eighth in
     IfOk-weaker c.with_arg.result _ _ (λ command is. ap (λ (a : App). a.top) is)
-    (c.with_arg.ensures.app _ _ c.price_option-2.ensures.rule eighth)
+    (c.with_arg.ensures.app _ _ c.price_option-2.ensures.rule ninth)
 
 pub returns-clause-local : goal.returns-clause-local
 returns-clause-local c =
-    c.with_arg.ensures.local (c.with_arg-command-8.ensures.local (c.with_arg-command-7.ensures.local (c.with_arg-command-6.ensures.local
-    (c.with_arg-command-5.ensures.local (c.with_arg-command-4.ensures.local (c.with_arg-command-3.ensures.local
-    (c.with_arg-command-2.ensures.local (c.with_arg-command.ensures.local c.new.ensures.local))))))))
+    c.with_arg.ensures.local (c.with_arg-command-9.ensures.local (c.with_arg-command-8.ensures.local (c.with_arg-command-7.ensures.local
+    (c.with_arg-command-6.ensures.local (c.with_arg-command-5.ensures.local (c.with_arg-command-4.ensures.local (c.with_arg-command-3.ensures.local
+    (c.with_arg-command-2.ensures.local (c.with_arg-command.ensures.local c.new.ensures.local)))))))))

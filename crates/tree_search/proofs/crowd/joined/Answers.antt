@@ -3,7 +3,7 @@ use Rattle.std.proofs.Common.{ap, arith, length, subst, sym, List}
 use Rattle.incumbent.specs.Costs.{AtMost}
 use Rattle.search_desk.specs.Best.{IsNoWorse, cost_of}
 use Rattle.search_desk.specs.Passes.{OwnBestView}
-use Rattle.tree_search.proofs.Joined.{at_most_itself, at_most_through, least_first, least_second}
+use Rattle.search_desk.proofs.Costs.{at_most_itself, at_most_through, least_first, least_second}
 use Rattle.search_desk.proofs.Kept.{kept_lower}
 use Rattle.tree_search.proofs.crowd.joined.Goals as goal
 

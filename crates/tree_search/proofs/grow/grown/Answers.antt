@@ -2,13 +2,14 @@
 use Rattle.std.proofs.Common.{◌≡◌, ◌∙◌, true, false, ap, subst, sym, Some}
 use Rattle.uc_model.specs.declared.instance.Instance.{Instance}
 use Rattle.branch_tree.specs.Closing.{is_schedule_within}
-use Rattle.schedule_check.specs.Accepted.{IsAcceptedIfFound}
+use Rattle.found_schedule.specs.Found.{IsFoundIfAny}
+use Rattle.found_schedule.proofs.Whole.{found_if_accepted}
 use Rattle.search_core.specs.Moves.{bound_of}
 use Rattle.book.specs.Opening.{Opening}
 use Rattle.search_desk.specs.Best.{IsNoWorse, cost_of}
 use Rattle.search_desk.specs.Grown.{IsGrown}
 use Rattle.tree_search.proofs.Beginning.{closed_ended}
-use Rattle.tree_search.proofs.Joined.{at_most_itself, at_most_through}
+use Rattle.search_desk.proofs.Costs.{at_most_itself, at_most_through}
 use Rattle.tree_search.proofs.grow.grown.Goals as goal
 
 pub left-requires : goal.left-requires
@@ -24,8 +25,13 @@ pub returns-then-is_closed-clause-grown : goal.returns-then-is_closed-clause-gro
 returns-then-is_closed-clause-grown g c =
     subst (λ exact. IsGrown exact c.args.begun.worker c.args.begun.start.opening c.args.options.now.budget c.args.options.now.gap c.left.result)
     c.requires.kind
-    (c.left.ensures.grown c.args.begun.worker c.args.begun.start.opening c.args.options.now.budget c.args.options.now.gap c.requires.opening
-    (subst (IsAcceptedIfFound c.args.begun.worker) (sym c.into_schedule.ensures) c.requires.accepted))
+    (c.left.ensures.grown c.args.begun.worker c.args.begun.start.opening c.args.options.now.budget c.args.options.now.gap c.requires.opening)
+
+pub returns-then-is_closed-clause-found : goal.returns-then-is_closed-clause-found
+returns-then-is_closed-clause-found g c =
+    let over = c.args.options.now.pivot in
+    subst (IsFoundIfAny over c.args.begun.worker) (sym (c.left.ensures.best ∙ c.into_schedule.ensures))
+    (found_if_accepted over c.args.begun.worker c.args.begun.start.best c.requires.accepted)
 
 pub returns-then-is_closed-clause-no_worse : goal.returns-then-is_closed-clause-no_worse
 returns-then-is_closed-clause-no_worse g c =
@@ -36,9 +42,14 @@ pub returns-clause-grown : goal.returns-clause-grown
 returns-clause-grown g c =
     subst (λ exact. IsGrown exact c.args.begun.worker c.args.begun.start.opening c.args.options.now.budget c.args.options.now.gap c.left-2.result)
     c.requires.kind
-    (c.left-2.ensures.grown c.args.begun.worker c.args.begun.start.opening c.args.options.now.budget c.args.options.now.gap c.requires.opening
-    (subst (λ (i : Instance). IsAcceptedIfFound i c.in_ok-book.schedule) (ap (λ (o : Opening). o.instance) c.requires.opening)
-    c.in_ok-book.ensures.accepted))
+    (c.left-2.ensures.grown c.args.begun.worker c.args.begun.start.opening c.args.options.now.budget c.args.options.now.gap c.requires.opening)
+
+pub returns-clause-found : goal.returns-clause-found
+returns-clause-found g c =
+    subst (IsFoundIfAny c.args.options.now.pivot c.args.begun.worker) (sym c.left-2.ensures.best)
+    (subst (λ over. IsFoundIfAny over c.args.begun.worker c.in_ok-book.schedule) c.requires.dispatch
+    (subst (λ (i : Instance). IsFoundIfAny g.C.Run.exact_dispatch i c.in_ok-book.schedule) (ap (λ (o : Opening). o.instance) c.requires.opening)
+    c.in_ok-book.ensures.found))
 
 pub returns-clause-no_worse : goal.returns-clause-no_worse
 returns-clause-no_worse g c =

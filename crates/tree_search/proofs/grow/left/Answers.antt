@@ -5,6 +5,6 @@ use Rattle.tree_search.proofs.Left.{ended_grown}
 use Rattle.tree_search.proofs.grow.left.Goals as goal
 
 pub returns-clause-grown : goal.returns-clause-grown
-returns-clause-grown g c = λ instance opening budget gap same accepted.
-    ended_grown c.tree_runs_hold.ensures g.C.Run.exact g.C.Case.opening c.args.book c.args.best instance opening budget gap _ same c.keeps_run.ensures (subst IsWhole c.finish-tree.ensures.tree c.keeps_cover.ensures) c.requires accepted
+returns-clause-grown g c = λ instance opening budget gap same.
+    ended_grown c.tree_runs_hold.ensures g.C.Run.exact g.C.Case.opening c.args.book c.args.best instance opening budget gap _ same c.keeps_run.ensures (subst IsWhole c.finish-tree.ensures.tree c.keeps_cover.ensures) c.requires
     c.finish-tree.ensures.tree c.finish-tree.ensures.tables c.finish-tree.ensures.log refl

@@ -7,4 +7,4 @@ ghosts-grow-C-Case g a =
     record { opening = opening_by a.begun.worker a.begun.start.opening a.options.now.budget a.options.now.gap }
 
 abbrev pub ghosts-grow-C-Run : goal.ghosts-grow-C-Run
-ghosts-grow-C-Run g a = record { incumbent = a.begun.best.object; exact = a.options.now.exact_units }
+ghosts-grow-C-Run g a = record { incumbent = a.begun.best.object; exact = a.options.now.exact_units; exact_dispatch = a.options.now.pivot }

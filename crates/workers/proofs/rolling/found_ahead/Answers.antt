@@ -17,4 +17,4 @@ returns g c =
       is_carried = subst (λ n. IsCarried instance kept.schedule n c.in_ok-carried.carried) start c.in_ok-carried.ensures.carried;
       is_window = subst (λ n. IsWindow instance c.in_ok-carried.carried n place.len c.in_ok-ahead.ahead) start c.in_ok-ahead.ensures.window;
     })
-    c.in_ok-ahead.ensures.lawful c.search.ensures.result c.search.ensures.writable
+    c.in_ok-ahead.ensures.lawful c.search.ensures.result c.requires.plan.pivot c.search.ensures.writable

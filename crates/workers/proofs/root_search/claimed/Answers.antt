@@ -39,14 +39,15 @@ returns g c =
     let stands = opened.standing in
     let left = c.in_ok-grown.grown in
     let grown = c.in_ok-grown.ensures.grown in
-    let best : IsBest instance (ending_of stands) left.best = record {
-      accepted = grown.accepted;
-      no_dearer = no_dearer_through c.args.opened.start.best left.best (ending_of stands) c.in_ok-grown.ensures.no_worse opened.is_best.no_dearer;
+    let pivot = c.args.options.now.pivot in
+    let best : IsBest pivot instance (ending_of stands) left.best = record {
+      found = c.in_ok-grown.ensures.found;
+      no_dearer = no_dearer_through c.args.opened.start.best left.best (ending_of stands) c.in_ok-grown.ensures.no_worse opened.no_dearer;
     } in
-    subst (λ (i : Instance). IfOk c.bounded.result (IsAnswerOf exact i budget gap)) own
-    (c.bounded.ensures exact budget gap stands opening (subst (HasNoRay exact) (sym own) c.requires.rays)
+    subst (λ (i : Instance). IfOk c.bounded.result (IsAnswerOf exact pivot i budget gap)) own
+    (c.bounded.ensures exact pivot budget gap stands opening (subst (HasNoRay exact) (sym own) c.requires.rays)
     (subst (HasNoBlockedUnit exact) (sym own) c.requires.unblocked) (subst (λ (i : Instance). IsDropped i stands) (sym own) opened.dropped) opened.stuck
-    (subst (λ (i : Instance). IsBest i (ending_of stands) left.best) (sym own) best)
+    (subst (λ (i : Instance). IsBest pivot i (ending_of stands) left.best) (sym own) best)
     (subst (λ (i : Instance). IsRootTable i (ending_of stands) opening.table opening.value) (sym own) opened.table)
     (subst (λ (i : Instance). IsPricedOf i opening) (sym own) opened.priced)
     (subst (λ (i : Instance). IsGrown exact i opening budget gap left) (sym own) grown)

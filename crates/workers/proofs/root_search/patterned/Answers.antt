@@ -16,8 +16,9 @@ searched-requires-clause-patterns g c = λ lifetimes within.
 pub returns-in-Some : goal.returns-in-Some
 returns-in-Some g c =
     let exact = c.args.options.now.exact_units in
+    let pivot = c.args.options.now.pivot in
     let budget = c.args.options.now.budget in
     let gap = c.args.options.now.gap in
     let own = c.instance-instance.ensures.is ∙ c.in_ok-worker.ensures.value ∙ c.first_unscheduled-unscheduled.ensures.kept in
-    subst (λ (instance : Instance). IfOk c.without_unit.result (IsAnswerOf exact instance budget gap)) own
-    (c.without_unit.ensures exact budget gap (λ is. is))
+    subst (λ (instance : Instance). IfOk c.without_unit.result (IsAnswerOf exact pivot instance budget gap)) own
+    (c.without_unit.ensures exact pivot budget gap (λ is. is))

@@ -13,8 +13,9 @@ returns-clause-result g c =
     let budget = c.args.options.now.budget in
     let gap = c.args.options.now.gap in
     let exact = c.args.options.now.exact_units in
-    IfOk-weaker c.answered.result (IsAnswerOf exact instance budget gap) (IsSearchResult exact instance budget gap) (λ found a. a.result)
-    (subst (λ (i : Instance). IfOk c.answered.result (IsAnswerOf exact i budget gap)) c.in_ok-worker.ensures c.answered.ensures)
+    let pivot = c.args.options.now.pivot in
+    IfOk-weaker c.answered.result (IsAnswerOf exact pivot instance budget gap) (IsSearchResult exact instance budget gap) (λ found a. a.result)
+    (subst (λ (i : Instance). IfOk c.answered.result (IsAnswerOf exact pivot i budget gap)) c.in_ok-worker.ensures c.answered.ensures)
 
 pub returns-clause-writable : goal.returns-clause-writable
 returns-clause-writable g c =
@@ -22,5 +23,6 @@ returns-clause-writable g c =
     let budget = c.args.options.now.budget in
     let gap = c.args.options.now.gap in
     let exact = c.args.options.now.exact_units in
-    IfOk-weaker c.answered.result (IsAnswerOf exact instance budget gap) (IsWritable instance) (λ found a. a.writable)
-    (subst (λ (i : Instance). IfOk c.answered.result (IsAnswerOf exact i budget gap)) c.in_ok-worker.ensures c.answered.ensures)
+    let pivot = c.args.options.now.pivot in
+    IfOk-weaker c.answered.result (IsAnswerOf exact pivot instance budget gap) (IsWritable pivot instance) (λ found a. a.writable)
+    (subst (λ (i : Instance). IfOk c.answered.result (IsAnswerOf exact pivot i budget gap)) c.in_ok-worker.ensures c.answered.ensures)

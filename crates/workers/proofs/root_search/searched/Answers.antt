@@ -32,5 +32,5 @@ returns-in-Some g c =
     let own = c.in_ok-worker.ensures.value ∙ c.started-opened.ensures.kept in
     let opened = subst (λ made. IfOk made (IsOpened c.args.worker)) c.in_ok-worker.ensures.made c.started-opened.ensures.opened in
     let dropped = subst (λ (instance : Instance). IsDropped instance opened.standing) (sym own) opened.dropped in
-    subst (λ (instance : Instance). IfOk c.in-Some.answer (IsAnswerOf c.args.options.now.exact_units instance budget gap)) own
-    (c.in-Some.ensures.answer budget gap opened.standing dropped)
+    subst (λ (instance : Instance). IfOk c.in-Some.answer (IsAnswerOf c.args.options.now.exact_units c.args.options.now.pivot instance budget gap)) own
+    (c.in-Some.ensures.answer c.args.options.now.pivot budget gap opened.standing dropped)

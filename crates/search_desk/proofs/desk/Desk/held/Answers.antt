@@ -1,6 +1,6 @@
 -- The path is a node of the tree, and the table one that is stored.
 use Rattle.std.proofs.Common.{arith}
-use Rattle.search_desk.proofs.Claimed.{node_of, stored_lawful, stored_scaled, unit_within}
+use Rattle.search_desk.proofs.Claimed.{node_of, stored_lawful, unit_within}
 use Rattle.search_desk.proofs.desk.Desk.held.Goals as goal
 
 pub returns-in-Ok : goal.returns-in-Ok
@@ -18,6 +18,5 @@ returns-in-Ok g c =
         table = stored_lawful opening book unit c.in-Ok.path c.in-Ok.table c.in-Ok.bound c.keeps_run.ensures is;
         unit = omega (arith, within, kept.begun.budget);
       };
-      scaled = stored_scaled g.C.Run.exact opening book c.self.inside.pass.seen opening.budget unit c.in-Ok.path c.in-Ok.table c.in-Ok.bound kept is;
       unit = within;
     }

@@ -15,7 +15,7 @@ invariant_of-result g c =
         mine = c.requires.mine;
         parts = c.requires.parts;
         kept = subst (λ (b : BookView). IsKeptBy g.C.Run.exact opening b pass.seen opening.budget) (sym c.requires.book)
-            (kept_opened g.C.Run.exact opening pass.seen c.requires.begun opening.budget c.requires.scaled);
+            (kept_opened g.C.Run.exact opening pass.seen c.requires.begun opening.budget);
         complete = λ whole. subst (λ (b : BookView). All IsKeptClaim b.claims) (sym c.requires.book) (All-nil IsKeptClaim);
       },
       c.requires.gap,

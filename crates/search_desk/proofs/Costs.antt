@@ -1,4 +1,4 @@
--- The passes of the incumbent, once they are joined.
+-- Costs that may be missing, and the lesser of two.
 use Rattle.std.proofs.Common.{ℤ, Option, Some, None, arith}
 use Rattle.std.proofs.lemmas.Int.{ints, int_min_is}
 use Rattle.uc_model.proofs.Ring.{le_refl, le_trans}
@@ -24,3 +24,17 @@ pub least_second : (a b : Option ℤ) → AtMost (least a b) b
 least_second None b = at_most_itself b
 least_second (Some a) None = tt
 least_second (Some a) (Some b) = omega (arith, ints, int_min_is a b)
+
+-- what is at most each of two costs is at most the lesser one
+pub least_of : (c a b : Option ℤ) → AtMost c a → AtMost c b → AtMost c (least a b)
+least_of c None b first second = second
+least_of c (Some a) None first second = first
+least_of None (Some a) (Some b) first second = absurd first
+least_of (Some c) (Some a) (Some b) first second = omega (arith, ints, int_min_is a b, first, second)
+
+-- of two pairs of costs
+pub least_both : (a b c d : Option ℤ) → AtMost a c → AtMost b d → AtMost (least a b) (least c d)
+least_both a b c d first second =
+    least_of (least a b) c d
+    (at_most_through (least a b) a c (least_first a b) first)
+    (at_most_through (least a b) b d (least_second a b) second)
