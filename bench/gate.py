@@ -4,7 +4,11 @@
     python3 bench/gate.py            # at the top of the repository, with `rt` on the path; what rt says goes to gate.log
     python3 bench/gate.py --anew     # from nothing, where earlier runs on this machine have kept what they passed
     python3 bench/gate.py --write    # the table goes into docs/PERFORMANCE.md where the gate passed
+    python3 bench/gate.py NAME ..    # these crates alone, with those below them
     taskset -c 0,1 python3 bench/gate.py --anew    # by the clock of two processors
+
+What a run didn't prove or try, since an earlier one has kept it, keeps the minutes that the page has. So one run from nothing, or some
+runs of crates by name on a new machine and a last one of all, make the whole table.
 
 Five times a second it looks at the processes below `rt ci` and keeps the processor time of each. The words of a check name its
 crate and say whether it is one of tests, and an edit is checked in a folder of its own. What is left of the whole time, as linking
@@ -112,26 +116,43 @@ def row(name, numbers):
     return f"| {name} | " + " | ".join("" if it is None else f"{it / 60:.1f}" for it in numbers) + " |\n"
 
 
-def as_text(names, table, whole, clock, memory):
+def told(page):
+    """The seconds by crate and phase that the page has, and those of its row `rest`."""
+    block = page.read_text().partition(BEGIN)[2].partition(END)[0]
+    rows = [[cell.strip() for cell in line.strip("| ").split("|")] for line in block.splitlines() if line.startswith("| ")]
+    table = {
+        (cells[0], phase): 60 * float(cell)
+        for cells in rows
+        if cells[0] not in ("Crate", "rest", "sum")
+        for phase, cell in zip(PHASES, cells[1:])
+        if cell
+    }
+    return table, sum(60 * float(cells[-1]) for cells in rows if cells[0] == "rest")
+
+
+def as_text(names, table, rest):
     text = "| Crate | Proof | Tests | Edits | Sum |\n|---|---|---|---|---|\n"
+    table = {of: it for of, it in table.items() if of[0] in names}
     for name in names:
         spent = [table.get((name, phase)) for phase in PHASES]
         text += row(name, [*spent, sum(it or 0 for it in spent)])
-    text += row("rest", [None, None, None, max(whole - sum(table.values()), 0)])
-    text += row("sum", [*(sum(it for of, it in table.items() if of[1] == phase) for phase in PHASES), whole])
-    processors = len(os.sched_getaffinity(0))
-    return text + f"\n{clock / 60:.0f} minutes on {processors} processors, and {memory / 1e9:.1f} GB at most.\n"
+    text += row("rest", [None, None, None, rest])
+    phases = (sum(it for of, it in table.items() if of[1] == phase) for phase in PHASES)
+    return text + row("sum", [*phases, sum(table.values()) + rest])
 
 
 def main():
-    top = pathlib.Path.cwd()
-    anew = ["--anew"] if "--anew" in sys.argv[1:] else []
-    status, table, whole, clock, memory = measured(["rt", "ci", *anew], top / "gate.log")
-    text = as_text(crates(top), table, whole, clock, memory)
+    top, words = pathlib.Path.cwd(), sys.argv[1:]
+    page = top / "docs" / "PERFORMANCE.md"
+    given = [it for it in words if it == "--anew" or not it.startswith("--")]
+    status, new, whole, clock, memory = measured(["rt", "ci", *given], top / "gate.log")
+    table, rest = told(page)
+    kept = {of: it for of, it in table.items() if of[1] != "edits" or (top / "crates" / of[0] / "must-fail").is_dir()}
+    text = as_text(crates(top), kept | new, max(rest, whole - sum(new.values())))
     print(text, end="")
+    print(f"this run: {whole / 60:.0f} processor minutes, {clock / 60:.0f} by the clock of {len(os.sched_getaffinity(0))}; {memory / 1e9:.1f} GB")
     print(f"rt ci ended with status {status}: {(top / 'gate.log').read_text().splitlines()[-1]}")
-    if "--write" in sys.argv[1:] and status == 0:
-        page = top / "docs" / "PERFORMANCE.md"
+    if "--write" in words and status == 0:
         block = re.compile(f"{re.escape(BEGIN)}.*{re.escape(END)}", re.S)
         page.write_text(block.sub(lambda _: BEGIN + text + END, page.read_text()))
     return status

@@ -68,6 +68,7 @@ WRONG_WORDS = (
     ("solve a -cert b", 'solve has no option "-cert"'),
     ("check a b --units=5", 'check has no option "--units"'),
     ("roll a --window=3 --step=3 --exact-units", 'roll has no option "--exact-units"'),
+    ("roll a --window=3 --step=3 --pivot", 'roll has no option "--pivot"'),
     ("roll a --window 3", "roll wants --step"),
     ("solve a --cert", "--cert has no value"),
     ("solve a --cert --units 5", "--cert has no value"),
@@ -85,7 +86,7 @@ RIGHT_WORDS = (
     "check -- a -b",
     "check --shed=5 a --spill-reserve +7 -",
     "demo 007",
-    "solve --cert c --units 00000000000001000000 --gap=-0 --exact --exact-units --workers=64 -- --units",
+    "solve --cert c --units 00000000000001000000 --gap=-0 --exact --exact-units --pivot --workers=64 -- --units",
 )
 
 

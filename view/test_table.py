@@ -51,6 +51,13 @@ RUNS = (
     ("other", INFEASIBLE.replace("exit 3", "exit 0"), "0,,,,", "status 0: the report says infeasible"),
     ("broken", CLOSED.replace("2.999999", "3"), "0,,,,", 'status 0: the report: line 4: "3" is no amount of money'),
     ("short", f"cat {SHORT}\nexit 1\n", "1,26746.666668,26583.333330,6107,1", ""),
+    ("parts", CLOSED.replace("exit", "echo denominator 2\nexit"), "0,3.000000,2.999999,1,0", ""),
+    (
+        "wide",
+        CLOSED.replace("exit", "echo denominator 100\nexit"),
+        "0,,,,",
+        'status 0: the report: line 6: "denominator 100" is no denominator from 2 to 99',
+    ),
 )
 # a table, and what is said of it
 BROKEN_TABLES = (
@@ -169,10 +176,10 @@ class Rows(TableTest):
     def test_options_go_to_the_program(self) -> None:
         case = self.put("a.json", CLOSED)
         prices = "--shed", 1000, "--spill-reserve", 100
-        switches = "--exact", "--exact-units"
+        switches = "--exact", "--exact-units", "--pivot"
         self.assertEqual(self.run_table(case, "--units", 7, "--workers", 2, "--gap", 0, *prices, *switches), (0, ""))
         (call,) = self.calls()
-        options = "--units=7 --workers=2 --gap=0 --shed=1000 --spill-reserve=100 --exact --exact-units"
+        options = "--units=7 --workers=2 --gap=0 --shed=1000 --spill-reserve=100 --exact --exact-units --pivot"
         self.assertRegex(call, rf"^solve --cert=[^ ]+ {options} -- {re.escape(str(case))}$")
         self.assertTrue(self.lines()[1].endswith(f",{options}"))
 

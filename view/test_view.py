@@ -86,7 +86,9 @@ end
 
 # an edit of coast.report, and what the refusal says after the file's name
 BROKEN_REPORTS = (
-    ("evaluations 1\n", "evaluations 1\ndenominator 2\n", "line 6: powers over a denominator aren't drawn"),
+    ("evaluations 1\n", "evaluations 1\ndenominator 4\n", "line 7: period 1: output 10.000000 below the unit's minimum, 20.000000"),
+    ("evaluations 1\n", "evaluations 1\ndenominator 1\n", 'line 6: "denominator 1" is no denominator from 2 to 99'),
+    ("evaluations 1\n", "evaluations 1\ndenominator 02\n", 'line 6: "denominator 02" is no denominator from 2 to 99'),
     ("thermal 2", "thermal 3", 'line 8: "renewable "wind'),
     ("thermal 2 renewable 1", "thermal 1 renewable 2", 'line 7: "thermal "peak'),
     ("rounded 1", "rounded 0", "line 1: 0 rounded numbers, where the instance has 1"),
@@ -152,7 +154,7 @@ BROKEN_CERTIFICATES = (
     ("size 4 2 1 1", "size 4 3 1 1", 'line 7: "w 20000000 10500000 30000000 0" where t and 4 cells are due'),
     ("bound 4793.333330", "bound 4793.333331", "line 3: the claim isn't that of the report"),
     ("schedule 5046.666668", "schedule 5046.666669", "line 4: the schedule isn't that of the report"),
-    ("schedule 5046.666668", "schedule 5046.666668 over 2", "line 4: powers over a denominator aren't drawn"),
+    ("schedule 5046.666668", "schedule 5046.666668 over 2", 'line 4: "schedule 5046.666668 over 2" where the schedule is due'),
     ("50000000:5000000:0", "50000000:5000000:1", "line 5: the cell of period 2 isn't that of the report"),
     ("50000000:5000000:0", "50000000:5000000", 'line 5: "50000000:5000000" is no cell'),
     ("30000000 0\n", "30000000 1\n", "line 7: the output of period 4 isn't that of the report"),

@@ -89,6 +89,12 @@ class Answers(WithinTest):
         )
         self.assert_left("certificate of budget 16\n")
 
+    def test_a_schedule_in_parts_of_a_watt_is_an_answer(self) -> None:
+        self.play((CLOSED + "denominator 2\n", "exit 0"))
+        status, out, lines = self.run_within("--pivot")
+        self.assertEqual((status, out), (0, CLOSED + "denominator 2\n"))
+        self.assert_lines(lines, f"budget 1, cost 103.000000, bound 103.000000, gap 0 ppm{LAST_LINE}")
+
     def test_it_ends_when_there_is_no_schedule(self) -> None:
         self.play((NO_SCHEDULE.format(7), "exit 2"), (INFEASIBLE, "exit 3"))
         status, out, lines = self.run_within()

@@ -36,7 +36,7 @@ def line_fault(number: int, kind: str, certificate: File) -> List[str]:
     there = shown(lines[number - 1].decode("utf-8", "replace")) if number <= len(lines) and lines[number - 1] else "nothing"
     told = [f"{path} line {number:,}: {what}. There stands {there}."]
     try:
-        read_certificate(path, data)
+        read_certificate(path, data, takes_parts=True)
         told.append("The file has no such fault: it isn't the one of that run.")
     except Refusal as refusal:
         if f"line {number}: " in str(refusal):

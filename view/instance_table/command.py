@@ -140,7 +140,7 @@ def _answer(run: Ended) -> Tuple[Optional[Report], str]:
         what = f"signal {-run.status}" if run.status < 0 else f"status {run.status}"
         return None, f"{what}: {told}" if told else what
     try:
-        report = read_report("the report", read_file(str(run.task.report)))
+        report = read_report("the report", read_file(str(run.task.report)), takes_parts=True)
     except Refusal as refusal:
         return None, f"status {run.status}: {refusal}"
     if STATUS_OF[report.outcome] != run.status:

@@ -27,7 +27,7 @@ def add_search_options(parser: argparse.ArgumentParser) -> None:
     told = f"goes to `uc solve`, whose run takes so many processors; {WORKERS}"
     parser.add_argument("--workers", metavar="N", type=number_of(MOST_WORKERS), default=WORKERS, help=told)
     parser.add_argument("--gap", metavar="PPM", type=gap_of, default=GAP, help=f"goes to `uc solve`; {GAP}")
-    for option in ("--exact", "--exact-units"):
+    for option in ("--exact", "--exact-units", "--pivot"):
         parser.add_argument(option, action="store_true", help="goes to `uc solve`")
     for option in ("--shed", "--spill-reserve"):
         parser.add_argument(option, metavar="PRICE", type=price_of, help="goes to `uc solve`")
@@ -36,6 +36,6 @@ def add_search_options(parser: argparse.ArgumentParser) -> None:
 def search_options(given: argparse.Namespace) -> List[str]:
     """These options as words, in one order and spelling."""
     numbers = (("workers", given.workers), ("gap", given.gap), ("shed", given.shed), ("spill-reserve", given.spill_reserve))
-    switches = (("exact", given.exact), ("exact-units", given.exact_units))
+    switches = (("exact", given.exact), ("exact-units", given.exact_units), ("pivot", given.pivot))
     options = [f"--{option}={value}" for option, value in numbers if value is not None]
     return options + [f"--{option}" for option, is_given in switches if is_given]

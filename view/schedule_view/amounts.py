@@ -3,11 +3,14 @@ from __future__ import annotations
 
 import re
 from fractions import Fraction
-from typing import Optional, Tuple
+from typing import Optional, Tuple, Union
 
 MILLION = 1_000_000
 # more digits than any amount of an instance, a report or a certificate has
 MOST_DIGITS = 38
+
+# watts, and sums of them: fractions where powers are over a denominator
+Watts = Union[int, Fraction]
 
 _AMOUNT = re.compile(r"(-?)(0|[1-9][0-9]*)\.([0-9]{6})")
 _WHOLE = re.compile(r"0|[1-9][0-9]{0,17}")
@@ -36,17 +39,35 @@ def signed(text: str) -> Optional[int]:
     return int(text) if _SIGNED.fullmatch(text) else None
 
 
-def amount_text(millionths: int) -> str:
-    """An amount as reports print it, with six decimals."""
-    size = abs(millionths)
-    return f"{'-' if millionths < 0 else ''}{size // MILLION}.{size % MILLION:06}"
+def over(number: int, denominator: int) -> Watts:
+    """A number of parts of a watt."""
+    return number if denominator == 1 else Fraction(number, denominator)
 
 
-def short_text(millionths: int) -> str:
+def thousandths(millionths: Watts) -> int:
+    """The nearest whole thousandths of a millionth, half away from nought."""
+    return nearest(Fraction(millionths) / 1000)
+
+
+def _decimals(millionths: Watts) -> Tuple[int, str]:
+    """The whole part of an amount from nought, and its decimals: six, and of a fraction nine, the last one rounded."""
+    if isinstance(millionths, int):
+        return millionths // MILLION, f"{millionths % MILLION:06}"
+    whole, rest = divmod(thousandths(millionths), 1000 * MILLION)
+    return whole, f"{rest:09}"
+
+
+def amount_text(millionths: Watts) -> str:
+    """An amount as reports print it, with six decimals, or with nine where there are parts of a millionth."""
+    whole, decimals = _decimals(abs(millionths))
+    return f"{'-' if millionths < 0 else ''}{whole}.{decimals[:6]}{decimals[6:].rstrip('0')}"
+
+
+def short_text(millionths: Watts) -> str:
     """An amount with its thousands parted by commas and without zeros at its end, for a reader's eye."""
-    size = abs(millionths)
-    decimals = f"{size % MILLION:06}".rstrip("0")
-    return f"{'-' if millionths < 0 else ''}{size // MILLION:,}{'.' + decimals if decimals else ''}"
+    whole, decimals = _decimals(abs(millionths))
+    decimals = decimals.rstrip("0")
+    return f"{'-' if millionths < 0 else ''}{whole:,}{'.' + decimals if decimals else ''}"
 
 
 def dollars_text(micros: int) -> str:

@@ -6,9 +6,10 @@ from collections import Counter
 from dataclasses import dataclass
 from typing import Dict, List, Optional, Tuple
 
-from .amounts import amount, signed, whole
+from .amounts import Watts, amount, over, signed, whole
 from .lines import Lines
 from .refusal import shown
+from .report import denominator_of
 from .shortages import MOST_PENALTY, NO_PENALTY, Penalty
 
 _CELL = re.compile(r"([^:]+):([^:]+):([^:]+)")
@@ -19,7 +20,7 @@ MOST_PRICE = 10**14
 BOUNDS = ("bound", "exact")
 
 # a cell that is on: output above the minimum and reserve in watts, and the category of a start, else 0
-CertificateCell = Tuple[int, int, int]
+CertificateCell = Tuple[Watts, Watts, int]
 
 
 @dataclass(frozen=True)
@@ -29,9 +30,11 @@ class CertificateSchedule:
     cost: int
     line: int
     thermal: List[List[Optional[CertificateCell]]]
-    renewable: List[List[int]]
+    renewable: List[List[Watts]]
     # unserved demand and missing reserve; no rows where neither has a price
-    shortages: List[List[int]]
+    shortages: List[List[Watts]]
+    # powers are whole watts where it is 1, and else fractions
+    denominator: int = 1
 
 
 @dataclass(frozen=True)
@@ -79,14 +82,16 @@ class Certificate:
     tables: List[Table]
 
 
-def read_certificate(path: str, data: bytes) -> Certificate:
-    """The certificate of the bytes of a file. Refused with the file and the line."""
+def read_certificate(path: str, data: bytes, takes_parts: bool = False) -> Certificate:
+    """The certificate of the bytes of a file. Refused with the file and the line; and unless it takes parts of watts, where they stand."""
     lines = Lines(path, data)
     version = _version(lines)
     periods, thermal, renewable, tables = _size(lines)
     bound = _claim(lines)
     penalty = _penalty(lines) if lines.is_at("penalty") else NO_PENALTY
-    schedule = _schedule(lines, periods, thermal, renewable, "de" if any(penalty) else "")
+    head = _schedule_head(lines, version, takes_parts)
+    rows = (thermal, renewable, "de" if any(penalty) else "")
+    schedule = _schedule(lines, periods, rows, *head) if head else None
     read: List[Table] = []
     for _ in range(tables):
         is_whole = version == 1 or not read
@@ -148,21 +153,29 @@ def _penalty(lines: Lines) -> Penalty:
     return shed, spill_reserve
 
 
-def _schedule(lines: Lines, periods: int, thermal: int, renewable: int, short: str) -> Optional[CertificateSchedule]:
-    """The schedule, if there is one; rows of shortages have these letters."""
+def _schedule_head(lines: Lines, version: int, takes_parts: bool) -> Optional[Tuple[int, int]]:
+    """The cost of the schedule, if there is one, and its denominator, which stands in version 3 alone."""
     line = lines.take()
     if line == "schedule none":
         return None
-    cost = amount(line[len("schedule ") :]) if line.startswith("schedule ") else None
-    if cost is None and " over " in line:
-        lines.refuse("powers over a denominator aren't drawn")
-    if cost is None:
+    word, _, rest = line.partition(" ")
+    told, is_over, parts = rest.partition(" over ")
+    cost, denominator = amount(told), denominator_of(parts) if is_over else 1
+    if word != "schedule" or cost is None or denominator is None or is_over and version < 3:
         lines.refuse(f"{shown(line)} where the schedule is due")
+    if is_over and not takes_parts:
+        lines.refuse("powers over a denominator aren't taken")
+    return cost, denominator
+
+
+def _schedule(lines: Lines, periods: int, rows: Tuple[int, int, str], cost: int, denominator: int) -> CertificateSchedule:
+    """The schedule with so many rows of thermal and of renewable units; those of shortages have these letters."""
+    thermal, renewable, short = rows
     first = lines.number + 1
-    cells = [[_cell(lines, word) for word in _row(lines, "t", periods)] for _ in range(thermal)]
-    outputs = [[_watts(lines, word) for word in _row(lines, "w", periods)] for _ in range(renewable)]
-    shortages = [[_watts(lines, word) for word in _row(lines, letter, periods)] for letter in short]
-    return CertificateSchedule(cost, first, cells, outputs, shortages)
+    cells = [[_cell(lines, word, denominator) for word in _row(lines, "t", periods)] for _ in range(thermal)]
+    outputs = [[_watts(lines, word, denominator) for word in _row(lines, "w", periods)] for _ in range(renewable)]
+    shortages = [[_watts(lines, word, denominator) for word in _row(lines, letter, periods)] for letter in short]
+    return CertificateSchedule(cost, first, cells, outputs, shortages, denominator)
 
 
 def _row(lines: Lines, word: str, periods: int) -> List[str]:
@@ -173,21 +186,21 @@ def _row(lines: Lines, word: str, periods: int) -> List[str]:
     return words[1:]
 
 
-def _cell(lines: Lines, word: str) -> Optional[CertificateCell]:
+def _cell(lines: Lines, word: str, denominator: int) -> Optional[CertificateCell]:
     if word == "-":
         return None
     parts = _CELL.fullmatch(word)
     category = whole(parts[3]) if parts else None
     if not parts or category is None or category > MOST_CATEGORY:
         lines.refuse(f"{shown(word)} is no cell")
-    return _watts(lines, parts[1]), _watts(lines, parts[2]), category
+    return _watts(lines, parts[1], denominator), _watts(lines, parts[2], denominator), category
 
 
-def _watts(lines: Lines, word: str) -> int:
+def _watts(lines: Lines, word: str, denominator: int) -> Watts:
     watts = signed(word)
     if watts is None or len(word.lstrip("-")) > WATT_DIGITS:
         lines.refuse(f"{shown(word)} is no number of watts")
-    return watts
+    return over(watts, denominator)
 
 
 def _table(lines: Lines, periods: int, thermal: int) -> Table:

@@ -4,7 +4,7 @@ from __future__ import annotations
 from fractions import Fraction
 from typing import Dict, List, Optional, Tuple
 
-from .amounts import MILLION, dollars_text, nearest_text, short_text
+from .amounts import MILLION, Watts, dollars_text, nearest_text, short_text
 from .certificate import Prices
 from .costs import HourlyCosts
 from .instance import Instance
@@ -26,7 +26,7 @@ _HATCHES = ("", "M0 0L6 6M-1 5L1 7M5 -1L7 1", "M0 3H6", "M0 6L6 0M-1 1L1 -1M5 7L
 def output_chart(instance: Instance, stack: List[Layer]) -> str:
     """Outputs on top of each other, and the demand that they add up to."""
     frame = Frame.around(instance.periods, OUTPUT_HEIGHT, instance.demand, MILLION)
-    bottoms = [0] * instance.periods
+    bottoms: List[Watts] = [0] * instance.periods
     bars, names = [], []
     for layer in stack:
         bars.append(element("g", _bars(frame, layer, bottoms), **_paint(layer.look, "")))
@@ -64,7 +64,7 @@ def reserve_chart(instance: Instance, schedule: Schedule, missing: Shortage) -> 
     return frame.chart(plot, "Reserve given and reserve needed", "MW")
 
 
-def curtailed_chart(curtailed: List[int]) -> str:
+def curtailed_chart(curtailed: List[Watts]) -> str:
     """The power that renewable units could give and don't."""
     frame = Frame.around(len(curtailed), CURTAILED_HEIGHT, curtailed, MILLION)
     bars = (frame.bar(t, 0, size, f"hour {t + 1}: {short_text(size)} MW curtailed") for t, size in enumerate(curtailed) if size)
@@ -130,15 +130,15 @@ def _hour_titles(instance: Instance) -> List[str]:
     ]
 
 
-def _bars(frame: Frame, layer: Layer, bottoms: List[int]) -> str:
+def _bars(frame: Frame, layer: Layer, bottoms: List[Watts]) -> str:
     return "".join(frame.bar(t, bottoms[t], output, layer.titles[t]) for t, output in enumerate(layer.outputs) if output)
 
 
-def _name_inside(frame: Frame, layer: Layer, bottoms: List[int]) -> str:
+def _name_inside(frame: Frame, layer: Layer, bottoms: List[Watts]) -> str:
     """The layer's name at the thickest place where it fits in, where it may be for narrow pages too; nothing where there is none."""
     for width, look in ((NARROW_PLOT, "narrow"), (WIDE_PLOT, "wide")):
         hours = int((len(layer.name) + 1) * LETTER_WIDTH * frame.periods / width) + 1
-        places: List[Tuple[int, int, int]] = []
+        places: List[Tuple[Watts, int, Watts]] = []
         for t in range(frame.periods - hours + 1):
             low = max(bottoms[t : t + hours])
             high = min(bottom + output for bottom, output in zip(bottoms[t : t + hours], layer.outputs[t : t + hours]))

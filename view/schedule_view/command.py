@@ -76,12 +76,12 @@ def _run(given: argparse.Namespace) -> None:
     refuse_shared(inputs, [path for path in (given.page, given.table, given.json) if path is not None])
     data = read_file(given.instance)
     instance = read_instance(given.instance, data)
-    report = read_report(given.report, read_file(given.report))
+    report = read_report(given.report, read_file(given.report), takes_parts=True)
     certificate: Optional[Certificate] = None
     certificate_data = b""
     if given.certificate is not None:
         certificate_data = read_file(given.certificate)
-        certificate = read_certificate(given.certificate, certificate_data)
+        certificate = read_certificate(given.certificate, certificate_data, takes_parts=True)
     penalty = _penalty(given, certificate)
     check_report(instance, report, penalty)
     if given.gap is not None:

@@ -5,6 +5,7 @@ from bisect import bisect_left
 from dataclasses import dataclass
 from typing import List, Tuple
 
+from .amounts import Watts
 from .instance import Instance, Thermal
 from .report import Schedule, ThermalRow
 from .shortages import Penalty, Shortage, shortages
@@ -57,7 +58,7 @@ def unit_costs(unit: Thermal, row: ThermalRow) -> UnitCosts:
     return UnitCosts(energy, [unit.start_costs[cell.category - 1] if cell and cell.category else 0 for cell in row.cells])
 
 
-def _above_minimum(unit: Thermal, output: int) -> int:
+def _above_minimum(unit: Thermal, output: Watts) -> Watts:
     """The output counted as the points are: the first one is the unit's least output."""
     return output - unit.least + unit.points[0][0]
 
@@ -80,7 +81,7 @@ def _is_below(left: Corner, middle: Corner, right: Corner) -> bool:
     return (middle[1] - left[1]) * run < rise * (middle[0] - left[0])
 
 
-def hull_cost(corners: List[Corner], output: int) -> int:
+def hull_cost(corners: List[Corner], output: Watts) -> int:
     """The hull's cost at an output in its range, rounded up to a micro-dollar."""
     place = bisect_left(corners, (output,))
     right = corners[min(place, len(corners) - 1)]

@@ -4,7 +4,7 @@ from __future__ import annotations
 from fractions import Fraction
 from typing import List, Optional, Sequence, Tuple
 
-from .amounts import dollars_text, nearest_text, short_text
+from .amounts import Watts, dollars_text, nearest_text, short_text
 from .certificate import Prices
 from .costs import HourlyCosts, unit_costs
 from .grid import Row, hours_text, renewable_row, runs, thermal_row
@@ -33,7 +33,7 @@ def figures(instance: Instance, schedule: Optional[Schedule], costs: Optional[Ho
     return parts
 
 
-def _powers(watts: Sequence[int]) -> List[str]:
+def _powers(watts: Sequence[Watts]) -> List[str]:
     return [short_text(power) for power in watts]
 
 

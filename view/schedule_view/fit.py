@@ -8,7 +8,7 @@ from __future__ import annotations
 
 from typing import List, NoReturn, Optional, Tuple, Union
 
-from .amounts import amount_text, gap_parts
+from .amounts import Watts, amount_text, gap_parts
 from .certificate import Certificate, CertificateSchedule
 from .costs import hourly_costs
 from .instance import Instance, Renewable, Thermal
@@ -49,7 +49,7 @@ def check_certificate(instance: Instance, report: Report, certificate: Certifica
     if (certificate.bound is None) != (report.outcome is Outcome.INFEASIBLE) or certificate.bound != report.bound:
         _refuse(certificate, 3, "the claim isn't that of the report")
     ours, theirs = report.schedule, certificate.schedule
-    if (ours.cost if ours else None) != (theirs.cost if theirs else None):
+    if ((ours.cost, ours.denominator) if ours else None) != ((theirs.cost, theirs.denominator) if theirs else None):
         _refuse(certificate, 5 if any(certificate.penalty) else 4, "the schedule isn't that of the report")
     if ours and theirs:
         _check_thermal_rows(instance, certificate, ours, theirs)
@@ -162,7 +162,7 @@ def _check_shortage(report: Report, word: str, row: Optional[ShortageRow], price
             _refuse(report, row.line, f"period {period + 1}: {what}")
 
 
-def _check_hour(instance: Instance, report: Report, schedule: Schedule, period: int, short: Tuple[int, int]) -> None:
+def _check_hour(instance: Instance, report: Report, schedule: Schedule, period: int, short: Tuple[Watts, Watts]) -> None:
     cells = [row.cells[period] for row in schedule.thermal]
     output = sum(cell.output for cell in cells if cell) + sum(row.outputs[period] for row in schedule.renewable) + short[0]
     if output != instance.demand[period]:

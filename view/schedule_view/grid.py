@@ -4,7 +4,7 @@ from __future__ import annotations
 from dataclasses import dataclass
 from typing import Dict, Iterator, List, Optional, Tuple
 
-from .amounts import short_text
+from .amounts import Watts, short_text
 from .instance import Instance, Renewable, Thermal
 from .layers import merit_order
 from .report import Cell, RenewableRow, Schedule, ThermalRow
@@ -65,7 +65,7 @@ def renewable_row(unit: Renewable, row: RenewableRow) -> Row:
     return Row(unit.name, marks)
 
 
-def _level(output: int, least: int, greatest: int) -> Tuple[str, str]:
+def _level(output: Watts, least: int, greatest: int) -> Tuple[str, str]:
     """The class and the words of an output within its range."""
     if output == greatest:
         return "greatest", ", its greatest output"

@@ -1,4 +1,7 @@
-"""What the page shows as one JSON object: measures, cost, bound, gap and totals, hours, units and uplifts, with every number exact."""
+"""What the page shows as one JSON object: measures, cost, bound, gap and totals, hours, units and uplifts.
+
+Every number is exact, but powers over a denominator, which are rounded to a thousandth of a watt.
+"""
 from __future__ import annotations
 
 import json
@@ -6,7 +9,7 @@ from dataclasses import dataclass
 from fractions import Fraction
 from typing import Dict, List, Optional, Sequence, TextIO, Union
 
-from .amounts import amount_text, gap_parts, nearest
+from .amounts import Watts, amount_text, gap_parts, nearest
 from .certificate import Certificate, Prices
 from .costs import HourlyCosts, unit_costs
 from .instance import Instance
@@ -25,9 +28,9 @@ MEASURES = {
 
 @dataclass(frozen=True)
 class Amount:
-    """Millionths, which are written with six decimals."""
+    """Millionths, which are written with six decimals, or with nine where there are parts of one."""
 
-    millionths: int
+    millionths: Watts
 
 
 Value = Union[None, bool, int, str, Amount, List["Value"], Dict[str, "Value"]]
@@ -78,6 +81,8 @@ def _outcome(report: Report) -> Dict[str, Value]:
         "rounded_numbers": report.rounded,
         "stuck": report.stuck.text if report.stuck else None,
     }
+    if report.schedule and report.schedule.denominator > 1:
+        told["denominator"] = report.schedule.denominator
     if report.outcome is Outcome.ROLLED:
         told["windows"] = report.windows
     if report.stopped:
@@ -90,12 +95,12 @@ def _amount(millionths: Optional[int]) -> Optional[Amount]:
     return None if millionths is None else Amount(millionths)
 
 
-def _reserves(schedule: Schedule, periods: int) -> List[int]:
+def _reserves(schedule: Schedule, periods: int) -> List[Watts]:
     """The reserve given in each hour."""
     return [sum(row.cells[t].reserve for row in schedule.thermal if row.cells[t]) for t in range(periods)]
 
 
-def _curtailed(instance: Instance, schedule: Schedule) -> List[int]:
+def _curtailed(instance: Instance, schedule: Schedule) -> List[Watts]:
     """What renewable units could give and don't, in each hour."""
     pairs = list(zip(instance.renewable, schedule.renewable))
     return [sum(unit.greatest[t] - row.outputs[t] for unit, row in pairs) for t in range(instance.periods)]
@@ -120,7 +125,7 @@ def _totals(instance: Instance, schedule: Schedule, costs: HourlyCosts) -> Dict[
 
 def _hours(instance: Instance, schedule: Optional[Schedule], costs: Optional[HourlyCosts], prices: Optional[Prices]) -> List[Value]:
     """An object for each hour."""
-    columns: Dict[str, Sequence[int]] = {"demand": instance.demand, "need": instance.reserves}
+    columns: Dict[str, Sequence[Watts]] = {"demand": instance.demand, "need": instance.reserves}
     if schedule and costs:
         unserved, missing = costs.shortages
         columns["reserve_given"] = _reserves(schedule, instance.periods)

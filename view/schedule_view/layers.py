@@ -5,7 +5,7 @@ from dataclasses import dataclass
 from fractions import Fraction
 from typing import List, Set
 
-from .amounts import short_text
+from .amounts import Watts, short_text
 from .instance import Instance
 from .report import Schedule
 from .shortages import Shortage
@@ -22,7 +22,7 @@ class Layer:
     name: str
     note: str
     look: str
-    outputs: List[int]
+    outputs: List[Watts]
     titles: List[str]
     is_merged: bool = False
 
@@ -55,7 +55,7 @@ def layers(instance: Instance, schedule: Schedule) -> List[Layer]:
 def _liveliest(schedule: Schedule, used: List[int]) -> Set[int]:
     """The units to be drawn one by one: those whose output moves most from hour to hour, and of equal ones the dearest."""
 
-    def moved(g: int) -> int:
+    def moved(g: int) -> Watts:
         outputs = [cell.output if cell else 0 for cell in schedule.thermal[g].cells]
         return sum(abs(after - before) for before, after in zip(outputs, outputs[1:]))
 

@@ -132,6 +132,8 @@ def _head(instance: Instance, report: Report, gap: Optional[int], priced: List[S
     if gap is not None:
         facts.append(("Gap asked for", _percent(gap)))
     facts += [(shortage.name.capitalize(), text(shortage.size_text)) for shortage in priced]
+    if report.schedule and report.schedule.denominator > 1:
+        facts.append(("Denominator of powers", str(report.schedule.denominator)))
     if report.windows is not None:
         facts.append(("Windows", str(report.windows)))
     if report.evaluations is not None:

@@ -6,7 +6,7 @@ import re
 from dataclasses import dataclass
 from typing import List, Match, Optional, Tuple
 
-from .amounts import amount, whole
+from .amounts import Watts, amount, over, whole
 from .lines import Lines
 from .refusal import shown
 
@@ -42,8 +42,8 @@ class Outcome(enum.Enum):
 class Cell:
     """A unit that is on in a period: total output and reserve in watts, and the category of a start, else 0."""
 
-    output: int
-    reserve: int
+    output: Watts
+    reserve: Watts
     category: int
 
 
@@ -62,7 +62,7 @@ class RenewableRow:
 
     line: int
     name: str
-    outputs: List[int]
+    outputs: List[Watts]
 
 
 @dataclass(frozen=True)
@@ -70,7 +70,7 @@ class ShortageRow:
     """The line of unserved demand or of missing reserve with its watts."""
 
     line: int
-    watts: List[int]
+    watts: List[Watts]
 
 
 @dataclass(frozen=True)
@@ -98,13 +98,17 @@ class Stopped:
 
 @dataclass(frozen=True)
 class Schedule:
-    """A schedule with its cost in micro-dollars; a row for each unit in the order of the lines, and of each shortage with a price."""
+    """A schedule with its cost in micro-dollars; a row for each unit in the order of the lines, and of each shortage with a price.
+
+    Powers are whole watts where the denominator is 1, and else fractions.
+    """
 
     cost: int
     thermal: List[ThermalRow]
     renewable: List[RenewableRow]
     shed: Optional[ShortageRow] = None
     short: Optional[ShortageRow] = None
+    denominator: int = 1
 
 
 @dataclass(frozen=True)
@@ -125,8 +129,8 @@ class Report:
     stopped: Optional[Stopped] = None
 
 
-def read_report(path: str, data: bytes) -> Report:
-    """The report of the bytes of a file. Refused with the file and the line."""
+def read_report(path: str, data: bytes, takes_parts: bool = False) -> Report:
+    """The report of the bytes of a file. Refused with the file and the line; and unless it takes parts of watts, where they are told."""
     lines = Lines(path, data)
     sizes = _sizes(lines)
     if lines.is_at(Outcome.ROLLED.value):
@@ -135,12 +139,12 @@ def read_report(path: str, data: bytes) -> Report:
     elif lines.is_at(Outcome.STOPPED.value):
         report = Report(path, *sizes, Outcome.STOPPED, stopped=_stopped(lines))
     else:
-        report = _searched(lines, path, sizes)
+        report = _searched(lines, path, sizes, takes_parts)
     lines.finish()
     return report
 
 
-def _searched(lines: Lines, path: str, sizes: Tuple[int, int, int, int]) -> Report:
+def _searched(lines: Lines, path: str, sizes: Tuple[int, int, int, int], takes_parts: bool) -> Report:
     """The report of `uc solve` behind its first line."""
     outcome = _outcome(lines)
     if outcome is Outcome.INFEASIBLE:
@@ -149,18 +153,35 @@ def _searched(lines: Lines, path: str, sizes: Tuple[int, int, int, int]) -> Repo
         bound, evaluations = _money(lines, "bound"), _evaluations(lines)
         return Report(path, *sizes, outcome, evaluations, bound, stuck=None if lines.is_done() else _stuck(lines))
     cost, bound, evaluations = _money(lines, "cost"), _money(lines, "bound"), _evaluations(lines)
-    return Report(path, *sizes, outcome, evaluations, bound, _schedule(lines, cost, *sizes[:3]))
+    denominator = _denominator(lines, takes_parts)
+    return Report(path, *sizes, outcome, evaluations, bound, _schedule(lines, cost, *sizes[:3], denominator))
 
 
-def _schedule(lines: Lines, cost: int, periods: int, thermal: int, renewable: int) -> Schedule:
+def _denominator(lines: Lines, takes_parts: bool) -> int:
+    """What the powers are over: 1 where no line tells it."""
+    if not lines.is_at("denominator"):
+        return 1
+    line = lines.take()
+    if not takes_parts:
+        lines.refuse("powers over a denominator aren't taken")
+    number = denominator_of(line.partition(" ")[2])
+    if number is None:
+        lines.refuse(f"{shown(line)} is no denominator from 2 to 99")
+    return number
+
+
+def denominator_of(text: str) -> Optional[int]:
+    """A denominator from 2 to 99; None for any other text."""
+    number = whole(text)
+    return number if number is not None and 2 <= number <= 99 else None
+
+
+def _schedule(lines: Lines, cost: int, periods: int, thermal: int, renewable: int, denominator: int = 1) -> Schedule:
     """The rows of a schedule."""
-    if lines.is_at("denominator"):
-        lines.take()
-        lines.refuse("powers over a denominator aren't drawn")
-    thermal_rows = [_thermal_row(lines, periods) for _ in range(thermal)]
-    renewable_rows = [_renewable_row(lines, periods) for _ in range(renewable)]
-    shed, short = _shortage_row(lines, "shed", periods), _shortage_row(lines, "reserve-short", periods)
-    return Schedule(cost, thermal_rows, renewable_rows, shed, short)
+    thermal_rows = [_thermal_row(lines, periods, denominator) for _ in range(thermal)]
+    renewable_rows = [_renewable_row(lines, periods, denominator) for _ in range(renewable)]
+    shed, short = (_shortage_row(lines, word, periods, denominator) for word in ("shed", "reserve-short"))
+    return Schedule(cost, thermal_rows, renewable_rows, shed, short, denominator)
 
 
 def _sizes(lines: Lines) -> Tuple[int, int, int, int]:
@@ -235,42 +256,42 @@ def _unit_line(lines: Lines, kind: str, periods: int) -> Tuple[str, List[str]]:
     return unescaped(parts[2]), words
 
 
-def _thermal_row(lines: Lines, periods: int) -> ThermalRow:
+def _thermal_row(lines: Lines, periods: int, denominator: int) -> ThermalRow:
     name, words = _unit_line(lines, "thermal", periods)
-    return ThermalRow(lines.number, name, [_cell(lines, t + 1, word) for t, word in enumerate(words)])
+    return ThermalRow(lines.number, name, [_cell(lines, t + 1, word, denominator) for t, word in enumerate(words)])
 
 
-def _cell(lines: Lines, period: int, word: str) -> Optional[Cell]:
+def _cell(lines: Lines, period: int, word: str, denominator: int) -> Optional[Cell]:
     if word == "-":
         return None
     parts = _CELL.fullmatch(word)
     if parts:
         output, reserve = amount(parts[1]), amount(parts[2])
         if output is not None and reserve is not None:
-            return Cell(output, reserve, int(parts[3] or 0))
+            return Cell(over(output, denominator), over(reserve, denominator), int(parts[3] or 0))
     lines.refuse(f"period {period}: {shown(word)} is no cell")
 
 
-def _renewable_row(lines: Lines, periods: int) -> RenewableRow:
+def _renewable_row(lines: Lines, periods: int, denominator: int) -> RenewableRow:
     name, words = _unit_line(lines, "renewable", periods)
-    return RenewableRow(lines.number, name, [_output(lines, t + 1, word) for t, word in enumerate(words)])
+    return RenewableRow(lines.number, name, [_output(lines, t + 1, word, denominator) for t, word in enumerate(words)])
 
 
-def _shortage_row(lines: Lines, word: str, periods: int) -> Optional[ShortageRow]:
+def _shortage_row(lines: Lines, word: str, periods: int, denominator: int) -> Optional[ShortageRow]:
     """The line that begins with a word; None where another one is due, or the end."""
     if not lines.is_at(word):
         return None
     words = lines.take().split(" ")[1:]
     if len(words) != periods:
         lines.refuse(f"{len(words)} amounts for {periods} periods")
-    return ShortageRow(lines.number, [_output(lines, t + 1, word) for t, word in enumerate(words)])
+    return ShortageRow(lines.number, [_output(lines, t + 1, word, denominator) for t, word in enumerate(words)])
 
 
-def _output(lines: Lines, period: int, word: str) -> int:
+def _output(lines: Lines, period: int, word: str, denominator: int) -> Watts:
     output = amount(word)
     if output is None:
         lines.refuse(f"period {period}: {shown(word)} is no amount of power")
-    return output
+    return over(output, denominator)
 
 
 def _stuck(lines: Lines) -> Stuck:

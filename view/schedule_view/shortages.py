@@ -2,9 +2,10 @@
 from __future__ import annotations
 
 from dataclasses import dataclass
+from math import ceil
 from typing import List, Optional, Tuple
 
-from .amounts import short_text
+from .amounts import Watts, short_text
 from .report import Schedule, ShortageRow
 
 # the prices of unserved demand and of missing reserve, in dollars a megawatt-hour, which are micro-dollars a watt; 0 allows none
@@ -20,12 +21,12 @@ class Shortage:
     name: str
     look: str
     price: int
-    watts: List[int]
+    watts: List[Watts]
 
     @property
     def costs(self) -> List[int]:
-        """What it costs in each hour, in micro-dollars."""
-        return [self.price * watts for watts in self.watts]
+        """What it costs in each hour, in micro-dollars, each rounded up."""
+        return [ceil(self.price * watts) for watts in self.watts]
 
     @property
     def size_text(self) -> str:
@@ -36,7 +37,7 @@ class Shortage:
 def shortages(schedule: Schedule, periods: int, penalty: Penalty) -> Tuple[Shortage, Shortage]:
     """Unserved demand and missing reserve; noughts where the report has no line of them."""
 
-    def watts(row: Optional[ShortageRow]) -> List[int]:
+    def watts(row: Optional[ShortageRow]) -> List[Watts]:
         return row.watts if row else [0] * periods
 
     shed, spill_reserve = penalty

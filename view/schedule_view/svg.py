@@ -1,8 +1,8 @@
 """The pieces that the charts are drawn with: elements, scales, axes, step lines.
 
 A plot's data stands in a group whose units are hours to the right and the data's own upwards, as megawatts, with all their decimals,
-so that the heights in the file are exact; the group's matrix alone brings them to pixels. `data-grain` tells how many whole numbers
-of the data, as watts, are one such unit.
+so that the heights in the file are exact, parts of a watt to a thousandth of one; the group's matrix alone brings them to pixels.
+`data-grain` tells how many whole numbers of the data, as watts, are one such unit.
 
 Plots are as wide as the page lets them be: data is stretched over the hours, and texts, which aren't, have their places in percent.
 """
@@ -14,7 +14,7 @@ from dataclasses import dataclass
 from fractions import Fraction
 from typing import Dict, Iterable, List, Sequence, Tuple, Union
 
-from .amounts import nearest_text
+from .amounts import Watts, nearest_text, thousandths
 from .refusal import printable
 
 HOURS_HEIGHT, TOP, AXIS_Y, SIDE_GAP = 20, 22, 10, 8
@@ -97,16 +97,16 @@ def stretched(periods: int, height: float, content: str) -> str:
 
 @dataclass(frozen=True)
 class Frame:
-    """The plane of a chart: periods to the right, whole numbers from `low` to `high` upwards, `unit` of which are one on the axis."""
+    """The plane of a chart: periods to the right, numbers from `low` to `high` upwards, `unit` of which are one on the axis."""
 
     periods: int
     height: int
-    low: int
-    high: int
+    low: Watts
+    high: Watts
     unit: int
 
     @staticmethod
-    def around(periods: int, height: int, values: Iterable[int], unit: int) -> Frame:
+    def around(periods: int, height: int, values: Iterable[Watts], unit: int) -> Frame:
         """A plane that holds nought and all values with some room around them, and where all are nought one unit of the axis."""
         numbers = [0, *values]
         low, high = min(numbers), max(numbers)
@@ -115,8 +115,8 @@ class Frame:
 
     @property
     def scale(self) -> float:
-        """Pixels for a whole number of the data."""
-        return self.height / (self.high - self.low)
+        """Pixels for one of the data."""
+        return float(self.height / (self.high - self.low))
 
     @property
     def decimals(self) -> int:
@@ -124,13 +124,15 @@ class Frame:
         return next(k for k in range(0, 60, 3) if max(-self.low, self.high) <= 10 ** (k + 6))
 
     def y(self, value: Union[int, Fraction]) -> float:
-        """The pixel of a whole number of the data."""
+        """The pixel of a number of the data."""
         return TOP + float(self.high - value) * self.scale
 
-    def number(self, value: int) -> str:
-        """A whole number of the data in units of the group, exact."""
-        digits = f"{abs(value):0{self.decimals + 1}}"
-        cut = len(digits) - self.decimals
+    def number(self, value: Watts) -> str:
+        """A number of the data in units of the group, exact where it is whole."""
+        is_whole = isinstance(value, int)
+        size, decimals = abs(value if is_whole else thousandths(value)), self.decimals + (0 if is_whole else 3)
+        digits = f"{size:0{decimals + 1}}"
+        cut = len(digits) - decimals
         return ("-" if value < 0 else "") + f"{digits[:cut]}.{digits[cut:]}".rstrip("0").rstrip(".")
 
     @property
@@ -148,12 +150,12 @@ class Frame:
         group = element("g", content, transform=matrix, data_grain=10**self.decimals, **attributes)
         return stretched(self.periods, TOP + self.height, group)
 
-    def bar(self, period: int, bottom: int, size: int, words: str = "", **attributes: str) -> str:
+    def bar(self, period: int, bottom: Watts, size: Watts, words: str = "", **attributes: str) -> str:
         """A bar over one hour, for `group`. It is a path, since browsers cap the height of a rectangle."""
         outline = f"M{period} {self.number(bottom)}v{self.number(size)}h1v{self.number(-size)}z"
         return element("path", title(words) if words else "", d=outline, **attributes)
 
-    def steps(self, values: Sequence[int], look: str) -> str:
+    def steps(self, values: Sequence[Watts], look: str) -> str:
         """A line that steps from hour to hour, for `group`."""
         numbers = [self.number(value) for value in values]
         return element("path", d=f"M0 {numbers[0]}" + "".join(f"V{y}H{t + 1}" for t, y in enumerate(numbers)), class_=look)

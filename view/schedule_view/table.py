@@ -5,7 +5,7 @@ import csv
 from fractions import Fraction
 from typing import List, Optional, TextIO, Tuple
 
-from .amounts import amount_text, nearest
+from .amounts import Watts, amount_text, nearest
 from .certificate import Prices
 from .costs import unit_costs
 from .instance import Instance
@@ -21,9 +21,9 @@ COST_HEAD = ("energy_cost", "start_cost", "shortage_cost")
 def write_table(instance: Instance, schedule: Optional[Schedule], prices: Optional[Prices], penalty: Penalty, out: TextIO) -> None:
     """Power in megawatts, prices in dollars a megawatt-hour, costs in dollars, with six decimals; without a schedule the head alone.
 
-    A unit that is off has noughts, and so has the category where nothing starts. A renewable unit is on where it gives something, and
-    costs nothing. The hour's demand, reserve needed, prices of the bound, unserved demand, missing reserve and the cost of both stand
-    in each line; without a certificate the prices are empty.
+    Powers over a denominator have up to nine decimals. A unit that is off has noughts, and so has the category where nothing starts.
+    A renewable unit is on where it gives something, and costs nothing. The hour's demand, reserve needed, prices of the bound,
+    unserved demand, missing reserve and the cost of both stand in each line; without a certificate the prices are empty.
     """
     table = csv.writer(out, lineterminator="\n")
     table.writerow(HEAD + HOUR_HEAD + COST_HEAD)
@@ -43,7 +43,7 @@ def write_table(instance: Instance, schedule: Optional[Schedule], prices: Option
             table.writerow((other.name, "renewable", *line, *hours[period], amount_text(0), amount_text(0), short[period]))
 
 
-def _line(period: int, is_on: bool, numbers: Tuple[int, int, int]) -> Tuple[int, int, str, str, int]:
+def _line(period: int, is_on: bool, numbers: Tuple[Watts, Watts, int]) -> Tuple[int, int, str, str, int]:
     output, reserve, category = numbers
     return period + 1, int(is_on), amount_text(output), amount_text(reserve), category
 

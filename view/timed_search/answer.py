@@ -59,7 +59,7 @@ class Answer:
 
 def answer_of(budget: int, status: int, data: bytes) -> Answer:
     """The answer of a run that ended with this status. Refused where its report says otherwise."""
-    report = read_report("the report", data)
+    report = read_report("the report", data, takes_parts=True)
     if STATUS_OF.get(report.outcome) != status:
         raise Refusal(report.path, "", f"{report.outcome.value}, where the status is {status}")
     return Answer(budget, data, report)

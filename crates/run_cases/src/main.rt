@@ -16,8 +16,8 @@ use crate::line::follow_each;
 use std::{fs, io};
 
 /// The files of cases.
-const FILES: [&str; 8] = [
-    "solve", "check", "exact", "upgrade", "uplift", "roll", "words", "formats",
+const FILES: [&str; 9] = [
+    "solve", "check", "exact", "pivot", "upgrade", "uplift", "roll", "words", "formats",
 ];
 
 fn main(rt: HostRuntime) -> io::Result<()> {
