@@ -1,5 +1,5 @@
 -- The move by which a claim is ended may be made.
-use Rattle.std.proofs.Common.{◌≡◌, ◌∙◌, ℕ, Bool, true, false, cond, ◌&&◌, refl, sym, subst, ap, arith, ℤ, pos, ◌<ℤ◌, int_lt, Option, Some, None, IsTrue, MatchOption}
+use Rattle.std.proofs.Common.{◌≡◌, ◌∙◌, ℕ, Bool, true, false, cond, ◌&&◌, refl, sym, subst, ap, arith, ℤ, pos, ◌<ℤ◌, int_lt, Option, Some, None, MatchOption}
 use Rattle.std.proofs.lemmas.Int.{ints}
 use Rattle.std.specs.Ordering.{int_eq}
 use Rattle.branch_tree.specs.Closing.{is_within_gap}

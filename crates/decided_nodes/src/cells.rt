@@ -1,6 +1,6 @@
 //! Which cells a node decides.
 
-ghost use Rattle.std.specs.Prelude.{◌≡◌, ℕ, ◌<◌, ◌↔◌, IsTrue};
+ghost use Rattle.std.specs.Prelude.{◌≡◌, ◌↔◌, IsTrue};
 ghost use Rattle.uc_model.specs.Limits.{IsLawfulInstance};
 ghost use Rattle.dual_model.specs.Tree.{is_decided};
 ghost use Rattle.decided_nodes.specs.Decided.{DecidesEach, DecidesBelow};

@@ -1,9 +1,8 @@
 -- What holds of each entry of all rows, and of what stands for one past them, holds everywhere.
-use Rattle.std.proofs.Common.{◌≡◌, ℕ, ◌<◌, ◌≤◌, ⊎_elim, All, List, [], length, get_or, sym, subst, refl, pos, arith, false}
+use Rattle.std.proofs.Common.{ℕ, ◌<◌, ◌≤◌, ⊎_elim, All, List, [], length, get_or, sym, subst, refl, pos, arith, false}
 use Rattle.std.proofs.lemmas.Bool.{cases_lt}
 use Rattle.std.proofs.lemmas.List.{get_or_past}
 use Rattle.std.proofs.lemmas.List.Elements.{All-get_or}
-use Rattle.uc_model.specs.PrintedSchedule.{cell_at, shed_at, short_at}
 use Rattle.schedule_check.specs.SizedNumbers.{HasSizedNumbers, IsSized}
 use Rattle.found_schedule.specs.Found.{Cell, Printed, HasFoundNumbers, IsFoundCell}
 

@@ -89,7 +89,7 @@ pub record FollowsOpening (exact : Bool) (instance : Instance) (gap : ℕ) (foun
 abbrev pub IsExcludedByUnit : Bool → ℕ → Found → Type 0
 IsExcludedByUnit exact g found = (tree_of found.tree ≡ Ends (empty_leaf exact g)) × (found.log ≡ [])
 
--- the answer of a search by VE, where `exact`, or else by V, with this budget of evaluations, and this gap in parts per million of a cost
+-- the answer of a search by VE, where `exact`, or else by V, with this budget of claims, and this gap in parts per million of a cost
 pub record IsSearchResult (exact : Bool) (instance : Instance) (budget gap : ℕ) (found : Found) : Type 0 where
   pub truth : IsTrueFound instance found
   -- each entry of the log is of the kind, and without VE so is each leaf of the tree

@@ -1,5 +1,5 @@
 -- What a worker knows of a node that it holds.
-use Rattle.std.proofs.Common.{◌≡◌, ◌≢◌, ◌∙◌, ⊎_elim, ◌⊎◌, ℕ, suc, ◌<◌, ◌≤◌, Bool, false, true, All, List, [], ◌∷◌, ◌++◌, length, ap, sym, subst, arith, ℤ, Option, Some, refl, length-append, slice_get}
+use Rattle.std.proofs.Common.{◌≡◌, ◌≢◌, ◌∙◌, ⊎_elim, ◌⊎◌, ℕ, suc, ◌<◌, ◌≤◌, false, true, All, List, [], ◌∷◌, ◌++◌, length, ap, sym, subst, arith, ℤ, Some, refl, length-append, slice_get}
 use Rattle.std.proofs.lemmas.List.{nil_from_length}
 use Rattle.std.proofs.lemmas.List.Elements.{All-nil, All-cons, All-append}
 use Rattle.std.proofs.lemmas.Option.{get_or_from_slice_get, slice_get_within}

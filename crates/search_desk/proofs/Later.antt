@@ -1,6 +1,6 @@
 -- The scales of a node's later entries, after one entry more.
-use Rattle.std.proofs.Common.{◌≡◌, ◌≢◌, ⊎_elim, ℕ, ◌<◌, ◌≤◌, ◌==◌, true, false, All, List, [], ◌∷◌, ◌++◌, drop, get_or, length, sym, subst, arith, Some, slice_get}
-use Rattle.std.proofs.lemmas.List.Elements.{All-nil, All-cons, All-append, All-filter, All-head, All-tail}
+use Rattle.std.proofs.Common.{◌≡◌, ◌≢◌, ⊎_elim, ℕ, ◌≤◌, ◌==◌, true, false, All, List, [], ◌∷◌, ◌++◌, drop, get_or, length, sym, subst, arith, Some, slice_get}
+use Rattle.std.proofs.lemmas.List.Elements.{All-nil, All-cons, All-append, All-filter, All-tail}
 use Rattle.std.proofs.lemmas.Option.{slice_get_within}
 use Rattle.uc_model.proofs.Ring.{linear}
 use Rattle.branch_tree.proofs.Subtrees.{same_or_not}

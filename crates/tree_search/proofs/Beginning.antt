@@ -1,11 +1,9 @@
 -- What a search begins with, and how it ends where the opening's schedule closes it.
-use Rattle.std.proofs.Common.{◌≡◌, ◌∙◌, ℕ, ◌+◌, ◌≤◌, Bool, true, false, arith, subst, sym, ℤ, pos, ◌≤ℤ◌, ◌<ℤ◌, Option, Some}
+use Rattle.std.proofs.Common.{◌≡◌, ◌∙◌, ℕ, ◌≤◌, Bool, true, false, arith, subst, sym, ℤ, pos, ◌<ℤ◌, Option, Some}
 use Rattle.uc_model.specs.Limits.{IsLawfulInstance}
 use Rattle.uc_model.specs.declared.schedule.Printed.{Printed}
 use Rattle.uc_model.specs.declared.tolerance.TheConstants.{WHOLE_GAP}
 use Rattle.uc_model.proofs.Quotients.{IsFloor-int_div_euclid}
-use Rattle.uc_model.proofs.Ring.{linear}
-use Rattle.dual_model.specs.Opening.{ZERO_SCALE}
 use Rattle.branch_tree.specs.Closing.{is_schedule_within}
 use Rattle.search_core.specs.declared.limits.TheConstants.{MAX_BUDGET}
 use Rattle.search_core.specs.Moves.{bound_of}

@@ -1,5 +1,5 @@
 -- One of two scales is new at the node.
-use Rattle.std.proofs.Common.{◌∙◌, ◌≢◌, ⊎_elim, ◌≡◌, ap, arith, length, subst, sym, [], Some}
+use Rattle.std.proofs.Common.{◌∙◌, ◌≢◌, ⊎_elim, ◌≡◌, ap, arith, length, subst, sym}
 use Rattle.dual_model.specs.Prices.{IsLawfulTable}
 use Rattle.uc_model.proofs.Ring.{linear}
 use Rattle.branch_tree.specs.declared.found.Entry.{Entry}

@@ -5,7 +5,7 @@ use Rattle.std.proofs.lemmas.Int.{to_z-of_z}
 use Rattle.incumbent.specs.Costs.{AtMost}
 use Rattle.search_core.specs.declared.event.Move.{Move}
 use Rattle.book.specs.BookView.{BookView}
-use Rattle.search_desk.specs.Commits.{IsEntry, bound_after, move_for, move_of, told_move}
+use Rattle.search_desk.specs.Commits.{IsEntry, move_for, move_of, told_move}
 use Rattle.search_desk.proofs.desk.Desk.commit.Goals as goal
 
 pub returns : goal.returns
