@@ -18,7 +18,7 @@ use Rattle.branch_tree.proofs.Changes.{from_some}
 use Rattle.branch_tree.proofs.Subtrees.{IsHere, leaf_case, subtree_cases}
 use Rattle.dispatch_rules.specs.CommitmentTask.{Pattern, AreAllowed, commitment_at}
 use Rattle.pivot_dispatch.specs.Commitments.{IsDecidedAt}
-use Rattle.pivot_closing.specs.Pivoted.{IsCommitmentAt}
+use Rattle.decided_nodes.specs.Decided.{ArePatternsAt}
 
 -- ---- the decisions of a node
 -- a node of a cover decides cells of the instance
@@ -89,7 +89,7 @@ all_kept instance on (fixing ∷ rest) cells each =
     (λ g hg. (and_parts (keeps_of g (on g) fixing) (list_all (keeps_of g (on g)) rest) (each g hg)).1))
 
 -- ---- a commitment there
-pub allowed_there : (instance : Instance) (node : Node) (patterns : List Pattern) → IsCommitmentAt instance node patterns → AreAllowed instance patterns
+pub allowed_there : (instance : Instance) (node : Node) (patterns : List Pattern) → ArePatternsAt instance node patterns → AreAllowed instance patterns
 allowed_there instance node patterns is = record { count = is.count; allowed = λ g hg. (is.each g hg).allowed }
 
 -- a cell of the instance is decided where none is free
@@ -111,7 +111,7 @@ cell_decided tree instance number node g t size at none hg ht = ⊎_elim
     (cases_Bool (is_decided node g t))
 
 pub decided_at : (tree : TreeView) (instance : Instance) (number : ℕ) (node : Node) (patterns : List Pattern) → IsSizeOf tree instance
-    → IsCover instance (unnumbered tree.nodes) → IsNodeAt tree number node → ¬ HasFreeCell tree number → IsCommitmentAt instance node patterns
+    → IsCover instance (unnumbered tree.nodes) → IsNodeAt tree number node → ¬ HasFreeCell tree number → ArePatternsAt instance node patterns
     → IsDecidedAt instance patterns node
 decided_at tree instance number node patterns size cover at none is =
     let cells = node_cells instance tree.nodes number node cover at in

@@ -7,7 +7,6 @@ use Rattle.uc_model.specs.PrintedSchedule.{printed_cost}
 use Rattle.uc_model.specs.Schedule.{thermal_unit, thermal_count}
 use Rattle.uc_model.specs.Tolerance.{tolerance_of}
 use Rattle.uc_model.specs.declared.schedule.Printed.{Printed}
-use Rattle.dual_model.specs.Fixings.{IsPatternAt}
 use Rattle.dual_model.specs.declared.node.Node.{Node}
 use Rattle.dual_model.specs.declared.table.Table.{Table}
 use Rattle.start_costs.specs.Regular.{AreStartsRegular}
@@ -20,7 +19,8 @@ use Rattle.branch_tree.specs.declared.found.Outcome.{Outcome}
 use Rattle.branch_tree.specs.declared.found.Outcome.TheVariants.{Value, Empty}
 use Rattle.search_core.specs.Machine.{entries_of}
 use Rattle.search_core.specs.Moves.{bound_of}
-use Rattle.dispatch_rules.specs.CommitmentTask.{Pattern, commitment_at}
+use Rattle.dispatch_rules.specs.CommitmentTask.{Pattern}
+use Rattle.decided_nodes.specs.Decided.{ArePatternsAt}
 use Rattle.pivot_dispatch.specs.Answers.{IsAnswer}
 use Rattle.pivot_dispatch.specs.declared.pivot.Pivot.{Pivot}
 use Rattle.pivot_dispatch.specs.declared.pivot.What.{What}
@@ -32,11 +32,6 @@ pub use Rattle.uc_model.specs.declared.instance.Instance.{Instance}
 -- after its first evaluation the node goes on: there are later ones, or its leaf is open still
 abbrev pub GoesOn : TreeView → ℕ → List Entry → Type 0
 GoesOn tree number later = (0 < length later) ⊎ IsOpenAt tree.nodes number
-
--- a commitment at the node: each thermal unit has a pattern, which is allowed and agrees with the node's decisions
-pub record IsCommitmentAt (instance : Instance) (node : Node) (patterns : List Pattern) : Type 0 where
-  pub count : length patterns ≡ thermal_count instance
-  pub each : (g : ℕ) → g < thermal_count instance → IsPatternAt instance node g (commitment_at patterns g)
 
 -- an evaluation of value v is at the table of the exact dispatch's answer, and the node goes on only where this doesn't close it: where the cost that
 -- is printed isn't within the gap of the bound, or the ray's value isn't above 0. An answer Wide says nothing
@@ -50,7 +45,7 @@ IsByAnswer instance gap is_table goes_on v (Wide what size other pivots) = Unit 
 abbrev pub IsExactFirst : Instance → ℕ → (Table → Type 0) → Node → Type 0 → Outcome → Type 0
 IsExactFirst instance gap is_table node goes_on (Value v) =
     (patterns : List Pattern)
-    × (IsCommitmentAt instance node patterns
+    × (ArePatternsAt instance node patterns
     × ((pivot : Pivot) × (IsAnswer instance patterns pivot × IsByAnswer instance gap is_table goes_on v pivot)))
 IsExactFirst instance gap is_table node goes_on (Empty g) = ¬ goes_on
 
@@ -76,7 +71,7 @@ pub record IsEvaluated (instance : Instance) (tree : TreeView) (log : List Entry
   pub is_node : IsNodeAt tree number node
   pub decided : ¬ HasFreeCell tree number
   pub evaluated : 0 < length (entries_of log number)
-  pub commitment : IsCommitmentAt instance node patterns
+  pub commitment : ArePatternsAt instance node patterns
 
 -- the budget is enough for each node of a whole tree; each unit's start rows are regular; and of the commitments that the search evaluates, the
 -- exact dispatch of none meets a limit, and the tolerance of each one's printed cost covers the roundings
