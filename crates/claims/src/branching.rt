@@ -1,5 +1,6 @@
 //! The cell that a node is split on.
 
+use decided_nodes::decides;
 use dual_model::Node;
 use uc_model::{Instance, WHOLE_SHARE};
 
@@ -30,7 +31,7 @@ pub(crate) fn most_divided(
             let moved = i128::from(part)
                 .saturating_mul(i128::from(row.divided_round(t as usize, reach)))
                 .saturating_mul(i128::from(unit.pmax));
-            if part > least && moved > most && !is_decided(node, g, t) {
+            if part > least && moved > most && !decides(node, g, t) {
                 best = Some((g, t));
                 most = moved;
             }
@@ -70,12 +71,4 @@ impl Row<'_> {
         }
         sum
     }
-}
-
-/// Whether the node decides the cell.
-pub(crate) fn is_decided(node: &Node, g: u32, t: u32) -> bool {
-    node.fixings
-        .as_slice()
-        .iter()
-        .any(|fixing| fixing.g == g && fixing.t == t)
 }

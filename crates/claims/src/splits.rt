@@ -1,6 +1,11 @@
 //! The cell that a node is split on, where its claim doesn't close it.
 
-use crate::branching::{is_decided, most_divided};
+ghost use Rattle.std.specs.Prelude.{◌≡◌, ◌≤◌, true, None};
+ghost use Rattle.uc_model.specs.Limits.{IsLawfulInstance};
+ghost use Rattle.decided_nodes.specs.Decided.{DecidesEach};
+
+use crate::branching::most_divided;
+use decided_nodes::{decides, free_cell};
 use dual_model::Node;
 use search_core::limits::NODE_ENTRIES;
 use uc_model::{Instance, LEAST_DIVIDED_SHARE};
@@ -23,14 +28,17 @@ pub struct Branching {
 
 /// The cell, a thermal unit and a period from 0, that a node is split on which its claim doesn't close; none where it is to be left whole. Of
 /// the node the decisions are known, and how many entries the log had of it before: it is split where the hints say on which cell, and
-/// where it had all the entries that it may have.
+/// where it had all the entries that it may have. Where it is both ripe and late it is left whole only if it decides each cell.
 pub fn split_cell(
     instance: &Instance,
     path: &Node,
     had: u32,
     branching: Branching,
     hints: Hints,
-) -> Option<(u32, u32)> {
+) -> Option<(u32, u32)>
+    requires { IsLawfulInstance instance.now }
+    ensures { branching.ripe ≤ had → branching.late ≤ had → result ≡ None → DecidesEach instance.now path.now }
+{
     if had >= branching.ripe {
         if let Some(cell) = undecided(path, hints.cell) {
             return Some(cell);
@@ -42,37 +50,28 @@ pub fn split_cell(
     if (had as usize).saturating_add(1) < NODE_ENTRIES {
         return None;
     }
-    first_undecided(instance, path)
+    free_cell(instance, path)
 }
 
 // The cell, where it is undecided.
 fn undecided(path: &Node, cell: Option<(u32, u32)>) -> Option<(u32, u32)> {
     let (g, t) = cell?;
-    if is_decided(path, g, t) {
+    if decides(path, g, t) {
         None
     } else {
         Some((g, t))
     }
 }
 
-// The cell that the shares of the ascent divide most; late it may be one that they divide hardly at all, and then it is the first one.
-fn divided(instance: &Instance, path: &Node, shares: &[i64], late: bool) -> Option<(u32, u32)> {
+// The cell that the shares of the ascent divide most; late it may be one that they divide hardly at all, and then any one.
+fn divided(instance: &Instance, path: &Node, shares: &[i64], late: bool) -> Option<(u32, u32)>
+    requires { IsLawfulInstance instance.now }
+    ensures { late ≡ true → result ≡ None → DecidesEach instance.now path.now }
+{
     let least = if late { 0 } else { LEAST_DIVIDED_SHARE };
     match most_divided(instance, path, shares, least) {
         Some(cell) => Some(cell),
-        None if late => first_undecided(instance, path),
+        None if late => free_cell(instance, path),
         None => None,
     }
-}
-
-// The first cell that the path leaves undecided.
-fn first_undecided(instance: &Instance, path: &Node) -> Option<(u32, u32)> {
-    for g in 0..u32::try_from(instance.thermal.as_slice().len()).ok()? {
-        for t in 0..instance.periods {
-            if !is_decided(path, g, t) {
-                return Some((g, t));
-            }
-        }
-    }
-    None
 }

@@ -7,6 +7,7 @@ ghost use Rattle.book.specs.Calls.{IsHeldUnit};
 ghost use Rattle.decided_nodes.specs.Pivoting.{uses_exact_dispatch};
 ghost use Rattle.found_schedule.specs.Found.{IsFoundIfAny};
 ghost use Rattle.search_desk.specs.Best.{IsNoWorse, cost_of};
+ghost use Rattle.search_desk.specs.Dispatches.{IsExhaustiveFor, IsPivotedBook};
 ghost use Rattle.closing_pass.specs.Closings.{IsEnded, IsLeft, is_finished};
 
 use crate::settling::{Held, Settling};
@@ -41,6 +42,7 @@ impl<C: Run> Progress<C> {
         ensures book { self.new.book ≡ self.old.book }
         ensures best { IsFoundIfAny C.exact_dispatch C.opening.instance self.new.best }
         ensures no_worse { IsNoWorse self.old.best self.new.best }
+        ensures lower { IsNoWorse found self.new.best }
     {
         let best = self.best.take();
         self.best = cheaper(best, found);
@@ -82,9 +84,12 @@ pub fn close<C: Run, R: Wait, G: Gate>(
     requires budget { closing.budget ≡ C.opening.budget }
     requires kind { closing.exact ≡ C.exact }
     requires dispatch { uses_exact_dispatch closing.pivoting ≡ C.exact_dispatch }
+    requires exhaustive { IsExhaustiveFor C.exact_dispatch C.opening closing.pivoting }
     requires left { IsLeft C.exact C.opening progress.old.book (cost_of progress.old.best) C.opening.budget }
+    requires pivoted { IsPivotedBook C.exact_dispatch C.opening progress.old.book }
     requires found { IsFoundIfAny C.exact_dispatch C.opening.instance progress.old.best }
     ensures ended { IfOk result (λ _. IsEnded C.exact C.opening progress.new.book progress.new.best) }
+    ensures pivoted { IfOk result (λ _. IsPivotedBook C.exact_dispatch C.opening progress.new.book) }
     ensures found { IfOk result (λ _. IsFoundIfAny C.exact_dispatch C.opening.instance progress.new.best) }
     ensures no_worse { IfOk result (λ _. IsNoWorse progress.old.best progress.new.best) }
 {
@@ -120,6 +125,7 @@ fn next<C: Run, R: Wait, G: Gate>(
     ensures best { progress.new.best ≡ progress.old.best }
     ensures left { (limit : ℕ) → IsLeft C.exact C.opening progress.old.book (cost_of progress.old.best) limit
         → IsLeft C.exact C.opening progress.new.book (cost_of progress.old.best) limit }
+    ensures pivoted { IsPivotedBook C.exact_dispatch C.opening progress.old.book → IsPivotedBook C.exact_dispatch C.opening progress.new.book }
     ensures log { progress.new.book.log ≡ progress.old.book.log }
 {
     tree_runs_hold();

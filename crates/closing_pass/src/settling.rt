@@ -1,10 +1,11 @@
 //! How a claim that is still held is evaluated and committed.
 
-ghost use Rattle.std.specs.Prelude.{◌≡◌, ◌≢◌, ◌⊎◌, ◌+◌, ◌*◌, ◌<◌, ◌≤◌, Bool, IfOk, IfSome, MatchOption, length};
+ghost use Rattle.std.specs.Prelude.{◌≡◌, ◌≢◌, ◌⊎◌, ◌+◌, ◌*◌, ◌<◌, ◌≤◌, Bool, IfOk, MatchOption, None, length};
 ghost use Rattle.uc_model.specs.Limits.{IsLawfulInstance};
 ghost use Rattle.uc_model.specs.declared.tolerance.TheConstants.{WHOLE_GAP};
 ghost use Rattle.branch_tree.specs.NumberedTree.{node_count};
-ghost use Rattle.branch_tree.specs.TreeView.{IsFreeAt};
+ghost use Rattle.branch_tree.specs.StoredTree.{IsNodeAt};
+ghost use Rattle.branch_tree.specs.TreeView.{HasFreeCell, IsFreeAt, IsSizeOf};
 ghost use Rattle.dual_model.specs.Fixings.{IsNodeOf};
 ghost use Rattle.dual_model.specs.Prices.{IsLawfulTable};
 ghost use Rattle.search_core.specs.Machine.{entries_of, stored_at};
@@ -15,11 +16,14 @@ ghost use Rattle.book.specs.BookView.{state_of};
 ghost use Rattle.book.specs.Calls.{IsCommitted, IsHeldUnit, MayCommit};
 ghost use Rattle.opening.specs.Outcomes.{IsOutcomeAt};
 ghost use Rattle.decided_nodes.specs.Pivoting.{uses_exact_dispatch};
+ghost use Rattle.decided_nodes.specs.declared.pivoting.Pivoting.TheVariants.{Exhaustive};
 ghost use Rattle.found_schedule.specs.Found.{IsFoundIfAny};
 ghost use Rattle.search_desk.specs.Best.{IsNoWorse, cost_of};
+ghost use Rattle.search_desk.specs.Commits.{move_for};
 ghost use Rattle.search_desk.specs.Desks.{AreLaterScaled, IsPrunedBy};
+ghost use Rattle.search_desk.specs.Dispatches.{IsExhaustiveFor, IsPivotedBook};
 ghost use Rattle.closing_pass.specs.Closings.{IsLeft};
-ghost use Rattle.closing_pass.specs.inside.Tables.{IsHolding, IsNewScale, IsTrialAt};
+ghost use Rattle.closing_pass.specs.inside.Tables.{IsExactTrialAt, IsHolding, IsNewScale, IsTrialAt, IsUndispatchedAt};
 
 use crate::closing::{Closing, Progress};
 use book::Book;
@@ -86,8 +90,11 @@ impl Settling<'_> {
         requires held { IsHeldUnit progress.old.book self.now.held.unit self.now.held.worker self.now.held.node self.now.held.had }
         requires few { self.now.scale ≤ 3 * MAX_BUDGET }
         requires left { IsLeft C.exact C.opening progress.old.book (cost_of progress.old.best) self.now.scale }
+        requires exhaustive { IsExhaustiveFor C.exact_dispatch C.opening self.now.closing.pivoting }
+        requires pivoted { IsPivotedBook C.exact_dispatch C.opening progress.old.book }
         requires found { IsFoundIfAny C.exact_dispatch C.opening.instance progress.old.best }
         ensures left { IfOk result (IsLeft C.exact C.opening progress.new.book (cost_of progress.new.best)) }
+        ensures pivoted { IfOk result (λ _. IsPivotedBook C.exact_dispatch C.opening progress.new.book) }
         ensures used { IfOk result (λ used. used ≤ self.now.scale + 2) }
         ensures found { IfOk result (λ _. IsFoundIfAny C.exact_dispatch C.opening.instance progress.new.best) }
         ensures no_worse { IfOk result (λ _. IsNoWorse progress.old.best progress.new.best) }
@@ -115,8 +122,7 @@ impl Settling<'_> {
         Ok(used)
     }
 
-    // What the node is evaluated at: the table of an exact dispatch, where there is one; the table that it stores, where it wasn't evaluated yet; or
-    // that of an ascent from it.
+    // What the node is evaluated at: the table of an exact dispatch, where there is one, or else one that isn't.
     fn trial<C: Run>(
         &self,
         alloc: Global,
@@ -128,21 +134,15 @@ impl Settling<'_> {
         requires held { IsHeldUnit book.now self.now.held.unit self.now.held.worker self.now.held.node self.now.held.had }
         requires within { self.now.held.node < node_count book.now.tree.nodes }
         requires holding { IsHolding C.opening.instance book.now self.now.held.unit holding.now }
+        requires size { IsSizeOf book.now.tree C.opening.instance }
         requires few { self.now.scale ≤ 3 * MAX_BUDGET }
         requires later { AreLaterScaled self.now.scale book.now.tables book.now.log }
-        ensures { IfOk result (IsTrialAt self.now.closing.exact C.exact_dispatch C.opening.instance book.now self.now) }
+        ensures { IfOk result (IsExactTrialAt self.now.closing.exact C.exact_dispatch C.opening.instance book.now self.now holding.now.path) }
     {
-        if let Some(trial) = self.dispatched(alloc, book, &holding.path)? {
-            return Ok(trial);
+        match self.dispatched(alloc, book, &holding.path)? {
+            Some(trial) => Ok(trial),
+            None => self.priced(alloc, book, holding),
         }
-        if self.held.node != 0 && self.held.had == 0 {
-            return Ok(Trial {
-                table: holding.stored.copy(alloc)?,
-                used: self.scale + 1,
-                found: None,
-            });
-        }
-        self.ascended(alloc, book, holding)
     }
 
     // The exact dispatch, at the first claim of a node at which each cell is decided, where the search uses it.
@@ -156,10 +156,13 @@ impl Settling<'_> {
         requires lawful { IsLawfulInstance C.opening.instance }
         requires dispatch { uses_exact_dispatch self.now.closing.pivoting ≡ C.exact_dispatch }
         requires path { IsNodeOf C.opening.instance path.now }
+        requires at { IsNodeAt book.now.tree self.now.held.node path.now }
+        requires size { IsSizeOf book.now.tree C.opening.instance }
         requires within { self.now.held.node < node_count book.now.tree.nodes }
         requires count { self.now.held.had ≡ length (entries_of book.now.log self.now.held.node) }
         requires few { self.now.scale ≤ 3 * MAX_BUDGET }
-        ensures { IfOk result (λ trial. IfSome trial (IsTrialAt self.now.closing.exact C.exact_dispatch C.opening.instance book.now self.now)) }
+        ensures { IfOk result (λ trial. MatchOption trial (IsUndispatchedAt C.exact_dispatch C.opening.instance self.now path.now)
+            (IsExactTrialAt self.now.closing.exact C.exact_dispatch C.opening.instance book.now self.now path.now)) }
     {
         if self.held.had > 0 || !self.closing.pivoting.is_on() {
             return Ok(None);
@@ -175,6 +178,30 @@ impl Settling<'_> {
             })),
             None => Ok(None),
         }
+    }
+
+    // What the node is evaluated at without an exact dispatch: the table that it stores, where it wasn't evaluated yet; or that of an ascent from it.
+    fn priced<C: Run>(
+        &self,
+        alloc: Global,
+        book: &Book<C>,
+        holding: &Holding,
+    ) -> Result<Trial, NoMemory>
+        requires instance { self.now.instance.now ≡ C.opening.instance }
+        requires held { IsHeldUnit book.now self.now.held.unit self.now.held.worker self.now.held.node self.now.held.had }
+        requires holding { IsHolding C.opening.instance book.now self.now.held.unit holding.now }
+        requires few { self.now.scale ≤ 3 * MAX_BUDGET }
+        requires later { AreLaterScaled self.now.scale book.now.tables book.now.log }
+        ensures { IfOk result (IsTrialAt self.now.closing.exact C.exact_dispatch C.opening.instance book.now self.now) }
+    {
+        if self.held.node != 0 && self.held.had == 0 {
+            return Ok(Trial {
+                table: holding.stored.copy(alloc)?,
+                used: self.scale + 1,
+                found: None,
+            });
+        }
+        self.ascended(alloc, book, holding)
     }
 
     // The table of an ascent, whose scale no entry of the node has: a first entry may have one of two, but not both.
@@ -249,8 +276,9 @@ impl Settling<'_> {
     fn split_cell<C: Run>(&self, book: &Book<C>) -> Option<(u32, u32)>
         requires within { self.now.held.node < node_count book.now.tree.nodes }
         requires count { self.now.held.had ≡ length (entries_of book.now.log self.now.held.node) }
-        ensures { MatchOption result (MayGoOn (state_of book.now) self.now.held.node)
+        ensures cell { MatchOption result (MayGoOn (state_of book.now) self.now.held.node)
             (λ cell. IsFreeAt book.now.tree self.now.held.node cell.0 cell.1) }
+        ensures exhaustive { self.now.closing.pivoting ≡ Exhaustive → result ≡ None → ¬ HasFreeCell book.now.tree self.now.held.node }
     {
         let may_go_on = (self.held.had as usize) + 1 < NODE_ENTRIES;
         if may_go_on && self.closing.pivoting != Pivoting::Exhaustive {
@@ -268,6 +296,7 @@ impl Settling<'_> {
             (λ cell. IsFreeAt progress.now.book.tree self.now.held.node cell.0 cell.1) }
         ensures legal { (exact : Bool) → IsMoveLegal (λ cost. Unit {0}) (state_of progress.now.book) self.now.held.node done.now.table exact done.now.outcome result }
         ensures pruned { IsPrunedBy (cost_of progress.now.best) result }
+        ensures is { result ≡ move_for (cost_of progress.now.best) self.now.closing.gap bound.now done.now }
     {
         let stored = stored_bound(bound, done);
         ending(progress.cost(), stored, self.closing.gap, done)

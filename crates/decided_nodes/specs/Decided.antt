@@ -1,8 +1,9 @@
 -- The exact dispatch at a node at which each cell is decided. Source: branch and bound on the commitment variables of the reference model by
 -- Knueven, Ostrowski and Watson, whose leaves are linear programs.
-use Rattle.std.specs.Prelude.{◌≡◌, ℕ, ◌<◌, IsTrue, IfSome, List, true, length, None}
+use Rattle.std.specs.Prelude.{◌≡◌, ℕ, ◌<◌, ◌⊎◌, IsTrue, List, ℤ, true, false, length, None, Some}
+use Rattle.uc_model.specs.PrintedSchedule.{printed_cost}
 use Rattle.uc_model.specs.Schedule.{thermal_count}
-use Rattle.dual_model.specs.Fixings.{IsPatternAt}
+use Rattle.dual_model.specs.Fixings.{IsPatternAt, HasEmptyUnit}
 use Rattle.dual_model.specs.Prices.{IsLawfulTable}
 use Rattle.dual_model.specs.Tree.{is_decided}
 pub use Rattle.dual_model.specs.declared.node.Node.{Node}
@@ -10,6 +11,7 @@ use Rattle.dispatch_rules.specs.CommitmentTask.{commitment_at}
 use Rattle.pivot_dispatch.specs.Answers.{IsAnswer}
 pub use Rattle.pivot_dispatch.specs.Commitments.{Instance, Pattern}
 use Rattle.pivot_dispatch.specs.declared.pivot.Pivot.{Pivot}
+use Rattle.pivot_dispatch.specs.declared.pivot.What.{What}
 use Rattle.pivot_dispatch.specs.declared.pivot.Pivot.TheVariants.{Best, Ray, Wide}
 use Rattle.found_schedule.specs.Found.{IsFoundIfAny}
 use Rattle.decided_nodes.specs.declared.decided.Decided.{Decided}
@@ -23,17 +25,25 @@ DecidesBelow node g periods = (t : ℕ) → t < periods → IsTrue (is_decided n
 abbrev pub DecidesEach : Instance → Node → Type 0
 DecidesEach instance node = (g : ℕ) → g < thermal_count instance → DecidesBelow node g instance.periods
 
+-- it leaves the unit undecided in this one of the first periods
+abbrev pub IsFreeBelow : Node → ℕ → ℕ → ℕ → Type 0
+IsFreeBelow node g periods t = (t < periods) × (is_decided node g t ≡ false)
+
+-- and this cell of the instance
+abbrev pub IsFreeCell : Instance → Node → (ℕ × ℕ) → Type 0
+IsFreeCell instance node cell = (cell.0 < thermal_count instance) × IsFreeBelow node cell.0 instance.periods cell.1
+
 -- a pattern of each unit at the node
 pub record ArePatternsAt (instance : Instance) (node : Node) (patterns : List Pattern) : Type 0 where
   pub count : length patterns ≡ thermal_count instance
   pub each : (g : ℕ) → g < thermal_count instance → IsPatternAt instance node g (commitment_at patterns g)
 
 -- ---- its dispatch
--- what is told is the table of prices, with the schedule where there is one to let out; or the ray
-abbrev pub IsToldBy : Pivot → Decided → Type 0
-IsToldBy (Best printed table) told = (told.table ≡ table) × IfSome told.schedule (λ pair. pair.0 ≡ printed)
-IsToldBy (Ray table) told = (told.table ≡ table) × (told.schedule ≡ None)
-IsToldBy (Wide what size other pivots) told = ⊥
+-- what is told is the table of prices, with the schedule and its printed cost; or the ray
+abbrev pub IsToldBy : Instance → Pivot → Decided → Type 0
+IsToldBy instance (Best printed table) told = (told.table ≡ table) × (told.schedule ≡ Some (printed, printed_cost instance printed))
+IsToldBy instance (Ray table) told = (told.table ≡ table) × (told.schedule ≡ None)
+IsToldBy instance (Wide what size other pivots) told = ⊥
 
 -- the exact dispatch of the patterns at the node: a lawful table, and a schedule that obeys, in whole numbers over a denominator
 pub record IsDecided (instance : Instance) (node : Node) (told : Decided) : Type 0 where
@@ -43,4 +53,22 @@ pub record IsDecided (instance : Instance) (node : Node) (told : Decided) : Type
   pub are : ArePatternsAt instance node patterns
   pub pivot : Pivot
   pub answer : IsAnswer instance patterns pivot
-  pub is : IsToldBy pivot told
+  pub is : IsToldBy instance pivot told
+
+-- its run meets a limit
+pub record IsWideAt (instance : Instance) (node : Node) : Type 0 where
+  pub patterns : List Pattern
+  pub are : ArePatternsAt instance node patterns
+  pub what : What
+  pub size : ℤ
+  pub other : ℤ
+  pub pivots : ℕ
+  pub answer : IsAnswer instance patterns (Wide what size other pivots)
+
+-- why there is none: a cell is undecided, a unit has no pattern at the node, or a limit is met
+abbrev pub IsUndispatched : Instance → Node → Type 0
+IsUndispatched instance node = (¬ DecidesEach instance node) ⊎ (HasEmptyUnit instance node ⊎ IsWideAt instance node)
+
+-- where each cell is decided, these are its exact dispatch's, or there is none
+abbrev pub IsDispatched : Instance → Node → Decided → Type 0
+IsDispatched instance node told = IsDecided instance node told ⊎ (HasEmptyUnit instance node ⊎ IsWideAt instance node)

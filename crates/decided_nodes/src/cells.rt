@@ -1,40 +1,40 @@
 //! Which cells a node decides.
 
-ghost use Rattle.std.specs.Prelude.{◌≡◌, ◌↔◌, IsTrue};
+ghost use Rattle.std.specs.Prelude.{◌≡◌, MatchOption};
 ghost use Rattle.uc_model.specs.Limits.{IsLawfulInstance};
 ghost use Rattle.dual_model.specs.Tree.{is_decided};
-ghost use Rattle.decided_nodes.specs.Decided.{DecidesEach, DecidesBelow};
+ghost use Rattle.decided_nodes.specs.Decided.{DecidesBelow, DecidesEach, IsFreeBelow, IsFreeCell};
 
 use dual_model::Node;
 use uc_model::Instance;
 
-/// Whether the node decides each cell of the instance.
-pub fn decides_each(instance: &Instance, node: &Node) -> bool
+/// A cell of the instance that the node leaves undecided, its thermal unit and its period, each from 0; none exactly where it decides each.
+pub fn free_cell(instance: &Instance, node: &Node) -> Option<(u32, u32)>
     requires { IsLawfulInstance instance.now }
-    ensures { IsTrue result ↔ DecidesEach instance.now node.now }
+    ensures { MatchOption result (DecidesEach instance.now node.now) (IsFreeCell instance.now node.now) }
 {
     for g in 0..instance.thermal.as_slice().len() as u32 {
-        if !decides_unit(node, g, instance.periods) {
-            return false;
+        if let Some(t) = free_period(node, g, instance.periods) {
+            return Some((g, t));
         }
     }
-    true
+    None
 }
 
-// Whether the node decides the unit's cells of so many periods.
-fn decides_unit(node: &Node, g: u32, periods: u32) -> bool
-    ensures { IsTrue result ↔ DecidesBelow node.now g periods }
+// The first period, of so many, in which the node leaves the unit undecided.
+fn free_period(node: &Node, g: u32, periods: u32) -> Option<u32>
+    ensures { MatchOption result (DecidesBelow node.now g periods) (IsFreeBelow node.now g periods) }
 {
     for t in 0..periods {
         if !decides(node, g, t) {
-            return false;
+            return Some(t);
         }
     }
-    true
+    None
 }
 
-// Whether the node decides the cell.
-fn decides(node: &Node, g: u32, t: u32) -> bool
+/// Whether the node decides the cell of the unit and the period, each from 0.
+pub fn decides(node: &Node, g: u32, t: u32) -> bool
     ensures { result ≡ is_decided node.now g t }
 {
     node.fixings

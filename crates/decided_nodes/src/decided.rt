@@ -1,13 +1,15 @@
 //! The exact dispatch of the commitment that a node decides.
 
-ghost use Rattle.std.specs.Prelude.{◌≡◌, IfOk, IfSome, Some};
+ghost use Rattle.std.specs.Prelude.{◌≡◌, IfOk, IfErr, MatchOption};
+ghost use Rattle.std.specs.Option.{option_map};
 ghost use Rattle.uc_model.specs.Limits.{IsLawfulInstance};
 ghost use Rattle.dual_model.specs.Fixings.{IsNodeOf};
-ghost use Rattle.dispatch_rules.specs.CommitmentTask.{AreAllowed};
 ghost use Rattle.dual_model.specs.declared.node.Node.{Node};
-ghost use Rattle.decided_nodes.specs.Decided.{ArePatternsAt, IsDecided};
+ghost use Rattle.dual_value.specs.NodeAnswer.{IsFaultOf};
+ghost use Rattle.dispatch_rules.specs.CommitmentTask.{AreAllowed};
+ghost use Rattle.decided_nodes.specs.Decided.{ArePatternsAt, IsDecided, IsUndispatched, IsWideAt};
 
-use crate::cells::decides_each;
+use crate::cells::free_cell;
 use dual_model::{Node, Table, Valued};
 use dual_value::{ValueFault, value};
 use found_schedule::accepted;
@@ -34,9 +36,9 @@ pub fn exact_dispatch(
 ) -> Result<Option<Decided>, NoMemory>
     requires lawful { IsLawfulInstance instance.now }
     requires node { IsNodeOf instance.now node.now }
-    ensures { IfOk result (λ found. IfSome found (IsDecided instance.now node.now)) }
+    ensures { IfOk result (λ found. MatchOption found (IsUndispatched instance.now node.now) (IsDecided instance.now node.now)) }
 {
-    if !decides_each(instance, node) {
+    if free_cell(instance, node).is_some() {
         return Ok(None);
     }
     match patterns(alloc, instance, node) {
@@ -50,7 +52,8 @@ pub fn exact_dispatch(
 fn patterns(alloc: Global, instance: &Instance, node: &Node) -> Result<List<Pattern>, ValueFault>
     requires lawful { IsLawfulInstance instance.now }
     requires node { IsNodeOf instance.now node.now }
-    ensures { IfOk result (ArePatternsAt instance.now node.now) }
+    ensures patterns { IfOk result (ArePatternsAt instance.now node.now) }
+    ensures fault { IfErr result (IsFaultOf instance.now node.now) }
 {
     let table = zero(alloc, instance)?;
     let mut scratch = Scratch::new(alloc, instance.periods as usize)?;
@@ -58,7 +61,7 @@ fn patterns(alloc: Global, instance: &Instance, node: &Node) -> Result<List<Patt
     Ok(patterns)
 }
 
-// The exact dispatch of these patterns.
+// The exact dispatch of these patterns; none where its run meets a limit.
 fn dispatched(
     alloc: Global,
     instance: &Instance,
@@ -66,7 +69,8 @@ fn dispatched(
 ) -> Result<Option<Decided>, NoMemory>
     requires lawful { IsLawfulInstance instance.now }
     requires allowed { AreAllowed instance.now patterns.now }
-    ensures { (node : Node) → ArePatternsAt instance.now node patterns.now → IfOk result (λ found. IfSome found (IsDecided instance.now node)) }
+    ensures { (node : Node) → ArePatternsAt instance.now node patterns.now
+        → IfOk result (λ found. MatchOption found (IsWideAt instance.now node) (IsDecided instance.now node)) }
 {
     match best(alloc, instance, patterns)? {
         Pivot::Best { schedule, table } => {
@@ -86,8 +90,7 @@ fn dispatched(
 
 // The schedule with its cost, where it has one.
 fn priced(schedule: Printed, cost: Option<i64>) -> Option<(Printed, i64)>
-    ensures is { IfSome result (λ pair. pair.0 ≡ schedule) }
-    ensures cost { IfSome result (λ pair. cost ≡ Some pair.1) }
+    ensures { result ≡ option_map (λ cost. (schedule, cost)) cost }
 {
     match cost {
         Some(cost) => Some((schedule, cost)),

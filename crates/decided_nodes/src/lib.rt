@@ -5,6 +5,6 @@ mod cells;
 mod decided;
 mod pivoting;
 
-pub use cells::decides_each;
+pub use cells::{decides, free_cell};
 pub use decided::{Decided, exact_dispatch};
 pub use pivoting::Pivoting;

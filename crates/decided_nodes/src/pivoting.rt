@@ -1,13 +1,11 @@
 //! How a search uses the exact dispatch.
 
-ghost use Rattle.std.specs.Prelude.{◌≡◌};
+ghost use Rattle.std.specs.Prelude.{◌≡◌, ◌≤◌, ◌↔◌, IsTrue};
 ghost use Rattle.uc_model.specs.Limits.{IsLawfulInstance};
-ghost use Rattle.decided_nodes.specs.Pivoting.{uses_exact_dispatch};
+ghost use Rattle.decided_nodes.specs.Pivoting.{node_limit, uses_exact_dispatch};
+ghost use Rattle.decided_nodes.specs.declared.pivoting.Pivoting.TheVariants.{Exhaustive};
 
 use uc_model::Instance;
-
-/// In a system of more cells no budget has a claim for each node of the tree.
-const MOST_CELLS: u32 = 18;
 
 /// Whether the first claim on a node at which each cell is decided takes the exact dispatch of its commitment.
 #[derive(Clone, Copy, Debug, PartialEq, Eq)]
@@ -24,15 +22,13 @@ impl Pivoting {
     /// That of a search with this budget of claims, which uses the exact dispatch where that is asked.
     pub fn of(is_asked: bool, instance: &Instance, budget: u32) -> Pivoting
         requires { IsLawfulInstance instance.now }
-        ensures { uses_exact_dispatch result ≡ is_asked }
+        ensures asked { uses_exact_dispatch result ≡ is_asked }
+        ensures exhaustive { (result ≡ Exhaustive) ↔ (IsTrue is_asked × (node_limit instance.now ≤ budget)) }
     {
-        if !is_asked {
-            return Pivoting::Off;
-        }
-        if has_claim_for_each(instance, budget) {
-            Pivoting::Exhaustive
-        } else {
-            Pivoting::On
+        match (is_asked, has_claim_for_each(instance, budget)) {
+            (false, _) => Pivoting::Off,
+            (true, false) => Pivoting::On,
+            (true, true) => Pivoting::Exhaustive,
         }
     }
 
@@ -51,8 +47,11 @@ impl Pivoting {
 // Whether the budget is at least 2 to the number of cells and 1, so that each node of a tree on them can have a claim.
 fn has_claim_for_each(instance: &Instance, budget: u32) -> bool
     requires { IsLawfulInstance instance.now }
+    ensures { IsTrue result ↔ (node_limit instance.now ≤ budget) }
 {
     let units = instance.thermal.as_slice().len() as u32;
-    let cells = units.saturating_mul(instance.periods);
-    cells <= MOST_CELLS && budget >= 2 << cells
+    match 2_u32.checked_pow(units * instance.periods + 1) {
+        Some(limit) => limit <= budget,
+        None => false,
+    }
 }

@@ -24,12 +24,16 @@ pub record HasFoundNumbers (printed : Printed) : Type 0 where
   pub least : 1 ≤ printed.denominator
   pub most : printed.denominator ≤ 99
 
+-- what is printed obeys
+abbrev pub IsObeying : Instance → Printed → Type 0
+IsObeying instance printed =
+    let q = printed_denominator instance printed in
+    Obeys instance q (printed_schedule instance printed q)
+
 -- a schedule of the instance that obeys, with its printed cost; where no exact dispatch is let out, in whole watts
 pub record IsFound (exact_dispatch : Bool) (instance : Instance) (printed : Printed) (cost : ℤ) : Type 0 where
   pub shape : HasShapeOf instance printed
-  pub obeys :
-      let q = printed_denominator instance printed in
-      Obeys instance q (printed_schedule instance printed q)
+  pub obeys : IsObeying instance printed
   pub cost_is : cost ≡ printed_cost instance printed
   pub numbers : HasFoundNumbers printed
   pub size : unsigned_abs cost ≤ COST_MAX

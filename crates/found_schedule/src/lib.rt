@@ -1,6 +1,6 @@
 //! What a search lets out: a schedule that obeys, with its cost, in whole watts or, by the exact dispatch, over a denominator.
 #![tactic(auto)]
 
-mod over;
+mod obeying;
 
-pub use over::accepted;
+pub use obeying::accepted;

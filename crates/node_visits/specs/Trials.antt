@@ -1,14 +1,21 @@
 -- What a claim is evaluated at.
-use Rattle.std.specs.Prelude.{◌≡◌, ℕ, ◌+◌, ◌≤◌, Bool, pos, IfSome, Option, None, Some}
+use Rattle.std.specs.Prelude.{◌≡◌, ℕ, ◌+◌, ◌≤◌, Bool, true, pos, IfSome, Option, None, Some}
 use Rattle.uc_model.specs.declared.instance.Instance.{Instance}
 use Rattle.dual_model.specs.Prices.{IsLawfulTable}
 use Rattle.dual_model.specs.declared.table.Table.{Table}
 use Rattle.prices.specs.declared.ascent.Ascent.{Ascent}
+use Rattle.decided_nodes.specs.Decided.{DecidesEach}
+use Rattle.decided_nodes.specs.Pivoting.{uses_exact_dispatch}
+use Rattle.decided_nodes.specs.declared.pivoting.Pivoting.{Pivoting}
+use Rattle.decided_nodes.specs.declared.pivoting.Pivoting.TheVariants.{Exhaustive}
 use Rattle.search_core.specs.Runs.{IsTrueOutcome}
 use Rattle.opening.specs.Outcomes.{IsSized}
 use Rattle.search_desk.specs.declared.desk.Claim.{Claim}
 use Rattle.search_desk.specs.declared.desk.Evaluated.{Evaluated}
+use Rattle.search_desk.specs.Best.{cost_of}
 use Rattle.search_desk.specs.Desks.{IsLaterWithin}
+use Rattle.search_desk.specs.Dispatches.{IsByDispatch}
+use Rattle.node_visits.specs.declared.visit.Visited.{Visited}
 
 -- an ascent to a lawful table, whose scale is that of the claim of this unit, with a lawful ray if it ran off
 pub record IsAscentFor (instance : Instance) (unit : ℕ) (ascent : Ascent) : Type 0 where
@@ -32,3 +39,10 @@ pub record IsEvaluatedFor (exact : Bool) (instance : Instance) (claim : Claim) (
   pub table : IsTableFor instance claim done.table
   pub told : IsTrueOutcome exact instance claim.path done.table done.outcome
   pub sized : IsSized done.outcome
+
+-- an exhaustive search has a cell to split the node on, unless each is decided; and the first evaluation of such a node is by the exact dispatch,
+-- where the search uses it, with its schedule
+pub record IsVisitedBy (pivoting : Pivoting) (instance : Instance) (claim : Claim) (visited : Visited) : Type 0 where
+  pub direct : pivoting ≡ Exhaustive → visited.done.cell ≡ None → DecidesEach instance claim.path
+  pub exact : uses_exact_dispatch pivoting ≡ true → claim.had ≡ 0 → DecidesEach instance claim.path
+      → IsByDispatch instance claim.path (cost_of visited.found) visited.done.table visited.done.outcome

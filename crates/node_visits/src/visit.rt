@@ -1,14 +1,15 @@
 //! The evaluation of a node that is held: at which table, and what came out.
 
-ghost use Rattle.std.specs.Prelude.{◌≡◌, ◌≤◌, pos, IfOk, IfSome};
+ghost use Rattle.std.specs.Prelude.{◌≡◌, ◌≤◌, pos, IfOk, IfSome, MatchOption};
 ghost use Rattle.uc_model.specs.Limits.{IsLawfulInstance};
 ghost use Rattle.uc_model.specs.declared.tolerance.TheConstants.{WHOLE_GAP};
 ghost use Rattle.dual_model.specs.Prices.{IsLawfulTable};
 ghost use Rattle.decided_nodes.specs.Pivoting.{uses_exact_dispatch};
+ghost use Rattle.decided_nodes.specs.declared.pivoting.Pivoting.TheVariants.{Exhaustive};
 ghost use Rattle.found_schedule.specs.Found.{IsFoundIfAny};
 ghost use Rattle.search_desk.specs.Desks.{IsHeldClaim};
-ghost use Rattle.node_visits.specs.Trials.{IsAscentFor, IsEvaluatedFor, IsNextAt, IsTableFor};
-ghost use Rattle.node_visits.specs.inside.Trying.{IsRay, IsTrialFor};
+ghost use Rattle.node_visits.specs.Trials.{IsAscentFor, IsEvaluatedFor, IsNextAt, IsTableFor, IsVisitedBy};
+ghost use Rattle.node_visits.specs.inside.Trying.{IsExactTrial, IsRay, IsTrialFor, IsUndispatchedFor};
 
 use crate::effort::goal;
 use crate::pair::beside;
@@ -33,7 +34,7 @@ const NODES: Branching = Branching { ripe: 1, late: 3 };
 /// One worker splits the root with its third entry, or on any cell with its fourth.
 const ROOT: Branching = Branching { ripe: 2, late: 3 };
 
-/// Several workers split the root at once, and a search that can claim each node splits every node so.
+/// Several workers split the root at once, and a search that can claim each node splits every node so, unless it decides each cell.
 const AT_ONCE: Branching = Branching { ripe: 0, late: 0 };
 
 /// What a claim is evaluated at: the table that its node inherited, a ray, or the table of an ascent or of an exact dispatch; with the ascent that
@@ -106,6 +107,7 @@ pub fn evaluated(
     ensures kept { worker.new ≡ worker.old }
     ensures evaluated { IfOk result (λ visited. IsEvaluatedFor aim.exact worker.old claim.now visited.done) }
     ensures found { IfOk result (λ visited. IsFoundIfAny (uses_exact_dispatch aim.pivoting) worker.old visited.found) }
+    ensures visited { IfOk result (IsVisitedBy aim.pivoting worker.old claim.now) }
 {
     let goal = goal(claim.seen, aim.gap);
     let trial = chosen(alloc, worker, claim, Search { aim, goal }, next)?;
@@ -145,7 +147,9 @@ struct Search {
 }
 
 // After how many entries the node is split.
-fn branching(claim: &Claim, aim: Aim) -> Branching {
+fn branching(claim: &Claim, aim: Aim) -> Branching
+    ensures { aim.pivoting ≡ Exhaustive → (result.ripe ≡ 0) × (result.late ≡ 0) }
+{
     match (aim.pivoting, claim.node, aim.shared) {
         (Pivoting::Exhaustive, _, _) => AT_ONCE,
         (_, 0, true) => AT_ONCE,
@@ -165,7 +169,7 @@ fn chosen(
     requires claim { IsHeldClaim worker.old claim.now }
     requires next { IsNextAt worker.old 1 next.old }
     ensures kept { worker.new ≡ worker.old }
-    ensures trial { IfOk result (IsTrialFor (uses_exact_dispatch search.aim.pivoting) worker.old claim.now) }
+    ensures trial { IfOk result (IsExactTrial (uses_exact_dispatch search.aim.pivoting) worker.old claim.now) }
 {
     match dispatched(alloc, worker.instance(), claim, search.aim.pivoting)? {
         Some(trial) => Ok(trial),
@@ -181,7 +185,8 @@ fn dispatched(
     pivoting: Pivoting,
 ) -> Result<Option<Trial>, NoMemory>
     requires { IsHeldClaim instance.now claim.now }
-    ensures { IfOk result (λ trial. IfSome trial (IsTrialFor (uses_exact_dispatch pivoting) instance.now claim.now)) }
+    ensures { IfOk result (λ trial. MatchOption trial (IsUndispatchedFor (uses_exact_dispatch pivoting) instance.now claim.now)
+        (IsExactTrial (uses_exact_dispatch pivoting) instance.now claim.now)) }
 {
     if claim.had > 0 || !pivoting.is_on() {
         return Ok(None);

@@ -34,7 +34,7 @@ some_not_none : (b : ℤ) → Some b ≡ None → ⊥
 some_not_none b e = cc
 
 -- an entry of a true log is of a node of the tree
-entry_nodes : (instance : Instance) (tree : TreeView) (tables : List Table) (log : List Entry) → All (IsTrueEntry instance tree tables) log
+pub entry_nodes : (instance : Instance) (tree : TreeView) (tables : List Table) (log : List Entry) → All (IsTrueEntry instance tree tables) log
     → All (IsOfNode tree.nodes) log
 entry_nodes instance tree tables [] each = All-nil (IsOfNode tree.nodes)
 entry_nodes instance tree tables (entry ∷ rest) each =

@@ -93,7 +93,7 @@ pub allowed_there : (instance : Instance) (node : Node) (patterns : List Pattern
 allowed_there instance node patterns is = record { count = is.count; allowed = λ g hg. (is.each g hg).allowed }
 
 -- a cell of the instance is decided where none is free
-cell_decided : (tree : TreeView) (instance : Instance) (number : ℕ) (node : Node) (g t : ℕ) → IsSizeOf tree instance → IsNodeAt tree number node
+pub cell_decided : (tree : TreeView) (instance : Instance) (number : ℕ) (node : Node) (g t : ℕ) → IsSizeOf tree instance → IsNodeAt tree number node
     → ¬ HasFreeCell tree number → g < thermal_count instance → t < instance.periods → is_decided node g t ≡ true
 cell_decided tree instance number node g t size at none hg ht = ⊎_elim
     (λ (decided : is_decided node g t ≡ true). decided)

@@ -15,7 +15,8 @@ use Rattle.branch_tree.specs.NumberedTree.{NumberedTree, EndAt, SplitAt, Subtree
 use Rattle.branch_tree.specs.declared.found.Entry.{Entry}
 use Rattle.branch_tree.proofs.Changes.{from_some}
 use Rattle.branch_tree.proofs.Subtrees.{part_counted}
-use Rattle.pivot_closing.specs.TreeSizes.{Instance, cell_count, TreesAreSmall}
+use Rattle.decided_nodes.specs.Pivoting.{cell_count}
+use Rattle.pivot_closing.specs.TreeSizes.{Instance, TreesAreSmall}
 use Rattle.pivot_closing.proofs.Filtering.{filter_both, few_of_each}
 
 -- ---- paths
@@ -137,14 +138,15 @@ node_within tree entry numbered of =
     (λ (past : node_count tree ≤ entry.node). absurd (let none = numbered.none entry.node past in omega arith))
     (cases_lt entry.node (node_count tree))
 
+pub entries_below : (tree : NumberedTree) (log : List Entry) → IsNumbered tree → All (IsOfNode tree) log → All (λ entry. entry.node < node_count tree) log
+entries_below tree [] numbered of = All-nil (λ entry. entry.node < node_count tree)
+entries_below tree (entry ∷ rest) numbered of =
+    All-cons (λ e. e.node < node_count tree) entry rest (node_within tree entry numbered (All-head (IsOfNode tree) entry rest of))
+    (entries_below tree rest numbered (All-tail (IsOfNode tree) entry rest of))
+
 -- where each node has one entry at most, there are no more than nodes
 pub entries_within : (tree : NumberedTree) (log : List Entry) → IsNumbered tree → All (IsOfNode tree) log
     → ((number : ℕ) → number < node_count tree → length (filter (λ entry. entry.node == number) log) ≤ 1) → length log ≤ node_count tree
 entries_within tree log numbered nodes once =
-    let few = few_of_each (λ (entry : Entry). entry.node) 1 (node_count tree) log (within log nodes) once in
+    let few = few_of_each (λ (entry : Entry). entry.node) 1 (node_count tree) log (entries_below tree log numbered nodes) once in
     omega (arith, few)
-  where
-    within : (entries : List Entry) → All (IsOfNode tree) entries → All (λ entry. entry.node < node_count tree) entries
-    within [] of = All-nil (λ entry. entry.node < node_count tree)
-    within (entry ∷ rest) of = All-cons (λ e. e.node < node_count tree) entry rest (node_within tree entry numbered (All-head (IsOfNode tree) entry rest of))
-        (within rest (All-tail (IsOfNode tree) entry rest of))

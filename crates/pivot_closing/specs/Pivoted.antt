@@ -25,7 +25,7 @@ use Rattle.pivot_dispatch.specs.Answers.{IsAnswer}
 use Rattle.pivot_dispatch.specs.declared.pivot.Pivot.{Pivot}
 use Rattle.pivot_dispatch.specs.declared.pivot.What.{What}
 use Rattle.pivot_dispatch.specs.declared.pivot.Pivot.TheVariants.{Best, Ray, Wide}
-use Rattle.pivot_closing.specs.TreeSizes.{cell_count, node_limit}
+use Rattle.decided_nodes.specs.Pivoting.{cell_count, node_limit}
 pub use Rattle.uc_model.specs.declared.instance.Instance.{Instance}
 
 -- ---- the evaluations of a node

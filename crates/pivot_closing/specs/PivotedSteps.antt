@@ -1,10 +1,11 @@
 -- Which commits of the search machine keep to the exact dispatch of decided commitments, and that what the log tells of it is kept by them. This
 -- project's own form of branch and bound.
-use Rattle.std.specs.Prelude.{◌≡◌, ℕ, ◌≤◌, Bool, []}
+use Rattle.std.specs.Prelude.{◌≡◌, ℕ, ◌≤◌, Bool, List, []}
 use Rattle.dual_model.specs.declared.node.Node.{Node}
 use Rattle.dual_model.specs.declared.table.Table.{Table}
 use Rattle.branch_tree.specs.StoredTree.{IsNodeAt}
-use Rattle.branch_tree.specs.TreeView.{HasFreeCell}
+use Rattle.branch_tree.specs.TreeView.{TreeView, HasFreeCell}
+use Rattle.branch_tree.specs.declared.found.Entry.{Entry}
 use Rattle.branch_tree.specs.declared.found.Outcome.{Outcome}
 use Rattle.search_core.specs.Machine.{Machine, IsHolding, entries_of}
 use Rattle.search_core.specs.Moves.{IsFreeFor}
@@ -13,20 +14,21 @@ use Rattle.search_core.specs.Steps.{committed}
 use Rattle.search_core.specs.declared.event.Move.{Move}
 use Rattle.search_core.specs.declared.event.Move.TheVariants.{Again}
 use Rattle.pivot_closing.specs.Pivoted.{Instance, IsExactFirst, IsPivoted}
-use Rattle.pivot_closing.specs.TreeSizes.{node_limit}
+use Rattle.decided_nodes.specs.Pivoting.{node_limit}
 
 -- the move leaves the node open
 abbrev pub IsAgain : Move → Type 0
 IsAgain Again = Unit {0}
 IsAgain _ = ⊥
 
--- a commit of a node that keeps to it
-pub record IsPivotedCommit (instance : Instance) (budget : ℕ) (m : Machine) (node : ℕ) (table : Table) (outcome : Outcome) (action : Move) : Type 0 where
+-- an entry of a node that keeps to it, and the move by which its claim ends, in a tree with this log
+pub record IsPivotedCommit (instance : Instance) (budget gap : ℕ) (tree : TreeView) (log : List Entry) (node : ℕ) (table : Table) (outcome : Outcome)
+    (action : Move) : Type 0 where
   -- where the budget is enough for each node of a whole tree, the first at which a cell is undecided doesn't end in Again
-  pub direct : node_limit instance ≤ budget → HasFreeCell m.tree node → entries_of m.log node ≡ [] → ¬ IsAgain action
+  pub direct : node_limit instance ≤ budget → HasFreeCell tree node → entries_of log node ≡ [] → ¬ IsAgain action
   -- where none is, the first is by the exact dispatch, and ends in Again only where this doesn't close the node
-  pub exact : (here : Node) → IsNodeAt m.tree node here → ¬ HasFreeCell m.tree node → entries_of m.log node ≡ []
-      → IsExactFirst instance m.gap (λ other. table ≡ other) here (IsAgain action) outcome
+  pub exact : (here : Node) → IsNodeAt tree node here → ¬ HasFreeCell tree node → entries_of log node ≡ []
+      → IsExactFirst instance gap (λ other. table ≡ other) here (IsAgain action) outcome
 
 -- at the start, with no entry, it is so
 abbrev pub StartsArePivoted : Type 0
@@ -36,6 +38,6 @@ StartsArePivoted = (instance : Instance) (budget : ℕ) (m : Machine) → m.log 
 abbrev pub CommitsKeepPivoted : Type 0
 CommitsKeepPivoted =
     (instance : Instance) (budget : ℕ) (m : Machine) (worker unit node : ℕ) (table : Table) (exact : Bool) (outcome : Outcome) (action : Move)
-    → IsOrderly m → IsHolding m worker unit node → IsFreeFor m.tree node action → IsPivotedCommit instance budget m node table outcome action
+    → IsOrderly m → IsHolding m worker unit node → IsFreeFor m.tree node action → IsPivotedCommit instance budget m.gap m.tree m.log node table outcome action
     → IsPivoted instance budget m.gap m.tree m.tables m.log
     → (let next = committed m worker unit node table exact outcome action in IsPivoted instance budget m.gap next.tree next.tables next.log)

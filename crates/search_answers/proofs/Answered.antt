@@ -17,6 +17,7 @@ use Rattle.branch_tree.specs.TreeView.{tree_of}
 use Rattle.branch_tree.specs.TrueFound.{IsTrueFound}
 use Rattle.branch_tree.specs.UsedTables.{used_tables}
 use Rattle.branch_tree.specs.declared.layout.Layout.{Layout}
+use Rattle.pivot_closing.proofs.Closing.{closed_statuses, pivoted_searches_close}
 use Rattle.search_core.specs.declared.stored.Stored.{Stored}
 use Rattle.search_core.specs.Moves.{bound_of}
 use Rattle.branch_tree.specs.declared.found.Found.{Found}
@@ -37,7 +38,7 @@ use Rattle.search_answers.specs.Answers.{IsAnswerOf, IsQuiet, told_by}
 use Rattle.search_desk.specs.declared.grown.Grown.{Grown}
 use Rattle.branch_tree.specs.declared.found.Entry.{Entry}
 use Rattle.opening.specs.declared.root_tables.Priced.{Priced}
-use Rattle.search_desk.specs.Grown.{IsGrown}
+use Rattle.search_desk.specs.Grown.{IsGrown, IsPivotedGrown}
 use Rattle.search_answers.specs.Starts.{IsFirstBest}
 use Rattle.decommitment.specs.Standings.{IsDropped, KeepsMostOn, ending_of}
 use Rattle.decommitment.specs.declared.pass.Standing.{Standing}
@@ -134,7 +135,7 @@ searched_found grown stuck layout = record {
 module _ (exact exact_dispatch : Bool) (instance : Instance) (stands : Standing) (opening : Priced) (grown : Grown) (layout : Layout) (budget gap : ℕ)
     (lawful : IsLawfulInstance instance) (dropped : IsDropped instance stands) (is_best : IsBest exact_dispatch instance (ending_of stands) grown.best)
     (opens : IsRootTable instance (ending_of stands) opening.table opening.value) (priced : IsPricedOf instance opening)
-    (is : IsGrown exact instance opening budget gap grown)
+    (is : IsGrown exact instance opening budget gap grown) (pivoted : IsPivotedGrown exact_dispatch instance budget gap grown)
     (of_tree : IsLayoutOf grown.tree layout) (within : All (λ i. i < length grown.tables) layout.tables) where
   abbrev found : Found
   found = searched_found grown (kept_stuck stands) layout
@@ -203,14 +204,22 @@ module _ (exact exact_dispatch : Bool) (instance : Instance) (stands : Standing)
       tables = All-weaker (IsLawfulTable instance) HasFewRows (λ table. few_rows instance table lawful) (written_tables found)
           (written_lawful instance found is.tree.lawful used_within);
     };
+    pivoted = record {
+      told = pivoted.pivoted;
+      closes = λ asked reach.
+          closed_statuses grown.best (tree_bound grown.tree) gap
+          (pivoted_searches_close instance budget gap grown.tree grown.tables grown.log grown.best lawful reach pivoted.size is.tree.whole is.tree.logged
+          (pivoted.pivoted asked) is.spent.spent);
+    };
   }
 
 pub searched_answer : (exact exact_dispatch : Bool) (instance : Instance) (stands : Standing) (stuck : Option Stuck) (opening : Priced) (grown : Grown) (layout : Layout)
     (budget gap : ℕ) → IsLawfulInstance instance → HasEachPattern instance → HasNoBlockedUnit exact instance → HasNoRay exact instance → IsDropped instance stands
     → stuck ≡ kept_stuck stands → IsBest exact_dispatch instance (ending_of stands) grown.best → IsRootTable instance (ending_of stands) opening.table opening.value
-    → IsPricedOf instance opening → IsGrown exact instance opening budget gap grown → IsQuiet (ending_of stands) opening gap grown.log
+    → IsPricedOf instance opening → IsGrown exact instance opening budget gap grown → IsPivotedGrown exact_dispatch instance budget gap grown
+    → IsQuiet (ending_of stands) opening gap grown.log
     → IsLayoutOf grown.tree layout → All (λ i. i < length grown.tables) layout.tables
     → IsAnswerOf exact exact_dispatch instance budget gap (searched_found grown stuck layout)
-searched_answer exact exact_dispatch instance stands stuck opening grown layout budget gap lawful each unblocked none dropped kept is_best opens priced is quiet of_tree within =
+searched_answer exact exact_dispatch instance stands stuck opening grown layout budget gap lawful each unblocked none dropped kept is_best opens priced is pivoted quiet of_tree within =
     subst (λ (s : Option Stuck). IsAnswerOf exact exact_dispatch instance budget gap (searched_found grown s layout)) (sym kept)
-    (searched_own exact exact_dispatch instance stands opening grown layout budget gap lawful dropped is_best opens priced is of_tree within quiet each unblocked none)
+    (searched_own exact exact_dispatch instance stands opening grown layout budget gap lawful dropped is_best opens priced is pivoted of_tree within quiet each unblocked none)

@@ -29,6 +29,8 @@ use Rattle.opening.specs.Rays.{IsFirstRay}
 use Rattle.opening.proofs.Blocked.{not_blocked}
 use Rattle.opening.proofs.OpeningRays.{first_is_one as first_ray_is_one, no_ray, one_first}
 use Rattle.opening_tables.proofs.RayTables.{ray_lawful}
+use Rattle.pivot_closing.proofs.Closing.{closed_statuses}
+use Rattle.pivot_closing.proofs.PivotedSteps.{none_pivoted}
 use Rattle.search_core.specs.Moves.{empty_leaf, ray_leaf}
 use Rattle.search_answers.specs.SearchResult.{FollowsOpening, IsExcludedByFirst, IsExcludedByUnit, IsNoDearer}
 use Rattle.search_desk.specs.Kinds.{IsOfKind}
@@ -92,6 +94,10 @@ lone_answer asked exact_dispatch instance budget gap l tables layout truth unbou
     few = λ number free. omega arith;
   };
   writable = record { tree = whole; schedule = tt; bound = rw unbounded tt; tables = few };
+  pivoted = record {
+    told = λ used. none_pivoted instance budget gap (lone_root instance l) tables [] refl;
+    closes = λ used reach. closed_statuses None (tree_bound (lone_root instance l)) gap (inl unbounded);
+  };
 }
 
 -- ---- a blocked unit

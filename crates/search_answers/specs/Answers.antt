@@ -7,6 +7,7 @@ use Rattle.branch_tree.specs.NumberedTree.{EndAt}
 use Rattle.branch_tree.specs.TreeView.{TreeView}
 use Rattle.branch_tree.specs.declared.tree.Leaf.{Leaf}
 use Rattle.branch_tree.specs.declared.found.Found.{Found}
+use Rattle.search_answers.specs.Pivoted.{IsPivotedFound}
 use Rattle.search_answers.specs.Writable.{IsWritable}
 use Rattle.search_answers.specs.Best.{told_of}
 use Rattle.search_core.specs.Moves.{bound_of}
@@ -20,10 +21,11 @@ use Rattle.opening.specs.declared.root_tables.Priced.{Priced}
 abbrev pub lone_root : Instance → Leaf → TreeView
 lone_root instance leaf = record { units = thermal_count instance; periods = instance.periods; room = 1; nodes = EndAt 0 leaf }
 
--- a search result that can be written
+-- a search result that can be written, and that keeps to the exact dispatch where this is used
 pub record IsAnswerOf (exact exact_dispatch : Bool) (instance : Instance) (budget gap : ℕ) (found : Found) : Type 0 where
   pub result : IsSearchResult exact instance budget gap found
   pub writable : IsWritable exact_dispatch instance found
+  pub pivoted : IsPivotedFound exact_dispatch instance budget gap found
 
 -- what is told of the most-on commitment: nothing where there is a schedule, or no bound
 abbrev pub told_by : Option ℤ → Option (Printed × ℤ) → Option Stuck → Option Stuck

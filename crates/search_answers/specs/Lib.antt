@@ -4,3 +4,4 @@ pub mod Writable
 pub mod Best
 pub mod Starts
 pub mod Answers
+pub mod Pivoted

@@ -18,7 +18,7 @@ ghost use Rattle.search_answers.specs.Answers.{IsAnswerOf, IsQuiet, lone_root, t
 ghost use Rattle.decommitment.specs.declared.pass.Standing.{Standing};
 ghost use Rattle.search_answers.specs.Best.{IsBest, kept_stuck};
 ghost use Rattle.opening.specs.declared.root_tables.Priced.{Priced};
-ghost use Rattle.search_desk.specs.Grown.{IsGrown};
+ghost use Rattle.search_desk.specs.Grown.{IsGrown, IsPivotedGrown};
 
 use branch_tree::{Found, Layout, Leaf, Tree};
 use node_visits::Worker;
@@ -161,7 +161,8 @@ pub fn bounded(
         → HasNoBlockedUnit exact instance.now → IsDropped instance.now stands → most_on ≡ kept_stuck stands
         → IsBest exact_dispatch instance.now (ending_of stands) grown.best → IsRootTable instance.now (ending_of stands) opening.table opening.value
         → IsPricedOf instance.now opening → IsGrown exact instance.now opening budget gap grown
-        → IsQuiet (ending_of stands) opening gap grown.log → IfOk result (IsAnswerOf exact exact_dispatch instance.now budget gap) }
+        → IsPivotedGrown exact_dispatch instance.now budget gap grown → IsQuiet (ending_of stands) opening gap grown.log
+        → IfOk result (IsAnswerOf exact exact_dispatch instance.now budget gap) }
 {
     let Grown {
         tree,

@@ -1,5 +1,5 @@
 -- What a search over the tree leaves. This project's own form.
-use Rattle.std.specs.Prelude.{◌≡◌, ◌≢◌, ℕ, ◌+◌, ◌*◌, ◌≤◌, false, Bool, All, List, ℤ, Option, Some, None, length, slice_get}
+use Rattle.std.specs.Prelude.{◌≡◌, ◌≢◌, ℕ, ◌+◌, ◌*◌, ◌≤◌, true, false, Bool, All, List, ℤ, Option, Some, None, length, slice_get}
 pub use Rattle.uc_model.specs.declared.instance.Instance.{Instance}
 use Rattle.uc_model.specs.declared.schedule.Printed.{Printed}
 use Rattle.dual_model.specs.Laws.{IsClaimTrue}
@@ -11,9 +11,10 @@ use Rattle.branch_tree.specs.Kinds.{IsPlainTree}
 use Rattle.branch_tree.specs.NumberedTree.{node_count}
 use Rattle.branch_tree.specs.StoredTree.{tree_bound}
 use Rattle.branch_tree.specs.TreeLaws.{StoredHolds}
-use Rattle.branch_tree.specs.TreeView.{TreeView, IsWhole, tree_of}
+use Rattle.branch_tree.specs.TreeView.{TreeView, IsSizeOf, IsWhole, tree_of}
 use Rattle.branch_tree.specs.TrueFound.{IsTrueLog}
 pub use Rattle.branch_tree.specs.declared.found.Entry.{Entry}
+use Rattle.pivot_closing.specs.Pivoted.{IsPivoted}
 use Rattle.search_core.specs.Moves.{bound_of}
 use Rattle.search_core.specs.OwnTables.{Owns, HasFewEntries}
 pub use Rattle.opening.specs.declared.root_tables.Priced.{Priced}
@@ -48,3 +49,8 @@ pub record IsGrown (exact : Bool) (instance : Instance) (opening : Priced) (budg
   pub spent : IsSpentUnlessClosed grown.tree grown.log grown.best budget gap
   -- a claim adds two nodes at most
   pub nodes : node_count grown.tree.nodes ≤ 2 * budget + 1
+
+-- its tree is of the instance's cells, and its log tells of exact dispatches, where the search uses them
+pub record IsPivotedGrown (exact_dispatch : Bool) (instance : Instance) (budget gap : ℕ) (grown : Grown) : Type 0 where
+  pub size : IsSizeOf grown.tree instance
+  pub pivoted : exact_dispatch ≡ true → IsPivoted instance budget gap grown.tree grown.tables grown.log

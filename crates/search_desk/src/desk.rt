@@ -105,11 +105,12 @@ impl<C: Run> Model for Desk<C> {
 
     ghost use Rattle.std.specs.Prelude.{◌≡◌};
     ghost use Rattle.search_desk.specs.Desks.{IsDesk};
+    ghost use Rattle.search_desk.specs.Dispatches.{IsPivotedBook};
 
     ghost view = { λ desk. record { book = desk.book; seen = desk.pass.seen; failed = desk.failed } };
 
     ghost invariant = { λ desk. IsDesk C.exact C.opening C.incumbent desk.book desk.pass desk.failed × (desk.gap ≡ C.opening.gap)
-        × (desk.exact ≡ C.exact) };
+        × (desk.exact ≡ C.exact) × IsPivotedBook C.exact_dispatch C.opening desk.book };
 }
 
 impl<C: Run> Desk<C> {
@@ -119,8 +120,9 @@ impl<C: Run> Desk<C> {
     ghost use Rattle.book.specs.Opening.{IsTrueOpening};
     ghost use Rattle.incumbent.specs.Costs.{AtMost};
     ghost use Rattle.search_desk.specs.Best.{cost_of};
-    ghost use Rattle.search_desk.specs.Commits.{IsDeskCommit, IsEntry};
+    ghost use Rattle.search_desk.specs.Commits.{IsDeskCommit, IsEntry, move_for};
     ghost use Rattle.search_desk.specs.Desks.{IsKeptBy, IsKeptClaim, IsPrunedBy, IsTakenOf};
+    ghost use Rattle.search_desk.specs.Dispatches.{IsFirstByDispatch, IsPivotedBook};
 
     /// The desk of a search that begins with this book.
     pub fn new(book: Book<C>, pass: Pass, gap: u32, exact: bool) -> Desk<C>
@@ -260,6 +262,7 @@ impl<C: Run> Desk<C> {
         requires outcome { IsTrueOutcome C.exact C.opening.instance claim.now.path done.table done.outcome }
         requires sized { IsSized done.outcome }
         requires scaled { IsLaterWithin C.opening.budget claim.now.had done.table }
+        requires dispatch { IsFirstByDispatch C.exact_dispatch C.opening claim.now.path claim.now.had self.old.seen done }
         ensures { IsDeskCommit C.exact C.opening.gap me claim.now done self.old self.new result }
     {
         let seen = self.look(best);
@@ -282,10 +285,13 @@ impl<C: Run> Desk<C> {
         requires sized { IsSized done.outcome }
         requires scaled { IsLaterWithin C.opening.budget claim.now.had done.table }
         requires pruned { IsPrunedBy self.old.seen action }
+        requires action { action ≡ move_for self.old.seen C.opening.gap claim.now.bound done }
+        requires dispatch { IsFirstByDispatch C.exact_dispatch C.opening claim.now.path claim.now.had self.old.seen done }
         ensures book { IsEntry C.exact me claim.now done action self.old.book self.new.book result }
         ensures seen { self.new.seen ≡ self.old.seen }
     {
         tree_runs_hold();
+        cost_less_tolerance_never_decreases();
         self.book.keeps_run();
         if !self.stands(me, claim) {
             return false;
@@ -358,6 +364,7 @@ impl<C: Run> Desk<C> {
         ensures parts { IfOk result (λ both. both.1.parts ≡ 1) }
         ensures kept { IfOk result (λ both. IsKeptBy C.exact C.opening both.0 both.1.seen C.opening.budget) }
         ensures complete { IfOk result (λ both. All IsKeptClaim both.0.claims) }
+        ensures pivoted { IfOk result (λ both. IsPivotedBook C.exact_dispatch C.opening both.0) }
     {
         let Desk {
             book,

@@ -22,7 +22,8 @@ use Rattle.branch_tree.specs.declared.found.Entry.{Entry}
 use Rattle.uc_model.specs.declared.instance.Instance.{Instance}
 use Rattle.dual_model.specs.declared.table.Table.{Table}
 use Rattle.opening.specs.declared.root_tables.Priced.{Priced}
-use Rattle.search_desk.specs.Grown.{IsGrown}
+use Rattle.search_desk.specs.Dispatches.{IsPivotedBook}
+use Rattle.search_desk.specs.Grown.{IsGrown, IsPivotedGrown}
 use Rattle.tree_search.specs.inside.Searches.{opening_by}
 
 -- ---- the log under its own units
@@ -126,3 +127,16 @@ ended_grown runs exact opening book best instance priced budget gap grown same r
           spent = end2.spent;
           nodes = few_nodes runs by book end2.kept.begun run2;
         }
+
+pub pivoted_grown : (exact_dispatch : Bool) (opening : Opening) (book : BookView) (instance : Instance) (priced : Priced) (budget gap : ℕ) (grown : Grown)
+    → opening ≡ opening_by instance priced budget gap → IsPivotedBook exact_dispatch opening book → grown.tree ≡ book.tree → grown.tables ≡ book.tables
+    → grown.log ≡ book.log → IsPivotedGrown exact_dispatch instance budget gap grown
+pivoted_grown exact_dispatch opening book instance priced budget gap grown same is tree tables log =
+    let own = subst (λ (o : Opening). IsPivotedBook exact_dispatch o book) same is in
+    subst (λ (x : Grown). IsPivotedGrown exact_dispatch instance budget gap x) (sym (λ i. record {
+      tree = tree i;
+      tables = tables i;
+      log = log i;
+      best = grown.best;
+    }))
+    (record { size = own.size; pivoted = own.pivoted })

@@ -2,7 +2,9 @@
 
 ghost use Rattle.std.specs.Prelude.{◌≡◌, ◌≤◌};
 ghost use Rattle.uc_model.specs.declared.tolerance.TheConstants.{WHOLE_GAP};
+ghost use Rattle.search_desk.specs.Best.{cost_of};
 ghost use Rattle.search_desk.specs.Desks.{IsClaimOf};
+ghost use Rattle.search_desk.specs.Dispatches.{IsExhaustiveFor, IsFirstByDispatch};
 ghost use Rattle.decided_nodes.specs.Pivoting.{uses_exact_dispatch};
 ghost use Rattle.node_visits.specs.Trials.{IsEvaluatedFor, IsNextAt};
 
@@ -34,6 +36,7 @@ pub(crate) struct Shared<C: Run> {
     ghost whole: { aim.gap ≤ WHOLE_GAP },
     ghost kind: { aim.exact ≡ C.exact },
     ghost dispatch: { uses_exact_dispatch aim.pivoting ≡ C.exact_dispatch },
+    ghost exhaustive: { IsExhaustiveFor C.exact_dispatch C.opening aim.pivoting },
 }
 
 impl<C: Run> Shared<C> {
@@ -43,6 +46,7 @@ impl<C: Run> Shared<C> {
         requires whole { aim.gap ≤ WHOLE_GAP }
         requires kind { aim.exact ≡ C.exact }
         requires dispatch { uses_exact_dispatch aim.pivoting ≡ C.exact_dispatch }
+        requires exhaustive { IsExhaustiveFor C.exact_dispatch C.opening aim.pivoting }
         ensures { result.best ≡ best }
     {
         Shared {
@@ -384,6 +388,7 @@ fn entered<C: Run, R: Wait>(
 ) -> Result<Left, NoMemory>
     requires claim { IsClaimOf C.opening claim.now }
     requires done { IsEvaluatedFor C.exact C.opening.instance claim.now done }
+    requires dispatch { IsFirstByDispatch C.exact_dispatch C.opening claim.now.path claim.now.had (cost_of member.old.own.schedule) done }
 {
     let mut desk = shared.desk.lock(rt);
     desk.meet(&shared.best, &mut member.own);

@@ -5,6 +5,7 @@ ghost use Rattle.found_schedule.specs.Found.{IsFoundIfAny};
 ghost use Rattle.book.specs.BookView.{opened};
 ghost use Rattle.book.specs.Opening.{IsTrueOpening};
 ghost use Rattle.search_desk.specs.Best.{IsNoWorse, cost_of};
+ghost use Rattle.search_desk.specs.Dispatches.{IsPivotedBook};
 ghost use Rattle.node_visits.specs.Trials.{IsNextAt};
 ghost use Rattle.closing_pass.specs.Closings.{IsLeft};
 ghost use Rattle.tree_search.specs.Options.{AreOptions};
@@ -57,6 +58,7 @@ pub(crate) fn crowded<C: Run + Send + Sync, R: Threads + Wait + Sync, G: Gate + 
     requires parts { crew.own.parts ≡ 2 * options.now.workers + 2 }
     requires next { IsNextAt C.opening.instance 1 crew.next }
     ensures left { IfOk result (λ both. IsLeft C.exact C.opening both.0 (cost_of both.1) C.opening.budget) }
+    ensures pivoted { IfOk result (λ both. IsPivotedBook C.exact_dispatch C.opening both.0) }
     ensures found { IfOk result (λ both. IsFoundIfAny C.exact_dispatch C.opening.instance both.1) }
     ensures no_worse { IfOk result (λ both. IsNoWorse crew.entry.own.schedule both.1) }
 {
@@ -81,6 +83,7 @@ fn gathered<'a, C: Run>(
 ) -> Result<Crowd<'a, C>, NoMemory>
     requires options { AreOptions options.now }
     requires gap { options.now.gap ≡ C.opening.gap }
+    requires budget { options.now.budget ≡ C.opening.budget }
     requires kind { options.now.exact_units ≡ C.exact }
     requires dispatch { options.now.pivot ≡ C.exact_dispatch }
     requires begun { IsTrueOpening C.opening }
@@ -168,6 +171,7 @@ fn joined<C: Run>(
 ) -> Result<(Book<C>, Option<(Printed, i64)>), NoMemory>
     requires parts { own.parts + 2 * vec_len members + 1 ≡ shared.best.parts }
     ensures left { IfOk result (λ both. IsLeft C.exact C.opening both.0 (cost_of both.1) C.opening.budget) }
+    ensures pivoted { IfOk result (λ both. IsPivotedBook C.exact_dispatch C.opening both.0) }
     ensures found { IfOk result (λ both. IsFoundIfAny C.exact_dispatch C.opening.instance both.1) }
     ensures no_worse { IfOk result (λ both. IsNoWorse own.schedule both.1) }
 {

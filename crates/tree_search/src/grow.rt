@@ -14,7 +14,8 @@ ghost use Rattle.closing_pass.specs.Closings.{IsEnded};
 ghost use Rattle.found_schedule.specs.Found.{IsFoundIfAny};
 ghost use Rattle.uc_model.specs.declared.instance.Instance.{Instance};
 ghost use Rattle.opening.specs.declared.root_tables.Priced.{Priced};
-ghost use Rattle.search_desk.specs.Grown.{IsGrown};
+ghost use Rattle.search_desk.specs.Dispatches.{IsPivotedBook};
+ghost use Rattle.search_desk.specs.Grown.{IsGrown, IsPivotedGrown};
 ghost use Rattle.tree_search.specs.inside.Searches.{IsWholeOf, opening_by};
 ghost use Rattle.node_visits.specs.Trials.{IsNextAt};
 
@@ -51,6 +52,7 @@ pub fn search_tree<R: Threads + Wait + Sync, G: Gate + Sync>(
     requires accepted { IsAcceptedIfFound worker start.best }
     requires next { IsNextAt worker 1 start.next }
     ensures grown { IfOk result (IsGrown options.now.exact_units worker.entry start.opening options.now.budget options.now.gap) }
+    ensures pivoted { IfOk result (IsPivotedGrown options.now.pivot worker.entry options.now.budget options.now.gap) }
     ensures found { IfOk result (λ grown. IsFoundIfAny options.now.pivot worker.entry grown.best) }
     ensures no_worse { IfOk result (λ grown. IsNoWorse start.best grown.best) }
     ensures quiet { is_schedule_within start.best (Some (bound_of start.opening.value start.opening.table.k)) options.now.gap ≡ true
@@ -85,6 +87,7 @@ fn grow<C: Run + Send + Sync, R: Threads + Wait + Sync, G: Gate + Sync>(
     requires next { IsNextAt begun.worker 1 begun.start.next }
     requires whole { IsWholeOf C.incumbent (2 * options.now.workers + 2) begun.best begun.pass }
     ensures grown { IfOk result (IsGrown options.now.exact_units begun.entry.worker begun.entry.start.opening options.now.budget options.now.gap) }
+    ensures pivoted { IfOk result (IsPivotedGrown options.now.pivot begun.entry.worker options.now.budget options.now.gap) }
     ensures found { IfOk result (λ grown. IsFoundIfAny options.now.pivot begun.entry.worker grown.best) }
     ensures no_worse { IfOk result (λ grown. IsNoWorse begun.entry.start.best grown.best) }
     ensures quiet { is_schedule_within begun.entry.start.best (Some (bound_of begun.entry.start.opening.value begun.entry.start.opening.table.k)) options.now.gap ≡ true
@@ -115,6 +118,7 @@ fn grown<C: Run + Send + Sync, R: Threads + Wait + Sync, G: Gate + Sync>(
     requires whole { IsWholeOf C.incumbent (2 * options.now.workers + 2) begun.best begun.pass }
     requires book { book ≡ opened C.opening }
     ensures grown { IfOk result (IsGrown options.now.exact_units begun.entry.worker begun.entry.start.opening options.now.budget options.now.gap) }
+    ensures pivoted { IfOk result (IsPivotedGrown options.now.pivot begun.entry.worker options.now.budget options.now.gap) }
     ensures found { IfOk result (λ grown. IsFoundIfAny options.now.pivot begun.entry.worker grown.best) }
     ensures no_worse { IfOk result (λ grown. IsNoWorse begun.entry.start.best grown.best) }
     ensures quiet { is_schedule_within begun.entry.start.best (Some (bound_of begun.entry.start.opening.value begun.entry.start.opening.table.k)) options.now.gap ≡ true
@@ -129,9 +133,12 @@ fn grown<C: Run + Send + Sync, R: Threads + Wait + Sync, G: Gate + Sync>(
 
 // What the book has, and the schedule.
 fn left<C: Run>(book: Book<C>, best: Option<(Printed, i64)>) -> Grown
-    requires { IsEnded C.exact C.opening book best }
+    requires ended { IsEnded C.exact C.opening book best }
+    requires pivoted { IsPivotedBook C.exact_dispatch C.opening book }
     ensures grown { (instance : Instance) (opening : Priced) (budget gap : ℕ) → C.opening ≡ opening_by instance opening budget gap
         → IsGrown C.exact instance opening budget gap result }
+    ensures pivoted { (instance : Instance) (opening : Priced) (budget gap : ℕ) → C.opening ≡ opening_by instance opening budget gap
+        → IsPivotedGrown C.exact_dispatch instance budget gap result }
     ensures best { result.best ≡ best }
     ensures log { result.log ≡ book.log }
 {
@@ -169,6 +176,7 @@ fn ended<C: Run + Send + Sync, R: Threads + Wait + Sync, G: Gate + Sync>(
     requires parts { crew.own.parts ≡ 2 * options.now.workers + 2 }
     requires next { IsNextAt C.opening.instance 1 crew.next }
     ensures ended { IfOk result (λ both. IsEnded C.exact C.opening both.0 both.1) }
+    ensures pivoted { IfOk result (λ both. IsPivotedBook C.exact_dispatch C.opening both.0) }
     ensures found { IfOk result (λ both. IsFoundIfAny C.exact_dispatch C.opening.instance both.1) }
     ensures no_worse { IfOk result (λ both. IsNoWorse crew.entry.own.schedule both.1) }
 {

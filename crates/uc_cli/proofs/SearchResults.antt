@@ -17,6 +17,7 @@ use Rattle.roll.specs.declared.rolled.Rolled.{Rolled}
 use Rattle.roll.specs.declared.rolled.Rolled.TheVariants.{Whole, Stopped}
 use Rattle.uc_model.proofs.PrintedCosts.{cost-le-printed}
 use Rattle.dual_value.specs.NodeAnswer.{MAX_VALUE}
+use Rattle.search_answers.specs.Pivoted.{IsPivotedFound}
 use Rattle.search_answers.specs.Writable.{HasFewRows, IsWritable}
 use Rattle.workers.specs.Rolling.{IsRolled}
 use Rattle.search_answers.specs.SearchResult.{IsSearchResult}
@@ -51,8 +52,9 @@ text_of exact over instance budget gap found lawful result writable =
 
 pub answered : (asked : Solve) (file : SlotState) (instance : Instance) (rounded : ℕ) (found : Found) → IsLawfulInstance instance
     → HasInstance (solve_options asked) file instance rounded → IsSearchResult asked.exact_units instance asked.units asked.gap found
-    → IsWritable asked.pivot instance found → asked.units ≤ MAX_BUDGET → IsAnswer asked file instance rounded found
-answered asked file instance rounded found lawful read result writable small = record {
+    → IsWritable asked.pivot instance found → IsPivotedFound asked.pivot instance asked.units asked.gap found → asked.units ≤ MAX_BUDGET
+    → IsAnswer asked file instance rounded found
+answered asked file instance rounded found lawful read result writable pivoted small = record {
   read = read;
   search = result;
   schedule = schedule_true instance (certificate_of instance found) lawful result.truth.certificate;
@@ -62,6 +64,7 @@ answered asked file instance rounded found lawful read result writable small = r
       accepted_for (solve_options asked) file instance rounded (certificate_of instance found) version read result.truth.certificate text
       (found_little instance found (omega (arith, result.nodes, small))
       (All-weaker HasFewRows (λ (table : Table). length table.ramps ≤ most_rows) (λ table few. omega (arith, few)) (written_tables found) writable.tables));
+  pivoted = pivoted;
 }
 
 pub demo_answered : (seed : ℕ) (instance : Instance) (found : Found) → instance ≡ demo_instance seed → IsLawfulInstance instance

@@ -10,6 +10,7 @@ use Rattle.branch_tree.specs.StoredTree.{tree_bound}
 use Rattle.branch_tree.specs.Closing.{status_of}
 use Rattle.dual_model.specs.Certificate.{WrittenSchedule}
 use Rattle.branch_tree.specs.Claims.{certificate_of, written_of}
+use Rattle.search_answers.specs.Pivoted.{IsPivotedFound}
 use Rattle.search_answers.specs.SearchResult.{IsSearchResult}
 use Rattle.cert_text.specs.CertificateText.{certificate_text, listing_of}
 use Rattle.cert_text.specs.TextConditions.{HasText, HasWrittenText}
@@ -38,7 +39,8 @@ solve_options asked = record { exact = asked.exact; shed = asked.shed; spill_res
 
 -- an answer for the instance in the file: what was found, by exact values where these are asked, with the budget and at the gap that are
 -- asked; that its schedule obeys and costs at most what is printed; that its bound, or that there is no schedule, is true of every schedule;
--- that its certificate has a text of the grammar; and that each text of it, in the version in which it is written or another, is accepted
+-- that its certificate has a text of the grammar; that each text of it, in the version in which it is written or another, is accepted; and that the
+-- search kept to the exact dispatch, where this is asked, by which the run's status is 0 or 3 where it is within reach
 pub record IsAnswer (asked : Solve) (file : SlotState) (instance : Instance) (rounded : ℕ) (found : Found) : Type 0 where
   pub read : HasInstance (solve_options asked) file instance rounded
   pub search : IsSearchResult asked.exact_units instance asked.units asked.gap found
@@ -47,6 +49,7 @@ pub record IsAnswer (asked : Solve) (file : SlotState) (instance : Instance) (ro
   pub text : HasWrittenText (certificate_of instance found)
   pub accepted : (version : Version) → HasText version (listing_of (certificate_of instance found))
       → IsAcceptedFor asked.shed asked.spill_reserve read.bytes (certificate_text version (certificate_of instance found))
+  pub pivoted : IsPivotedFound asked.pivot instance asked.units asked.gap found
 
 -- the instance in the file, and the answer for it
 pub record HasAnswer (asked : Solve) (before : Outside) (found : Found) : Type 0 where

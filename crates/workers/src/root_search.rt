@@ -5,6 +5,7 @@ ghost use Rattle.uc_model.specs.Limits.{IsLawfulInstance};
 ghost use Rattle.dual_model.specs.Tree.{HasEachPattern};
 ghost use Rattle.opening.specs.Blocked.{HasNoBlockedUnit};
 ghost use Rattle.opening.specs.Rays.{HasNoRay};
+ghost use Rattle.search_answers.specs.Pivoted.{IsPivotedFound};
 ghost use Rattle.search_answers.specs.SearchResult.{IsSearchResult};
 ghost use Rattle.search_answers.specs.Writable.{IsWritable};
 ghost use Rattle.tree_search.specs.Options.{AreOptions};
@@ -37,6 +38,7 @@ pub fn search<R: Threads + Wait + Sync, G: Gate + Sync>(
     requires options { AreOptions options.now }
     ensures result { IfOk result (IsSearchResult options.now.exact_units instance.now options.now.budget options.now.gap) }
     ensures writable { IfOk result (IsWritable options.now.pivot instance.now) }
+    ensures pivoted { IfOk result (IsPivotedFound options.now.pivot instance.now options.now.budget options.now.gap) }
 {
     let values = Values {
         instance,

@@ -1,9 +1,10 @@
 -- At which table the closing pass evaluates a node.
-use Rattle.std.specs.Prelude.{◌≡◌, ◌≢◌, ℕ, ◌+◌, ◌≤◌, Bool, [], pos}
+use Rattle.std.specs.Prelude.{◌≡◌, ◌≢◌, ◌⊎◌, ℕ, ◌+◌, ◌≤◌, Bool, true, [], pos}
 pub use Rattle.uc_model.specs.declared.instance.Instance.{Instance}
 use Rattle.uc_model.specs.Limits.{IsLawfulInstance}
-use Rattle.dual_model.specs.Fixings.{IsNodeOf}
+use Rattle.dual_model.specs.Fixings.{IsNodeOf, HasEmptyUnit}
 use Rattle.dual_model.specs.Prices.{IsLawfulTable}
+pub use Rattle.dual_model.specs.declared.node.Node.{Node}
 pub use Rattle.dual_model.specs.declared.table.Table.{Table}
 use Rattle.branch_tree.specs.TreeView.{HasFreeCell}
 use Rattle.search_core.specs.Machine.{entries_of}
@@ -11,6 +12,7 @@ use Rattle.search_core.specs.Steps.{IsFresh, IsStoredTable}
 pub use Rattle.book.specs.BookView.{BookView}
 use Rattle.book.specs.BookView.{state_of}
 use Rattle.book.specs.Calls.{IsStoredAt}
+use Rattle.decided_nodes.specs.Decided.{DecidesEach, IsDispatched, IsWideAt}
 use Rattle.found_schedule.specs.Found.{IsFoundIfAny}
 use Rattle.search_desk.specs.Desks.{IsLaterWithin}
 pub use Rattle.closing_pass.specs.declared.settling.Holding.{Holding}
@@ -39,3 +41,14 @@ pub record IsTrialAt (exact exact_dispatch : Bool) (instance : Instance) (book :
   pub from : settling.scale ≤ trial.used
   pub used : trial.used ≤ settling.scale + 2
   pub found : IsFoundIfAny exact_dispatch instance trial.found
+
+-- where each cell is decided at the first claim of a node, and the search uses the exact dispatch, there is none
+abbrev pub IsUndispatchedAt : Bool → Instance → Settling → Node → Type 0
+IsUndispatchedAt exact_dispatch instance settling path =
+    exact_dispatch ≡ true → settling.held.had ≡ 0 → DecidesEach instance path → HasEmptyUnit instance path ⊎ IsWideAt instance path
+
+-- such a table, and where each cell is decided at the first claim, and the search uses the exact dispatch, it is by it, or there is none
+pub record IsExactTrialAt (exact exact_dispatch : Bool) (instance : Instance) (book : BookView) (settling : Settling) (path : Node) (trial : Trial) : Type 0 where
+  pub is : IsTrialAt exact exact_dispatch instance book settling trial
+  pub dispatched : exact_dispatch ≡ true → settling.held.had ≡ 0 → DecidesEach instance path
+      → IsDispatched instance path (record { table = trial.table; schedule = trial.found })

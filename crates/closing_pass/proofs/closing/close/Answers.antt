@@ -16,6 +16,7 @@ loop-step-init g c =
       subst (IsLeft g.C.Run.exact opening c.args.progress.now.book (cost_of best)) (sym c.requires.budget) c.requires.left,
       c.requires.found,
       at_most_itself (cost_of best),
+      c.requires.pivoted,
     )
 
 pub next-requires-clause-left : goal.next-requires-clause-left

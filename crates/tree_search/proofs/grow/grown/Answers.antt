@@ -7,19 +7,35 @@ use Rattle.found_schedule.proofs.Whole.{found_if_accepted}
 use Rattle.search_core.specs.Moves.{bound_of}
 use Rattle.book.specs.Opening.{Opening}
 use Rattle.search_desk.specs.Best.{IsNoWorse, cost_of}
-use Rattle.search_desk.specs.Grown.{IsGrown}
+use Rattle.search_desk.specs.Dispatches.{IsPivotedBook}
+use Rattle.search_desk.specs.Grown.{IsGrown, IsPivotedGrown}
 use Rattle.tree_search.proofs.Beginning.{closed_ended}
 use Rattle.search_desk.proofs.Costs.{at_most_itself, at_most_through}
+use Rattle.search_desk.proofs.Dispatches.{pivoted_opened}
 use Rattle.tree_search.proofs.grow.grown.Goals as goal
 
-pub left-requires : goal.left-requires
-left-requires g c =
+pub left-requires-clause-ended : goal.left-requires-clause-ended
+left-requires-clause-ended g c =
     let begun = c.args.begun in
     let gap = c.args.options.now.gap in
     let closed = ap (λ it. is_schedule_within it (Some (bound_of begun.start.opening.value begun.start.opening.table.k)) gap) c.into_schedule.ensures
     ∙ sym c.is_closed.ensures ∙ c.if-is_closed.true in
     closed_ended g.C.Run.exact g.C.Case.opening c.args.book begun.worker begun.start.opening c.args.options.now.budget gap c.into_schedule.result
     c.requires.opening c.requires.lawful c.requires.options.budget c.requires.options.gap c.requires.priced c.requires.book closed
+
+pub left-requires-clause-pivoted : goal.left-requires-clause-pivoted
+left-requires-clause-pivoted g c =
+    subst (IsPivotedBook g.C.Run.exact_dispatch g.C.Case.opening) (sym c.requires.book) (pivoted_opened g.C.Run.exact_dispatch g.C.Case.opening)
+
+pub returns-then-is_closed-clause-pivoted : goal.returns-then-is_closed-clause-pivoted
+returns-then-is_closed-clause-pivoted g c =
+    subst (λ asked. IsPivotedGrown asked c.args.begun.worker c.args.options.now.budget c.args.options.now.gap c.left.result) c.requires.dispatch
+    (c.left.ensures.pivoted c.args.begun.worker c.args.begun.start.opening c.args.options.now.budget c.args.options.now.gap c.requires.opening)
+
+pub returns-clause-pivoted : goal.returns-clause-pivoted
+returns-clause-pivoted g c =
+    subst (λ asked. IsPivotedGrown asked c.args.begun.worker c.args.options.now.budget c.args.options.now.gap c.left-2.result) c.requires.dispatch
+    (c.left-2.ensures.pivoted c.args.begun.worker c.args.begun.start.opening c.args.options.now.budget c.args.options.now.gap c.requires.opening)
 
 pub returns-then-is_closed-clause-grown : goal.returns-then-is_closed-clause-grown
 returns-then-is_closed-clause-grown g c =

@@ -22,4 +22,4 @@ pub returns-clause-answer : goal.returns-clause-answer
 returns-clause-answer g c =
     answered (solve_asked c.args.asked.now) (g.F.Files.state c.args.files.now slot.Instance) c.in_ok-instance.instance c.in_ok-instance.rounded
     c.in_ok-found.found c.in_ok-instance.ensures.read.lawful c.in_ok-instance.ensures.read c.in_ok-found.ensures.result
-    c.in_ok-found.ensures.writable c.requires.budget
+    c.in_ok-found.ensures.writable c.in_ok-found.ensures.pivoted c.requires.budget

@@ -10,7 +10,7 @@ use Rattle.uc_model.specs.declared.instance.Instance.{Instance}
 use Rattle.search_answers.specs.Opening.{IsRootTable}
 use Rattle.search_answers.specs.Answers.{IsAnswerOf}
 use Rattle.search_answers.specs.Best.{IsBest}
-use Rattle.search_desk.specs.Grown.{IsGrown}
+use Rattle.search_desk.specs.Grown.{IsGrown, IsPivotedGrown}
 use Rattle.search_answers.proofs.Answered.{opening_quiet}
 use Rattle.search_answers.proofs.NoDearer.{no_dearer_through}
 use Rattle.search_answers.proofs.WrittenTables.{each_within}
@@ -51,4 +51,5 @@ returns g c =
     (subst (λ (i : Instance). IsRootTable i (ending_of stands) opening.table opening.value) (sym own) opened.table)
     (subst (λ (i : Instance). IsPricedOf i opening) (sym own) opened.priced)
     (subst (λ (i : Instance). IsGrown exact i opening budget gap left) (sym own) grown)
+    (subst (λ (i : Instance). IsPivotedGrown pivot i budget gap left) (sym own) c.in_ok-grown.ensures.pivoted)
     (opening_quiet stands c.args.opened.start.best opening gap left.log opened.is_first c.in_ok-grown.ensures.quiet))

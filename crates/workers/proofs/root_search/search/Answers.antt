@@ -1,7 +1,8 @@
--- The answer is a search result that can be written.
+-- The answer is a search result that can be written, and that keeps to the exact dispatch.
 use Rattle.std.proofs.Common.{subst, IfOk}
 use Rattle.std.proofs.lemmas.Result.{IfOk-weaker}
 use Rattle.uc_model.specs.declared.instance.Instance.{Instance}
+use Rattle.search_answers.specs.Pivoted.{IsPivotedFound}
 use Rattle.search_answers.specs.SearchResult.{IsSearchResult}
 use Rattle.search_answers.specs.Writable.{IsWritable}
 use Rattle.search_answers.specs.Answers.{IsAnswerOf}
@@ -25,4 +26,14 @@ returns-clause-writable g c =
     let exact = c.args.options.now.exact_units in
     let pivot = c.args.options.now.pivot in
     IfOk-weaker c.answered.result (IsAnswerOf exact pivot instance budget gap) (IsWritable pivot instance) (λ found a. a.writable)
+    (subst (λ (i : Instance). IfOk c.answered.result (IsAnswerOf exact pivot i budget gap)) c.in_ok-worker.ensures c.answered.ensures)
+
+pub returns-clause-pivoted : goal.returns-clause-pivoted
+returns-clause-pivoted g c =
+    let instance = c.args.instance.now in
+    let budget = c.args.options.now.budget in
+    let gap = c.args.options.now.gap in
+    let exact = c.args.options.now.exact_units in
+    let pivot = c.args.options.now.pivot in
+    IfOk-weaker c.answered.result (IsAnswerOf exact pivot instance budget gap) (IsPivotedFound pivot instance budget gap) (λ found a. a.pivoted)
     (subst (λ (i : Instance). IfOk c.answered.result (IsAnswerOf exact pivot i budget gap)) c.in_ok-worker.ensures c.answered.ensures)

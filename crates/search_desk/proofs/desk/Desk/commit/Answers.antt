@@ -6,7 +6,23 @@ use Rattle.incumbent.specs.Costs.{AtMost}
 use Rattle.search_core.specs.declared.event.Move.{Move}
 use Rattle.book.specs.BookView.{BookView}
 use Rattle.search_desk.specs.Commits.{IsEntry, move_for, move_of, told_move}
+use Rattle.search_desk.proofs.Dispatches.{first_lower}
 use Rattle.search_desk.proofs.desk.Desk.commit.Goals as goal
+
+pub enter-entered-requires-clause-action : goal.enter-entered-requires-clause-action
+enter-entered-requires-clause-action g c =
+    let a = c.args in
+    let done = a.done in
+    let bound = a.claim.now.bound in
+    let kept = to_z-of_z w128 c.stored_bound-stored.result (record { sfits = c.stored_bound-stored.type_inv }) in
+    c.ending-action.ensures.is
+    ∙ (λ i. move_of ((sym c.look-seen.ensures.seen) i) ((kept ∙ c.stored_bound-stored.ensures) i) (c.self.invariant.1 i) done.table.k done.cell done.outcome)
+
+pub enter-entered-requires-clause-dispatch : goal.enter-entered-requires-clause-dispatch
+enter-entered-requires-clause-dispatch g c =
+    let a = c.args in
+    first_lower g.C.Run.exact_dispatch g.C.Case.opening a.claim.now.path a.claim.now.had a.self.now.seen c.look-seen.new.self.seen a.done c.look-seen.ensures.lower
+    c.requires.dispatch
 
 pub returns : goal.returns
 returns g c =

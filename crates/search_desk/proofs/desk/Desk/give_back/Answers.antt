@@ -1,4 +1,5 @@
 -- Where memory was refused claims may be given back.
+use Rattle.search_desk.proofs.Dispatches.{pivoted_abandon}
 use Rattle.search_desk.proofs.Kept.{safe_abandon}
 use Rattle.search_desk.proofs.desk.Desk.give_back.Goals as goal
 
@@ -15,4 +16,6 @@ invariant_of-self g c =
       },
       c.self.invariant.1,
       c.self.invariant.2,
+      pivoted_abandon g.C.Run.exact_dispatch g.C.Case.opening c.self.inside.book c.abandon.new.self c.args.me c.args.unit c.abandon.result c.self.invariant.3
+          c.abandon.ensures,
     )

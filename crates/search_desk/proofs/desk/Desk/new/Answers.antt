@@ -3,6 +3,8 @@ use Rattle.std.proofs.Common.{All, subst, sym}
 use Rattle.std.proofs.lemmas.List.Elements.{All-nil}
 use Rattle.book.specs.BookView.{BookView}
 use Rattle.search_desk.specs.Desks.{IsKeptBy, IsKeptClaim}
+use Rattle.search_desk.specs.Dispatches.{IsPivotedBook}
+use Rattle.search_desk.proofs.Dispatches.{pivoted_opened}
 use Rattle.search_desk.proofs.Kept.{kept_opened}
 use Rattle.search_desk.proofs.desk.Desk.new.Goals as goal
 
@@ -20,4 +22,5 @@ invariant_of-result g c =
       },
       c.requires.gap,
       c.requires.kind,
+      subst (IsPivotedBook g.C.Run.exact_dispatch opening) (sym c.requires.book) (pivoted_opened g.C.Run.exact_dispatch opening),
     )

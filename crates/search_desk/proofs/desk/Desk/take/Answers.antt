@@ -1,4 +1,5 @@
 -- Whatever the book answers, it is kept.
+use Rattle.search_desk.proofs.Dispatches.{pivoted_claim}
 use Rattle.search_desk.proofs.Kept.{safe_claim}
 use Rattle.search_desk.proofs.desk.Desk.take.Goals as goal
 
@@ -10,4 +11,6 @@ invariant_of-self g c =
       record { object = desk.object; mine = desk.mine; parts = desk.parts; kept = safe.kept; complete = safe.complete },
       c.self.invariant.1,
       c.self.invariant.2,
+      pivoted_claim g.C.Run.exact_dispatch g.C.Case.opening c.self.inside.book c.claim.new.self c.args.me c.args.node c.claim.result c.self.invariant.3
+          c.claim.ensures,
     )

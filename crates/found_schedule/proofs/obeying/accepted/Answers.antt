@@ -1,17 +1,16 @@
--- What the check accepts obeys and has its printed cost, which fits.
-use Rattle.std.proofs.Common.{◌≡◌, ◌≤◌, subst, sym, lit<, ap, ◌∙◌, to_z, of_z, All, unsigned_abs}
+-- What the check accepts obeys and has its printed cost, which fits; and it accepts what obeys.
+use Rattle.std.proofs.Common.{◌≡◌, ◌≤◌, subst, sym, lit<, ap, ◌∙◌, Some, to_z, of_z, unsigned_abs, true, false, IsTrue}
 use Rattle.std.specs.Int.{w64}
 use Rattle.uc_model.specs.PrintedSchedule.{printed_cost, printed_denominator}
 use Rattle.uc_model.specs.declared.limits.TheConstants.{COST_MAX}
+use Rattle.uc_model.proofs.Obeyed.{rule_at}
 use Rattle.uc_model.proofs.PrintedCosts.{printed_cost-fits, watts-factor}
 use Rattle.uc_model.proofs.Sizes.{narrow}
-use Rattle.schedule_check.specs.SizedNumbers.{IsSized}
-use Rattle.found_schedule.specs.Found.{IsFoundCell}
-use Rattle.found_schedule.proofs.Rows.{found_numbers}
-use Rattle.found_schedule.proofs.over.accepted.Goals as goal
+use Rattle.found_schedule.proofs.Numbers.{found_numbers}
+use Rattle.found_schedule.proofs.obeying.accepted.Goals as goal
 
-pub returns-in-Ok : goal.returns-in-Ok
-returns-in-Ok c =
+pub returns-in-Ok-clause-found : goal.returns-in-Ok-clause-found
+returns-in-Ok-clause-found c =
     let instance = c.args.instance.now in
     let printed = c.args.printed.now in
     let cost = printed_cost instance printed in
@@ -23,12 +22,13 @@ returns-in-Ok c =
       shape = c.requires.shape;
       obeys = c.in-Ok.ensures.obeys;
       cost_is = same;
-      numbers = found_numbers printed c.requires.sized
-          (subst (All (All IsFoundCell)) c.as_slice.ensures (c.are_written.ensures c.if-not-are_written.false))
-          (subst (All IsSized) c.as_slice-2.ensures (c.are_sized.ensures c.if-not-are_sized.false))
-          (subst (All IsSized) c.as_slice-else-not-are_sized.ensures (c.are_sized-else-not-are_sized.ensures c.if-not-are_sized-2.false))
-          (c.has_denominator.ensures.least c.if-not-has_denominator.false)
-          (c.has_denominator.ensures.most c.if-not-has_denominator.false);
+      numbers = found_numbers instance printed c.requires.lawful c.requires.shape c.in-Ok.ensures.obeys c.requires.sized;
       size = subst (λ z. unsigned_abs z ≤ COST_MAX) (sym same) size;
       whole = λ plain. absurd (cc);
     }
+
+pub returns-in-Err-clause-all : goal.returns-in-Err-clause-all
+returns-in-Err-clause-all c = λ obeys.
+    let broken = c.in-Err.ensures.broken in
+    let holds = rule_at c.args.instance.now _ _ obeys broken.rule _ _ broken.unit broken.period in
+    let differ : true ≡ false = sym holds ∙ broken.fails in absurd (cc)

@@ -1,6 +1,6 @@
 use Rattle.std.proofs.Common.{ℕ, ◌<◌}
 use Rattle.decided_nodes.specs.Decided.{DecidesBelow}
-use Rattle.decided_nodes.proofs.cells.decides_each.Given as goal
+use Rattle.decided_nodes.proofs.cells.free_cell.Given as goal
 
 -- the cells of the units so far are decided
 abbrev pub invariant-loop-g : goal.invariant-loop-g

@@ -1,5 +1,5 @@
 use Rattle.decided_nodes.specs.Decided.{DecidesBelow}
-use Rattle.decided_nodes.proofs.cells.decides_unit.Given as goal
+use Rattle.decided_nodes.proofs.cells.free_period.Given as goal
 
 -- the cells so far are decided
 abbrev pub invariant-loop-t : goal.invariant-loop-t
