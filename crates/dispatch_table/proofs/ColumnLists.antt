@@ -7,7 +7,7 @@ use Rattle.std.specs.Int.{w128}
 use Rattle.uc_model.specs.Sums.{sum_below}
 use Rattle.uc_model.proofs.Sizes.{abs_add, wide}
 use Rattle.pivot_run.specs.Rows.{IsSmall, entry}
-use Rattle.dispatch_program.specs.Programs.{Program, RightSide, HasColumn, Line, RuleLine, SumLine, CostLine, SumValue, CostValue, all, basic_column, columns_of, counted, has_artificial, is_limit, lines_of, picked, place, slacks}
+use Rattle.dispatch_program.specs.Programs.{Program, RightSide, HasColumn, Line, RuleLine, SumLine, CostLine, Slack, Artificial, SumValue, CostValue, all, basic_column, bump, columns_of, counted, has_artificial, is_limit, lines_of, picked, place, slacks}
 use Rattle.dispatch_rules.proofs.Listed.{Each, each_none, each_one, each_append}
 use Rattle.dispatch_table.specs.declared.column.Column.{Column as ColumnName}
 use Rattle.dispatch_table.specs.Numbers.{column_of}
@@ -60,6 +60,30 @@ push_small row z small own k = ⊎_elim
     last (suc m) = lit< tt
 
 -- ---- the basic columns
+own_place : (p : Program) (i s a : ℕ) → s ≡ place p (Slack i) → a ≡ place p (Artificial i) → (there : Bool)
+    → (if there then a else s) ≡ place p (if there then Artificial i else Slack i)
+own_place p i s a slack artificial true = artificial
+own_place p i s a slack artificial false = slack
+
+pub basis_more : (p : Program) (items new : List ℕ) (i s a own : ℕ) (there : Bool) → items ≡ map (λ line. place p (basic_column p line)) (picked all RuleLine i)
+    → s ≡ place p (Slack i) → a ≡ place p (Artificial i) → there ≡ has_artificial p i → own ≡ (if there then a else s) → new ≡ items ++ own ∷ []
+    → new ≡ map (λ line. place p (basic_column p line)) (picked all RuleLine (i + 1))
+basis_more p items new i s a own there before slack artificial is chosen made =
+    let f : Line → ℕ = λ line. place p (basic_column p line) in
+    let place_is : own ≡ f (RuleLine i) = chosen ∙ ap (λ b. if b then a else s) is ∙ own_place p i s a slack artificial (has_artificial p i) in
+    made
+    ∙ (λ j. before j ++ place_is j ∷ [])
+    ∙ sym (map-append f (picked all RuleLine i) (RuleLine i ∷ []))
+    ∙ ap (λ m. map f (picked all RuleLine m)) (sym (add-one i))
+
+-- and the place behind the columns of one rule more
+pub place_more : (test : ℕ → Bool) (before i old new : ℕ) (there : Bool) → old ≡ before + counted test i → there ≡ test i → new ≡ old + bump there
+    → new ≡ before + counted test (i + 1)
+place_more test before i old new there place is made =
+    let more : counted test (i + 1) ≡ counted test i + bump (test i) = ap (counted test) (add-one i) in
+    let last = ap bump is in
+    omega arith
+
 pub basis_is : (p : Program) (items two new : List ℕ) (i a : ℕ) → i ≡ p.rules → items ≡ map (λ line. place p (basic_column p line)) (picked all RuleLine i)
     → a ≡ p.unknowns + (slacks p + counted (has_artificial p) i) → two ≡ items ++ a ∷ [] → new ≡ two ++ (a + 1) ∷ []
     → new ≡ map (λ line. place p (basic_column p line)) (lines_of p)

@@ -1,7 +1,7 @@
 //! The right sides of the limits.
 ghost use Rattle.std.specs.Prelude.{◌≡◌, ℕ, suc, ◌<◌, ◌≤◌, ◌*◌, IfOk, map, pos, unsigned_abs, ◌+ℤ◌, ◌-ℤ◌};
 ghost use Rattle.std.specs.Int.{int_max};
-ghost use Rattle.uc_model.specs.Commitment.{initial_p, start_cap as start_cap_of, stop_cap as stop_cap_of};
+ghost use Rattle.uc_model.specs.Commitment.{initial_p, start_cap as start_cap_of, stop_cap as stop_cap_of, stops};
 ghost use Rattle.uc_model.specs.Limits.{IsLawfulInstance, IsLawfulThermal, IsPower};
 ghost use Rattle.uc_model.specs.Schedule.{demand_at, renewable_count, renewable_maximum, renewable_minimum, reserve_at, thermal_count, thermal_unit};
 ghost use Rattle.dispatch_rules.specs.CommitmentTask.{commitment_at, limit_of};
@@ -70,8 +70,18 @@ fn stop_cap(given: &Given, g: usize, t: u32) -> i64
     ensures { result ≡ stop_cap_of (thermal_unit given.now.instance.now g) (commitment_at given.now.patterns.now g) t }
 {
     let on = given.is_on(g, t);
-    let stops = on && !given.is_on(g, t + 1);
-    given.unit(g).stop_cap(on, stops)
+    let is_followed = stops_behind(given, g, t);
+    given.unit(g).stop_cap(on, is_followed)
+}
+
+// Whether a unit stops behind a period.
+fn stops_behind(given: &Given, g: usize, t: u32) -> bool
+    requires given { IsGiven given.now }
+    requires unit { g < thermal_count given.now.instance.now }
+    requires period { suc t < given.now.instance.now.periods }
+    ensures { result ≡ stops (thermal_unit given.now.instance.now g) (commitment_at given.now.patterns.now g) (suc t) }
+{
+    given.is_on(g, t) && !given.is_on(g, t + 1)
 }
 
 // The right side of M11.

@@ -1,5 +1,5 @@
 //! The rows of a program's table.
-ghost use Rattle.std.specs.Prelude.{◌≡◌, IfOk, map};
+ghost use Rattle.std.specs.Prelude.{◌≡◌, ◌++◌, ◌∷◌, [], IfOk, OnOk, map};
 ghost use Rattle.dispatch_program.specs.Programs.{columns_of, line_number, start_rows};
 ghost use Rattle.pivot_run.specs.Rows.{IsSmall};
 ghost use Rattle.dispatch_table.specs.Numbers.{AreWhole, HasLine, column_of, line_of, program_of};
@@ -22,11 +22,28 @@ pub(crate) fn rows(
 {
     let mut rows = Vec::new(alloc);
     for i in 0..numbers.limits.len() {
-        rows.push(row(alloc, numbers, columns, Line::Rule(i))?)?;
+        push_row(&mut rows, alloc, numbers, columns, Line::Rule(i))?;
     }
-    rows.push(row(alloc, numbers, columns, Line::Sum)?)?;
-    rows.push(row(alloc, numbers, columns, Line::Cost)?)?;
+    push_row(&mut rows, alloc, numbers, columns, Line::Sum)?;
+    push_row(&mut rows, alloc, numbers, columns, Line::Cost)?;
     Ok(rows)
+}
+
+// Adds the row of a line.
+fn push_row(
+    rows: &mut Vec<Row>,
+    alloc: Global,
+    numbers: &Numbers,
+    columns: &[Column],
+    line: Line,
+) -> Result<(), NoMemory>
+    requires whole { AreWhole numbers.now }
+    requires columns { map column_of columns.now ≡ columns_of (program_of numbers.now) }
+    requires line { HasLine (program_of numbers.now) (line_of line) }
+    ensures { OnOk result (rows.new.items ≡ rows.old.items ++ map (line_number (program_of numbers.now) (line_of line)) (columns_of (program_of numbers.now)) ∷ []) }
+{
+    rows.push(row(alloc, numbers, columns, line)?)?;
+    Ok(())
 }
 
 /// The row of a line.
