@@ -23,6 +23,14 @@ use uc_model::{Instance, NoMemory, Printed};
 /// The caller, as a worker.
 const CALLER: u8 = 0;
 
+/// What a search runs on: the runtime of its threads, memory, and the gate that each claim enters.
+#[derive(Drop)]
+pub struct Host<'a, R: Wait, G: Gate> {
+    pub rt: &'a R,
+    pub alloc: Global,
+    pub gate: &'a G,
+}
+
 /// The book, and the best schedule so far with its cost in micro-dollars.
 #[derive(Drop)]
 pub struct Progress<C: Run> {
@@ -72,12 +80,10 @@ pub struct Closing {
 /// Commits each claim that is still held, and claims open nodes until the schedule closes the tree, no node is open or the budget is spent. The
 /// only error is `NoMemory`.
 pub fn close<C: Run, R: Wait, G: Gate>(
-    rt: &R,
-    alloc: Global,
+    host: &Host<R, G>,
     instance: &Instance,
     progress: &mut Progress<C>,
     closing: Closing,
-    gate: &G,
 ) -> Result<(), NoMemory>
     requires instance { instance.now ≡ C.opening.instance }
     requires gap { closing.gap ≡ C.opening.gap }
@@ -96,7 +102,7 @@ pub fn close<C: Run, R: Wait, G: Gate>(
     progress.book.keeps_run();
     let mut scale = closing.budget;
     for step in 0..closing.budget {
-        let Some(held) = next(rt, progress, closing, gate) else {
+        let Some(held) = next(host, progress, closing) else {
             return Ok(());
         };
         let settling = Settling {
@@ -105,7 +111,7 @@ pub fn close<C: Run, R: Wait, G: Gate>(
             held,
             scale,
         };
-        scale = settling.settle(alloc, progress)?;
+        scale = settling.settle(host.alloc, progress)?;
     }
     progress.book.keeps_run();
     Ok(())
@@ -113,10 +119,9 @@ pub fn close<C: Run, R: Wait, G: Gate>(
 
 // A claim that is held, or a new one of an open node; none where the schedule closes the tree, no node is open or the budget is spent.
 fn next<C: Run, R: Wait, G: Gate>(
-    rt: &R,
+    host: &Host<R, G>,
     progress: &mut Progress<C>,
     closing: Closing,
-    gate: &G,
 ) -> Option<Held>
     requires gap { closing.gap ≡ C.opening.gap }
     requires left { (limit : ℕ) × IsLeft C.exact C.opening progress.old.book (cost_of progress.old.best) limit }
@@ -144,7 +149,7 @@ fn next<C: Run, R: Wait, G: Gate>(
     let node = progress.book.first_open()?;
     match progress.book.claim(CALLER, node) {
         Claimed::Mine { unit, had } => {
-            gate.enter(rt, CALLER, unit);
+            host.gate.enter(host.rt, CALLER, unit);
             Some(Held {
                 unit,
                 worker: CALLER,

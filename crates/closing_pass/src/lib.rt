@@ -4,4 +4,4 @@
 mod closing;
 mod settling;
 
-pub use closing::{Closing, Progress, close};
+pub use closing::{Closing, Host, Progress, close};

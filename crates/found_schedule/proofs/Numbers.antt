@@ -1,6 +1,6 @@
 -- The numbers of a schedule that obeys can be told in a certificate: an off cell has none, a category is one of its unit's, and no more is missing
 -- than the need.
-use Rattle.std.proofs.Common.{◌≡◌, ℕ, ◌*◌, ◌<◌, ◌≤◌, ⊎_elim, All, List, [], length, get_or, sym, ap, subst, ◌∙◌, refl, arith, Bool, true, false, not, ◌&&◌, ◌==◌, ℤ, pos, ◌*ℤ◌, ◌≤ℤ◌, IsTrue}
+use Rattle.std.proofs.Common.{◌≡◌, ℕ, ◌*◌, ◌<◌, ◌≤◌, ⊎_elim, All, List, [], length, get_or, sym, subst, ◌∙◌, refl, arith, Bool, true, false, not, ◌&&◌, ◌==◌, ℤ, pos, ◌*ℤ◌, ◌≤ℤ◌}
 use Rattle.std.specs.Int.{int_max}
 use Rattle.std.proofs.lemmas.Bool.{cases_lt, cond-false, eqb-true}
 use Rattle.std.proofs.lemmas.Int.{ints}
@@ -15,8 +15,7 @@ use Rattle.uc_model.specs.StartCategory.{is_category_allowed}
 use Rattle.uc_model.proofs.Obeyed.{rule_at}
 use Rattle.uc_model.proofs.PrintedCosts.{watts-factor}
 use Rattle.uc_model.proofs.Ring.{linear, scale-le-scale}
-use Rattle.uc_model.proofs.Shortages.{IsPrintedShortage, printed_shed, printed_short}
-use Rattle.schedule_check.specs.PlainNumbers.{IsIdleCell}
+use Rattle.uc_model.proofs.Shortages.{printed_shed, printed_short}
 use Rattle.schedule_check.specs.SizedNumbers.{HasSizedNumbers, IsSized}
 use Rattle.schedule_check.specs.WholeWatts.{over, row_of}
 use Rattle.schedule_check.proofs.Priced.{priced_over}

@@ -13,7 +13,7 @@ use Rattle.branch_tree.specs.declared.found.Entry.{Entry}
 use Rattle.branch_tree.specs.declared.found.Outcome.{Outcome}
 use Rattle.branch_tree.specs.declared.found.Outcome.TheVariants.{Value, Empty}
 use Rattle.branch_tree.proofs.Changes.{get-append, place_part}
-use Rattle.search_core.specs.Machine.{Machine, entries_of}
+use Rattle.search_core.specs.Machine.{entries_of}
 use Rattle.search_core.specs.Moves.{IsFreeFor, kept, tree_after}
 use Rattle.search_core.specs.declared.event.Move.{Move}
 use Rattle.search_core.specs.declared.stored.Stored.{Stored}

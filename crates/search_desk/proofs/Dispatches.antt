@@ -27,7 +27,7 @@ use Rattle.decided_nodes.specs.Decided.{DecidesEach, IsDecided, IsDispatched, Is
 use Rattle.decided_nodes.specs.declared.decided.Decided.{Decided}
 use Rattle.decided_nodes.specs.Pivoting.{node_limit}
 use Rattle.pivot_closing.specs.Pivoted.{IsByAnswer, IsExactFirst}
-use Rattle.pivot_closing.specs.PivotedSteps.{IsAgain, IsPivotedCommit}
+use Rattle.pivot_closing.specs.PivotedSteps.{IsAgain}
 use Rattle.pivot_closing.proofs.Closing.{entry_nodes}
 use Rattle.pivot_closing.proofs.Decided.{cell_decided}
 use Rattle.pivot_closing.proofs.PivotedSteps.{none_pivoted, entries_keep_pivoted}

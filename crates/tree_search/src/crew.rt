@@ -2,14 +2,12 @@
 
 ghost use Rattle.std.specs.Prelude.{◌≡◌, ◌≤◌};
 ghost use Rattle.uc_model.specs.declared.tolerance.TheConstants.{WHOLE_GAP};
-ghost use Rattle.search_desk.specs.Best.{cost_of};
-ghost use Rattle.search_desk.specs.Desks.{IsClaimOf};
-ghost use Rattle.search_desk.specs.Dispatches.{IsExhaustiveFor, IsFirstByDispatch};
+ghost use Rattle.search_desk.specs.Dispatches.{IsExhaustiveFor};
 ghost use Rattle.decided_nodes.specs.Pivoting.{uses_exact_dispatch};
-ghost use Rattle.node_visits.specs.Trials.{IsEvaluatedFor, IsNextAt};
 
 use branch_tree::is_within_gap;
 use claims::Ticket;
+use closing_pass::Host;
 use crossbeam_utils::Backoff;
 use incumbent::Best;
 use node_visits::{Aim, Effort, Visited, Worker, beside, enough, evaluated, moves};
@@ -18,7 +16,6 @@ use prices::Ascent;
 use search_core::Move;
 use search_desk::{Claim, Desk, Evaluated, Left, OwnBest, Run, Taken, Tickets};
 use std::alloc::Global;
-use std::marker::PhantomData;
 use std::sync::{Condvar, Mutex, Wait};
 use uc_model::NoMemory;
 
@@ -187,80 +184,12 @@ fn is_closed_by(cost: Option<i64>, bound: i128, gap: u32) -> bool
     }
 }
 
-/// Makes the first claim of the root, by the ascent that was made already, if there was one; it is repaired later, unless it was repaired
-/// already. For several workers all nodes that are open then lie in the worker's queue. The only error is `NoMemory`.
-pub(crate) fn open_root<C: Run, R: Wait, G: Gate>(
-    rt: &R,
-    alloc: Global,
-    shared: &Shared<C>,
-    member: &mut Member<C>,
-    next: &mut Option<Ascent>,
-    gate: &G,
-) -> Result<(), NoMemory>
-    requires { IsNextAt C.opening.instance 1 next.old }
-{
-    let repaired = is_repaired(next);
-    let taken = shared
-        .desk
-        .lock(rt)
-        .claim(alloc, &shared.best, member.me, 0);
-    if let Taken::Mine(claim) = taken {
-        let done = held(rt, alloc, shared, member, &claim, next, gate);
-        drop(claim);
-        if repaired {
-            member.put_off(None);
-        }
-        done?;
-    }
-    if shared.aim.shared {
-        // The others begin later than this worker, which is to leave them what they may steal.
-        member.waiting = 1;
-        member.tickets.put_all_out()?;
-    }
-    Ok(())
-}
-
 // Whether the ascent was made, and repaired, already.
 fn is_repaired(next: &Option<Ascent>) -> bool {
     match next {
         Some(ascent) => ascent.ray.is_none(),
         None => false,
     }
-}
-
-/// Claims nodes until the search is over.
-pub(crate) fn work<C: Run, R: Wait, G: Gate>(
-    rt: &R,
-    alloc: Global,
-    shared: &Shared<C>,
-    member: &mut Member<C>,
-    gate: &G,
-) {
-    shared.desk.lock(rt).begin();
-    let refused = worked(rt, alloc, shared, member, gate).is_err();
-    shared.desk.lock(rt).end(refused);
-    shared.news.notify_all();
-}
-
-// The same, where memory may be refused.
-fn worked<C: Run, R: Wait, G: Gate>(
-    rt: &R,
-    alloc: Global,
-    shared: &Shared<C>,
-    member: &mut Member<C>,
-    gate: &G,
-) -> Result<(), NoMemory> {
-    member.repair_late(alloc, shared)?;
-    for _ in rt.forever() {
-        let is_over = match next_node(member)? {
-            Some(node) => !turn(rt, alloc, shared, member, node, gate)?,
-            None => wait(rt, shared),
-        };
-        if is_over {
-            return Ok(());
-        }
-    }
-    Ok(())
 }
 
 // The node to claim next: one of the worker's own, or one that it steals.
@@ -278,98 +207,6 @@ fn next_node<C: Run>(member: &mut Member<C>) -> Result<Option<u32>, NoMemory> {
     Ok(None)
 }
 
-// Waits for news. Whether the search is over.
-fn wait<C: Run, R: Wait>(rt: &R, shared: &Shared<C>) -> bool {
-    let mut desk = shared.desk.lock(rt);
-    let news = desk.rest();
-    if desk.is_quiet(news) {
-        desk = shared.news.wait_while(rt, desk, |desk| desk.is_quiet(news));
-    } else {
-        shared.news.notify_all();
-    }
-    desk.rise()
-}
-
-// Claims the node, evaluates it, and repairs its ascent. False where the search is over.
-fn turn<C: Run, R: Wait, G: Gate>(
-    rt: &R,
-    alloc: Global,
-    shared: &Shared<C>,
-    member: &mut Member<C>,
-    node: u32,
-    gate: &G,
-) -> Result<bool, NoMemory> {
-    let taken = shared
-        .desk
-        .lock(rt)
-        .claim(alloc, &shared.best, member.me, node);
-    match taken {
-        Taken::Over => Ok(false),
-        Taken::Gone => Ok(true),
-        Taken::Refused => Err(NoMemory),
-        Taken::Mine(claim) => {
-            let visited = visited(rt, alloc, shared, member, &claim, gate);
-            drop(claim);
-            visited
-        }
-    }
-}
-
-// Evaluates the node that is held, commits it, and repairs its ascent. The search isn't over.
-fn visited<C: Run, R: Wait, G: Gate>(
-    rt: &R,
-    alloc: Global,
-    shared: &Shared<C>,
-    member: &mut Member<C>,
-    claim: &Claim,
-    gate: &G,
-) -> Result<bool, NoMemory>
-    requires { IsClaimOf C.opening claim.now }
-{
-    let mut none = None;
-    let committed = held(rt, alloc, shared, member, claim, &mut none, gate);
-    drop(none);
-    committed?;
-    member.repair_late(alloc, shared)?;
-    Ok(true)
-}
-
-// Evaluates the node that is held, publishes the schedule that comes of it, commits it, and puts its ascent off, if one is to be repaired.
-fn held<C: Run, R: Wait, G: Gate>(
-    rt: &R,
-    alloc: Global,
-    shared: &Shared<C>,
-    member: &mut Member<C>,
-    claim: &Claim,
-    next: &mut Option<Ascent>,
-    gate: &G,
-) -> Result<(), NoMemory>
-    requires claim { IsClaimOf C.opening claim.now }
-    requires next { IsNextAt C.opening.instance 1 next.old }
-{
-    let unit = claim.unit;
-    gate.enter(rt, member.me, unit);
-    match evaluated(alloc, &mut member.worker, claim, shared.aim, next) {
-        Ok(
-            Visited {
-                done,
-                ascent,
-                found,
-            },
-        ) => {
-            member.own.offer(&shared.best, found);
-            let left = entered(rt, shared, member, claim, done);
-            let (ascent, left) = beside(ascent, left)?;
-            member.put_off(put_by(ascent, left, unit));
-            Ok(())
-        }
-        Err(NoMemory) => {
-            shared.desk.lock(rt).give_back(member.me, unit);
-            Err(NoMemory)
-        }
-    }
-}
-
 // The ascent, with what its commit left.
 fn put_by(ascent: Option<Ascent>, left: Left, unit: u32) -> Option<Late> {
     match ascent {
@@ -378,24 +215,176 @@ fn put_by(ascent: Option<Ascent>, left: Left, unit: u32) -> Option<Late> {
     }
 }
 
-// Commits the evaluation, by what the worker has published, and takes the tickets that it leaves before the lock is given back.
-fn entered<C: Run, R: Wait>(
-    rt: &R,
-    shared: &Shared<C>,
-    member: &mut Member<C>,
-    claim: &Claim,
-    done: Evaluated,
-) -> Result<Left, NoMemory>
-    requires claim { IsClaimOf C.opening claim.now }
-    requires done { IsEvaluatedFor C.exact C.opening.instance claim.now done }
-    requires dispatch { IsFirstByDispatch C.exact_dispatch C.opening claim.now.path claim.now.had (cost_of member.old.own.schedule) done }
-{
-    let mut desk = shared.desk.lock(rt);
-    desk.meet(&shared.best, &mut member.own);
-    let left = desk.commit(&shared.best, member.me, claim, done);
-    if member.take_tickets(claim, &left)? {
-        desk.tell();
-        shared.news.notify_all();
+impl<C: Run> Shared<C> {
+    ghost use Rattle.search_desk.specs.Best.{cost_of};
+    ghost use Rattle.search_desk.specs.Desks.{IsClaimOf, IsTakenOf};
+    ghost use Rattle.search_desk.specs.Dispatches.{IsFirstByDispatch};
+    ghost use Rattle.node_visits.specs.Trials.{IsEvaluatedFor, IsNextAt};
+
+    /// Makes the first claim of the root, by the ascent that was made already, if there was one; it is repaired later, unless it was repaired
+    /// already. For several workers all nodes that are open then lie in the worker's queue. The only error is `NoMemory`.
+    pub(crate) fn open_root<R: Wait, G: Gate>(
+        &self,
+        host: &Host<R, G>,
+        member: &mut Member<C>,
+        next: &mut Option<Ascent>,
+    ) -> Result<(), NoMemory>
+        requires { IsNextAt C.opening.instance 1 next.old }
+    {
+        let repaired = is_repaired(next);
+        if let Taken::Mine(claim) = self.taken(host, member.me, 0) {
+            let done = self.held(host, member, &claim, next);
+            drop(claim);
+            if repaired {
+                member.put_off(None);
+            }
+            done?;
+        }
+        if self.aim.shared {
+            // The others begin later than this worker, which is to leave them what they may steal.
+            member.waiting = 1;
+            member.tickets.put_all_out()?;
+        }
+        Ok(())
     }
-    Ok(left)
+
+    // What the desk gives to a worker that asks for the node.
+    fn taken<R: Wait, G: Gate>(&self, host: &Host<R, G>, me: u8, node: u32) -> Taken
+        ensures { IsTakenOf C.opening result }
+    {
+        self.desk
+            .lock(host.rt)
+            .claim(host.alloc, &self.best, me, node)
+    }
+
+    /// Claims nodes until the search is over.
+    pub(crate) fn work<R: Wait, G: Gate>(&self, host: &Host<R, G>, member: &mut Member<C>) {
+        self.desk.lock(host.rt).begin();
+        let refused = self.worked(host, member).is_err();
+        self.desk.lock(host.rt).end(refused);
+        self.news.notify_all();
+    }
+
+    // The same, where memory may be refused.
+    fn worked<R: Wait, G: Gate>(
+        &self,
+        host: &Host<R, G>,
+        member: &mut Member<C>,
+    ) -> Result<(), NoMemory> {
+        member.repair_late(host.alloc, self)?;
+        for _ in host.rt.forever() {
+            let is_over = match next_node(member)? {
+                Some(node) => !self.turn(host, member, node)?,
+                None => self.wait(host.rt),
+            };
+            if is_over {
+                return Ok(());
+            }
+        }
+        Ok(())
+    }
+
+    // Waits for news. Whether the search is over.
+    fn wait<R: Wait>(&self, rt: &R) -> bool {
+        let mut desk = self.desk.lock(rt);
+        let news = desk.rest();
+        if desk.is_quiet(news) {
+            desk = self.news.wait_while(rt, desk, |desk| desk.is_quiet(news));
+        } else {
+            self.news.notify_all();
+        }
+        desk.rise()
+    }
+
+    // Claims the node, evaluates it, and repairs its ascent. False where the search is over.
+    fn turn<R: Wait, G: Gate>(
+        &self,
+        host: &Host<R, G>,
+        member: &mut Member<C>,
+        node: u32,
+    ) -> Result<bool, NoMemory> {
+        match self.taken(host, member.me, node) {
+            Taken::Over => Ok(false),
+            Taken::Gone => Ok(true),
+            Taken::Refused => Err(NoMemory),
+            Taken::Mine(claim) => {
+                let visited = self.visited(host, member, &claim);
+                drop(claim);
+                visited
+            }
+        }
+    }
+
+    // Evaluates the node that is held, commits it, and repairs its ascent. The search isn't over.
+    fn visited<R: Wait, G: Gate>(
+        &self,
+        host: &Host<R, G>,
+        member: &mut Member<C>,
+        claim: &Claim,
+    ) -> Result<bool, NoMemory>
+        requires { IsClaimOf C.opening claim.now }
+    {
+        let mut none = None;
+        let committed = self.held(host, member, claim, &mut none);
+        drop(none);
+        committed?;
+        member.repair_late(host.alloc, self)?;
+        Ok(true)
+    }
+
+    // Evaluates the node that is held, publishes the schedule that comes of it, commits it, and puts its ascent off, if one is to be repaired.
+    fn held<R: Wait, G: Gate>(
+        &self,
+        host: &Host<R, G>,
+        member: &mut Member<C>,
+        claim: &Claim,
+        next: &mut Option<Ascent>,
+    ) -> Result<(), NoMemory>
+        requires claim { IsClaimOf C.opening claim.now }
+        requires next { IsNextAt C.opening.instance 1 next.old }
+    {
+        let unit = claim.unit;
+        host.gate.enter(host.rt, member.me, unit);
+        match evaluated(host.alloc, &mut member.worker, claim, self.aim, next) {
+            Ok(
+                Visited {
+                    done,
+                    ascent,
+                    found,
+                },
+            ) => {
+                member.own.offer(&self.best, found);
+                let left = self.entered(host.rt, member, claim, done);
+                let (ascent, left) = beside(ascent, left)?;
+                member.put_off(put_by(ascent, left, unit));
+                Ok(())
+            }
+            Err(NoMemory) => {
+                self.desk.lock(host.rt).give_back(member.me, unit);
+                Err(NoMemory)
+            }
+        }
+    }
+
+    // Commits the evaluation, by what the worker has published, and takes the tickets that it leaves before the lock is given back.
+    fn entered<R: Wait>(
+        &self,
+        rt: &R,
+        member: &mut Member<C>,
+        claim: &Claim,
+        done: Evaluated,
+    ) -> Result<Left, NoMemory>
+        requires claim { IsClaimOf C.opening claim.now }
+        requires done { IsEvaluatedFor C.exact C.opening.instance claim.now done }
+        requires dispatch { IsFirstByDispatch C.exact_dispatch C.opening claim.now.path claim.now.had (cost_of member.old.own.schedule) done }
+    {
+        let mut desk = self.desk.lock(rt);
+        desk.meet(&self.best, &mut member.own);
+        let left = desk.commit(&self.best, member.me, claim, done);
+        if member.take_tickets(claim, &left)? {
+            desk.tell();
+            self.news.notify_all();
+        }
+        Ok(left)
+    }
 }

@@ -11,10 +11,11 @@ ghost use Rattle.closing_pass.specs.Closings.{IsLeft};
 ghost use Rattle.tree_search.specs.Options.{AreOptions};
 
 use crate::begun::Crew;
-use crate::crew::{Member, Shared, open_root, work};
+use crate::crew::{Member, Shared};
 use crate::members::members;
 use crate::options::Options;
 use book::Book;
+use closing_pass::Host;
 use decided_nodes::Pivoting;
 use node_visits::{Aim, beside};
 use outside::Gate;
@@ -38,12 +39,10 @@ pub(crate) struct Crowd<'a, C: Run> {
 
 /// The book and the best schedule after all workers have ended. The only error is `NoMemory`.
 pub(crate) fn crowded<C: Run + Send + Sync, R: Threads + Wait + Sync, G: Gate + Sync>(
-    rt: &R,
-    alloc: Global,
+    host: &Host<R, G>,
     options: &Options,
     crew: Crew<C>,
     book: Book<C>,
-    gate: &G,
 ) -> Result<(Book<C>, Option<(Printed, i64)>), NoMemory>
     requires options { AreOptions options.now }
     requires gap { options.now.gap ≡ C.opening.gap }
@@ -67,8 +66,8 @@ pub(crate) fn crowded<C: Run + Send + Sync, R: Threads + Wait + Sync, G: Gate + 
         own,
         mut members,
         mut next,
-    } = gathered(alloc, options, crew, book)?;
-    let worked = work_off(rt, alloc, &shared, &mut members, &mut next, gate);
+    } = gathered(host.alloc, options, crew, book)?;
+    let worked = work_off(host, &shared, &mut members, &mut next);
     drop(next);
     let ((shared, own, members), ()) = beside((shared, own, members), worked)?;
     joined(shared, own, members)
@@ -124,41 +123,37 @@ fn gathered<'a, C: Run>(
 // Makes the first claim, and has each worker claim until the search is over. The only error is `NoMemory`, where it was refused to the first
 // claim.
 fn work_off<C: Run + Send + Sync, R: Threads + Wait + Sync, G: Gate + Sync>(
-    rt: &R,
-    alloc: Global,
+    host: &Host<R, G>,
     shared: &Shared<C>,
     members: &mut Vec<Member<C>>,
     next: &mut Option<Ascent>,
-    gate: &G,
 ) -> Result<(), NoMemory>
     requires { IsNextAt C.opening.instance 1 next.old }
     ensures { vec_len members.new ≡ vec_len members.old }
 {
-    open(rt, alloc, shared, members, next, gate)?;
+    open(host, shared, members, next)?;
     let workers = members.len().max(1);
     for_each_mut(
-        rt,
+        host.rt,
         members.as_mut_slice(),
         workers,
-        &|_, member| { work(rt, alloc, shared, member, gate) },
+        &|_, member| { shared.work(host, member) },
     );
     Ok(())
 }
 
 // Makes the first claim, by the first worker. The only error is `NoMemory`.
 fn open<C: Run, R: Wait, G: Gate>(
-    rt: &R,
-    alloc: Global,
+    host: &Host<R, G>,
     shared: &Shared<C>,
     members: &mut Vec<Member<C>>,
     next: &mut Option<Ascent>,
-    gate: &G,
 ) -> Result<(), NoMemory>
     requires { IsNextAt C.opening.instance 1 next.old }
     ensures { vec_len members.new ≡ vec_len members.old }
 {
     match members.first_mut() {
-        Some(first) => open_root(rt, alloc, shared, first, next, gate),
+        Some(first) => shared.open_root(host, first, next),
         None => Ok(()),
     }
 }

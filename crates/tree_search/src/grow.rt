@@ -23,14 +23,13 @@ use crate::begun::{Begun, Crew};
 use crate::crowd::crowded;
 use crate::options::Options;
 use book::Book;
-use closing_pass::{Closing, Progress, close};
+use closing_pass::{Closing, Host, Progress, close};
 use decided_nodes::Pivoting;
 use incumbent::Best;
 use node_visits::{Start, Worker, beside};
 use outside::Gate;
 use search_core::laws::tree_runs_hold;
 use search_desk::{Grown, Run};
-use std::alloc::Global;
 use std::marker::Brand;
 use std::sync::Wait;
 use std::thread::Threads;
@@ -39,12 +38,10 @@ use uc_model::{NoMemory, Printed};
 /// Claims nodes, by several workers, until the best schedule's cost is within the gap of the tree's bound, no node is open, or the budget is
 /// spent. The only error is `NoMemory`.
 pub fn search_tree<R: Threads + Wait + Sync, G: Gate + Sync>(
-    rt: &R,
-    alloc: Global,
+    host: &Host<R, G>,
     worker: Worker,
     options: &Options,
     start: Start,
-    gate: &G,
 ) -> Result<Grown, NoMemory>
     requires options { AreOptions options.now }
     requires lawful { IsLawfulInstance worker }
@@ -58,7 +55,7 @@ pub fn search_tree<R: Threads + Wait + Sync, G: Gate + Sync>(
     ensures quiet { is_schedule_within start.best (Some (bound_of start.opening.value start.opening.table.k)) options.now.gap ≡ true
         → IfOk result (λ grown. grown.log ≡ []) }
 {
-    let made = Best::new(alloc, 2 * u32::from(options.workers) + 2);
+    let made = Best::new(host.alloc, 2 * u32::from(options.workers) + 2);
     let ((worker, start), (best, pass)) = beside((worker, start), made)?;
     let begun = Begun {
         worker,
@@ -66,16 +63,14 @@ pub fn search_tree<R: Threads + Wait + Sync, G: Gate + Sync>(
         best,
         pass,
     };
-    grow::<Brand, R, G>(rt, alloc, options, begun, gate)
+    grow::<Brand, R, G>(host, options, begun)
 }
 
 // The search by these.
 fn grow<C: Run + Send + Sync, R: Threads + Wait + Sync, G: Gate + Sync>(
-    rt: &R,
-    alloc: Global,
+    host: &Host<R, G>,
     options: &Options,
     begun: Begun,
-    gate: &G,
 ) -> Result<Grown, NoMemory>
     requires options { AreOptions options.now }
     requires lawful { IsLawfulInstance begun.worker }
@@ -93,19 +88,17 @@ fn grow<C: Run + Send + Sync, R: Threads + Wait + Sync, G: Gate + Sync>(
     ensures quiet { is_schedule_within begun.entry.start.best (Some (bound_of begun.entry.start.opening.value begun.entry.start.opening.table.k)) options.now.gap ≡ true
         → IfOk result (λ grown. grown.log ≡ []) }
 {
-    let book = begun.book::<C>(alloc, options);
+    let book = begun.book::<C>(host.alloc, options);
     let (begun, book) = beside(begun, book)?;
-    grown(rt, alloc, options, begun, book, gate)
+    grown(host, options, begun, book)
 }
 
 // The search that begins with this book.
 fn grown<C: Run + Send + Sync, R: Threads + Wait + Sync, G: Gate + Sync>(
-    rt: &R,
-    alloc: Global,
+    host: &Host<R, G>,
     options: &Options,
     begun: Begun,
     book: Book<C>,
-    gate: &G,
 ) -> Result<Grown, NoMemory>
     requires options { AreOptions options.now }
     requires lawful { IsLawfulInstance begun.worker }
@@ -127,7 +120,7 @@ fn grown<C: Run + Send + Sync, R: Threads + Wait + Sync, G: Gate + Sync>(
     if begun.is_closed(options.gap) {
         return Ok(left(book, begun.into_schedule()));
     }
-    let (book, schedule) = ended(rt, alloc, options, begun.into_crew::<C>(), book, gate)?;
+    let (book, schedule) = ended(host, options, begun.into_crew::<C>(), book)?;
     Ok(left(book, schedule))
 }
 
@@ -156,12 +149,10 @@ fn left<C: Run>(book: Book<C>, best: Option<(Printed, i64)>) -> Grown
 
 // The book and the best schedule after the workers and the closing pass. The only error is `NoMemory`.
 fn ended<C: Run + Send + Sync, R: Threads + Wait + Sync, G: Gate + Sync>(
-    rt: &R,
-    alloc: Global,
+    host: &Host<R, G>,
     options: &Options,
     crew: Crew<C>,
     book: Book<C>,
-    gate: &G,
 ) -> Result<(Book<C>, Option<(Printed, i64)>), NoMemory>
     requires options { AreOptions options.now }
     requires gap { options.now.gap ≡ C.opening.gap }
@@ -181,7 +172,7 @@ fn ended<C: Run + Send + Sync, R: Threads + Wait + Sync, G: Gate + Sync>(
     ensures no_worse { IfOk result (λ both. IsNoWorse crew.entry.own.schedule both.1) }
 {
     let instance = crew.worker.instance();
-    let (book, best) = crowded(rt, alloc, options, crew, book, gate)?;
+    let (book, best) = crowded(host, options, crew, book)?;
     let closing = Closing {
         gap: options.gap,
         budget: options.budget,
@@ -189,7 +180,7 @@ fn ended<C: Run + Send + Sync, R: Threads + Wait + Sync, G: Gate + Sync>(
         pivoting: Pivoting::of(options.pivot, instance, options.budget),
     };
     let mut progress = Progress { book, best };
-    let closed = close(rt, alloc, instance, &mut progress, closing, gate);
+    let closed = close(host, instance, &mut progress, closing);
     let (progress, ()) = beside(progress, closed)?;
     let Progress { book, best } = progress;
     Ok((book, best))

@@ -13,6 +13,7 @@ ghost use Rattle.search_answers.specs.Answers.{IsAnswerOf};
 ghost use Rattle.search_answers.specs.Starts.{IsOpened};
 
 use branch_tree::Found;
+use closing_pass::Host;
 use node_visits::{Worker, beside};
 use outside::Gate;
 use prices::Values;
@@ -27,12 +28,12 @@ use uc_model::{Instance, NoMemory};
 /// own, or for the first ray of the opening that leaves no schedule, without any claim; or else a bound, and a schedule where the drop
 /// commitment has one or a repair finds one. Each claim enters the gate as its unit, from 1, of its worker, from 0. Where a thread can't be
 /// made its worker runs after another one. The only error is `NoMemory`.
-pub fn search<R: Threads + Wait + Sync, G: Gate + Sync>(
-    rt: &R,
+pub fn search<'a, R: Threads + Wait + Sync, G: Gate + Sync>(
+    rt: &'a R,
     alloc: Global,
     instance: &Instance,
     options: &Options,
-    gate: &G,
+    gate: &'a G,
 ) -> Result<Found, NoMemory>
     requires lawful { IsLawfulInstance instance.now }
     requires options { AreOptions options.now }
@@ -45,65 +46,60 @@ pub fn search<R: Threads + Wait + Sync, G: Gate + Sync>(
         exact: options.exact_units,
     };
     let worker = Worker::new(alloc, values)?;
-    answered(rt, alloc, worker, options, gate)
+    let host = Host { rt, alloc, gate };
+    answered(&host, worker, options)
 }
 
 // The answer of a worker on the instance.
 fn answered<R: Threads + Wait + Sync, G: Gate + Sync>(
-    rt: &R,
-    alloc: Global,
+    host: &Host<R, G>,
     worker: Worker,
     options: &Options,
-    gate: &G,
 ) -> Result<Found, NoMemory>
     requires options { AreOptions options.now }
     ensures { IfOk result (IsAnswerOf options.now.exact_units options.now.pivot worker.entry options.now.budget options.now.gap) }
 {
     let mut worker = worker;
-    let empty = worker.first_empty(alloc);
+    let empty = worker.first_empty(host.alloc);
     let (worker, empty) = beside(worker, empty)?;
     match empty {
         Some(g) => {
             let instance = worker.instance();
             drop(worker);
-            without_unit(alloc, instance, g, false)
+            without_unit(host.alloc, instance, g, false)
         }
-        None => patterned(rt, alloc, worker, options, gate),
+        None => patterned(host, worker, options),
     }
 }
 
 // The answer where each unit has an allowed pattern.
 fn patterned<R: Threads + Wait + Sync, G: Gate + Sync>(
-    rt: &R,
-    alloc: Global,
+    host: &Host<R, G>,
     worker: Worker,
     options: &Options,
-    gate: &G,
 ) -> Result<Found, NoMemory>
     requires patterns { HasEachPattern worker }
     requires options { AreOptions options.now }
     ensures { IfOk result (IsAnswerOf options.now.exact_units options.now.pivot worker.entry options.now.budget options.now.gap) }
 {
     let mut worker = worker;
-    let unscheduled = worker.first_unscheduled(alloc, options.exact_units);
+    let unscheduled = worker.first_unscheduled(host.alloc, options.exact_units);
     let (worker, unscheduled) = beside(worker, unscheduled)?;
     match unscheduled {
         Some(g) => {
             let instance = worker.instance();
             drop(worker);
-            without_unit(alloc, instance, g, options.exact_units)
+            without_unit(host.alloc, instance, g, options.exact_units)
         }
-        None => searched(rt, alloc, worker, options, gate),
+        None => searched(host, worker, options),
     }
 }
 
 // The answer where each unit has an allowed pattern, and by exact values a schedule of its own.
 fn searched<R: Threads + Wait + Sync, G: Gate + Sync>(
-    rt: &R,
-    alloc: Global,
+    host: &Host<R, G>,
     worker: Worker,
     options: &Options,
-    gate: &G,
 ) -> Result<Found, NoMemory>
     requires patterns { HasEachPattern worker }
     requires unblocked { HasNoBlockedUnit options.now.exact_units worker }
@@ -111,25 +107,28 @@ fn searched<R: Threads + Wait + Sync, G: Gate + Sync>(
     ensures { IfOk result (IsAnswerOf options.now.exact_units options.now.pivot worker.entry options.now.budget options.now.gap) }
 {
     let mut worker = worker;
-    let opened = started(alloc, &mut worker, options.gap);
+    let opened = started(host.alloc, &mut worker, options.gap);
     let (mut worker, opened) = beside(worker, opened)?;
-    match excluded(alloc, &mut worker, &opened.start.best, options.exact_units) {
+    match excluded(
+        host.alloc,
+        &mut worker,
+        &opened.start.best,
+        options.exact_units,
+    ) {
         Some(answer) => {
             drop((worker, opened));
             answer
         }
-        None => claimed(rt, alloc, worker, options, opened, gate),
+        None => claimed(host, worker, options, opened),
     }
 }
 
 // The answer where no ray of the opening excludes the root either.
 fn claimed<R: Threads + Wait + Sync, G: Gate + Sync>(
-    rt: &R,
-    alloc: Global,
+    host: &Host<R, G>,
     worker: Worker,
     options: &Options,
     opened: Opened,
-    gate: &G,
 ) -> Result<Found, NoMemory>
     requires patterns { HasEachPattern worker }
     requires unblocked { HasNoBlockedUnit options.now.exact_units worker }
@@ -140,6 +139,6 @@ fn claimed<R: Threads + Wait + Sync, G: Gate + Sync>(
 {
     let instance = worker.instance();
     let Opened { start, most_on } = opened;
-    let grown = search_tree(rt, alloc, worker, options, start, gate)?;
-    bounded(alloc, instance, grown, most_on)
+    let grown = search_tree(host, worker, options, start)?;
+    bounded(host.alloc, instance, grown, most_on)
 }

@@ -1,5 +1,5 @@
 -- What the check accepts obeys and has its printed cost, which fits; and it accepts what obeys.
-use Rattle.std.proofs.Common.{◌≡◌, ◌≤◌, subst, sym, lit<, ap, ◌∙◌, Some, to_z, of_z, unsigned_abs, true, false, IsTrue}
+use Rattle.std.proofs.Common.{◌≡◌, ◌≤◌, subst, sym, lit<, ap, ◌∙◌, to_z, of_z, unsigned_abs, true, false}
 use Rattle.std.specs.Int.{w64}
 use Rattle.uc_model.specs.PrintedSchedule.{printed_cost, printed_denominator}
 use Rattle.uc_model.specs.declared.limits.TheConstants.{COST_MAX}

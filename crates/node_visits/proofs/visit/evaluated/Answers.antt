@@ -1,7 +1,7 @@
 -- What was evaluated at the table of the exact dispatch is by it; and a node that is ripe and late at once is split, unless each cell is decided.
 use Rattle.std.proofs.Common.{◌∙◌, arith, subst, sym, IfOk}
 use Rattle.uc_model.specs.declared.instance.Instance.{Instance}
-use Rattle.decided_nodes.specs.Decided.{DecidesEach, IsDispatched}
+use Rattle.decided_nodes.specs.Decided.{DecidesEach}
 use Rattle.decided_nodes.specs.Pivoting.{uses_exact_dispatch}
 use Rattle.opening.specs.Outcomes.{IsOutcomeAt}
 use Rattle.search_desk.proofs.Dispatches.{by_dispatch}

@@ -1,6 +1,8 @@
 -- The worker stays the instance's.
-use Rattle.std.proofs.Common.{◌∙◌, subst, sym, IfOk}
-use Rattle.dual_model.specs.Tree.{HasEachPattern}
+use Rattle.std.proofs.Common.{◌∙◌, subst, sym, IfOk, MatchOption}
+use Rattle.dual_model.specs.Tree.{HasEachPattern, root}
+use Rattle.dual_model.specs.ValueKind.{IsFirstBlocked}
+use Rattle.opening.specs.Blocked.{HasNoBlockedUnit}
 use Rattle.uc_model.specs.declared.instance.Instance.{Instance}
 use Rattle.search_answers.specs.Answers.{IsAnswerOf}
 use Rattle.workers.proofs.root_search.patterned.Goals as goal
@@ -12,6 +14,15 @@ without_unit-requires-clause-patterns g c = λ exact.
 pub searched-requires-clause-patterns : goal.searched-requires-clause-patterns
 searched-requires-clause-patterns g c = λ lifetimes within.
     subst HasEachPattern (sym (c.in_ok-worker.ensures.value ∙ c.first_unscheduled-unscheduled.ensures.kept)) c.requires.patterns
+
+pub searched-requires-clause-unblocked : goal.searched-requires-clause-unblocked
+searched-requires-clause-unblocked g c = λ lifetimes within.
+    let instance = c.args.worker in
+    let exact = c.args.options.now.exact_units in
+    let told = subst (λ made. IfOk made (λ unit. MatchOption unit (HasNoBlockedUnit exact instance) (IsFirstBlocked exact instance root))) c.in_ok-worker.ensures.made
+    c.first_unscheduled-unscheduled.ensures.unscheduled in
+    subst (HasNoBlockedUnit exact) (sym (c.in_ok-worker.ensures.value ∙ c.first_unscheduled-unscheduled.ensures.kept))
+    (subst (λ unit. MatchOption unit (HasNoBlockedUnit exact instance) (IsFirstBlocked exact instance root)) c.in-None.is told)
 
 pub returns-in-Some : goal.returns-in-Some
 returns-in-Some g c =

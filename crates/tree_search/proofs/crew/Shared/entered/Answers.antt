@@ -4,7 +4,7 @@ use Rattle.search_desk.specs.Best.{cost_of}
 use Rattle.search_desk.specs.Desks.{DeskView}
 use Rattle.search_desk.specs.Dispatches.{IsFirstByDispatch}
 use Rattle.search_desk.proofs.Dispatches.{first_lower}
-use Rattle.tree_search.proofs.crew.entered.Goals as goal
+use Rattle.tree_search.proofs.crew.Shared.entered.Goals as goal
 
 pub commit-left-requires-clause-dispatch : goal.commit-left-requires-clause-dispatch
 commit-left-requires-clause-dispatch g c =

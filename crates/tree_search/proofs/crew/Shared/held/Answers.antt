@@ -6,7 +6,7 @@ use Rattle.search_desk.specs.Best.{cost_of}
 use Rattle.search_desk.specs.Desks.{IsHeldClaim}
 use Rattle.search_desk.specs.Dispatches.{IsByDispatch}
 use Rattle.search_desk.proofs.Dispatches.{by_dispatch-lower}
-use Rattle.tree_search.proofs.crew.held.Goals as goal
+use Rattle.tree_search.proofs.crew.Shared.held.Goals as goal
 
 pub evaluated-requires-clause-claim : goal.evaluated-requires-clause-claim
 evaluated-requires-clause-claim g c =
@@ -20,9 +20,9 @@ entered-left-requires-clause-dispatch g c = λ asked first.
     let found = cost_of visited.found in
     let is = c.in-Ok.ensures.visited in
     record {
-      direct = λ enough none. subst (λ (i : Instance). DecidesEach i path) own (is.direct (c.args.shared.now.exhaustive asked enough) none);
+      direct = λ enough none. subst (λ (i : Instance). DecidesEach i path) own (is.direct (c.args.self.now.exhaustive asked enough) none);
       exact = λ each.
           by_dispatch-lower g.C.Case.opening.instance path found (cost_of c.offer.new.self.schedule) visited.done.table visited.done.outcome c.offer.ensures.found
           (subst (λ (i : Instance). IsByDispatch i path found visited.done.table visited.done.outcome) own
-          (is.exact (c.args.shared.now.dispatch ∙ asked) first (subst (λ (i : Instance). DecidesEach i path) (sym own) each)));
+          (is.exact (c.args.self.now.dispatch ∙ asked) first (subst (λ (i : Instance). DecidesEach i path) (sym own) each)));
     }
