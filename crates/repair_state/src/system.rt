@@ -3,10 +3,11 @@
 use crate::cells::{Cells, Known, SAME, UNKNOWN, WAYS};
 use crate::course::Course;
 use crate::heads::{raise, set_spares};
-use crate::lists::{at, put, stretch};
+use crate::lists::{at, push_rows, put, stretch};
 use crate::merit::Market;
 use crate::period::{NOTHING, Period};
 use crate::supply::Fill;
+use crate::swaps::{Committed, Swaps};
 use crate::trajectory::Trajectory;
 use crate::unit::Unit;
 use crate::window::{IDLE, Window, keep_ramps, narrow_to, open};
@@ -31,7 +32,7 @@ pub struct Plant {
 }
 
 /// The periods; each unit's pattern, its windows, and what is known of its cells; and memory for one unit's cells, windows and pattern,
-/// for how far periods are filled, and for how much of a unit's head each can do without.
+/// for how far periods are filled, for how much of a unit's head each can do without, and for swaps.
 #[derive(Drop)]
 pub struct State {
     pub periods: Vec<Period>,
@@ -43,6 +44,7 @@ pub struct State {
     pub course: Course,
     pub(crate) fills: Vec<Fill>,
     spares: Vec<i64>,
+    swaps: Swaps,
 }
 
 /// The windows of a unit that is tried, and memory for its trajectory.
@@ -107,6 +109,7 @@ impl State {
             course: Course::new(alloc),
             fills: Vec::new(alloc),
             spares: Vec::new(alloc),
+            swaps: Swaps::new(alloc),
         }
     }
 
@@ -129,6 +132,7 @@ impl State {
             .and(self.course.stretch(count))
             .and(stretch(&mut self.fills, count, UNFILLED))
             .and(stretch(&mut self.spares, count, 0))
+            .and(self.swaps.fill(alloc, plant, count))
     }
 
     /// Puts all units on their patterns, at the outputs in order of merit, moved until they keep the ramps.
@@ -152,6 +156,16 @@ impl State {
             self.center_all(plant, count, Outputs::Lowered);
         }
         self.center_all(plant, count, Outputs::Kept);
+    }
+
+    /// Moves the centres of the windows by swaps of two units, as far as those gain, whatever the windows leave. The only error is `NoMemory`.
+    pub fn swap(&mut self, plant: &Plant, count: u32) -> Result<(), NoMemory> {
+        let committed = Committed {
+            units: &plant.units,
+            patterns: &self.patterns,
+            count,
+        };
+        self.swaps.make(&committed, &self.periods, &mut self.rows)
     }
 
     // Centres the windows of all units on these outputs, the dearest first.
@@ -196,20 +210,6 @@ enum Outputs {
     Kept,
     Raised,
     Lowered,
-}
-
-// Adds so many rows of so many entries.
-fn push_rows<T: Copy>(
-    alloc: Global,
-    entry: T,
-    rows: usize,
-    count: usize,
-    table: &mut Vec<Vec<T>>,
-) -> Result<(), NoMemory> {
-    for _ in 0..rows {
-        table.push(vec![in alloc; entry; count]?)?;
-    }
-    Ok(())
 }
 
 // Opens the windows of all units.

@@ -29,6 +29,9 @@ const HARD_PASSES: u32 = 6;
 /// Descents after which no further one is made once a schedule costs little enough have taken so many moves or more.
 const FEW_MOVES: u32 = 1000;
 
+/// Outputs are swapped in states that cost more than the best one by at most this part.
+const NEAR: i64 = 1 << 10;
+
 /// A state's cost, whose rates are rounded, is taken for less than its schedule's by this part.
 const ROUNDING: i64 = 1 << 18;
 
@@ -121,7 +124,7 @@ fn descent(
 }
 
 // The schedule of the state with its cost, if it is accepted. The state is kept if it is the cheapest so far, and refined if none is
-// cheaper.
+// cheaper. Where hardly any is cheaper, outputs are swapped for the schedule, but not for what is kept.
 fn offer(
     alloc: Global,
     room: &mut Repair,
@@ -136,11 +139,19 @@ fn offer(
     if room.plant.is_ramped && cost <= room.kept.cost {
         refine(room, instance);
     }
+    if room.plant.is_ramped && is_near(cost, room.kept.cost) {
+        room.state.swap(&room.plant, instance.periods)?;
+    }
     let printed = printed_of(alloc, &room.plant, &room.state, instance)?;
     Ok(match accepted(instance, &printed) {
         Some(cost) => Some((printed, cost)),
         None => None,
     })
+}
+
+// Whether a cost is less than the best state's, or hardly more.
+fn is_near(cost: i64, best: i64) -> bool {
+    cost.saturating_sub(best) <= best.saturating_abs() / NEAR
 }
 
 // Refines the outputs of the state, which is kept, as far as that makes it cheaper.
