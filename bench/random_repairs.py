@@ -27,7 +27,7 @@ PROGRAM = """#![tactic(auto)]
 
 use dual_model::Node;
 use instance::read_instance;
-use prices::{Effort, Values, ascend, zero};
+use prices::{CutPool, Effort, Values, ascend, zero};
 use schedule_repair::{Repair, repair};
 use std::alloc::Global;
 use std::fs;
@@ -39,7 +39,7 @@ fn cost(alloc: Global, instance: &Instance) -> Option<i64> {
     let root = Node { fixings: List::from_vec(Vec::new(alloc)) };
     let table = zero(alloc, instance).ok()?;
     let effort = Effort { evaluations: 40, enough: i128::MAX };
-    let ascent = ascend(alloc, Values { instance, exact: false }, &root, &table, effort, 1_000_000).ok()?;
+    let ascent = ascend(alloc, Values { instance, exact: false }, &mut CutPool::closed(alloc), &root, &table, effort, 1_000_000).ok()?;
     let mut room = Repair::new(alloc, instance).ok()?;
     let (_, cost) = repair(alloc, &mut room, instance, &ascent.table, &ascent.shares, 3000, i64::MIN).ok()??;
     Some(cost)

@@ -22,7 +22,7 @@ PROGRAM = """#![tactic(auto)]
 use dual_model::{Node, Table};
 use dual_value::value;
 use instance::read_instance;
-use prices::{Effort, Values, ascend, zero};
+use prices::{CutPool, Effort, Values, ascend, zero};
 use schedule_repair::{Repair, repair};
 use std::alloc::Global;
 use std::fs;
@@ -55,7 +55,7 @@ fn time_repair(rt: &HostRuntime, instance: &Instance) -> io::Result<()> {
     let units = instance.thermal.as_slice().len();
     let evaluations = if units * instance.periods as usize <= 500 { 40 } else { 150 };
     let start = Instant::now(rt)?;
-    let Ok(ascent) = ascend(alloc, Values { instance, exact: false }, &root, &table, Effort { evaluations, enough: i128::MAX }, 1_000_000) else {
+    let Ok(ascent) = ascend(alloc, Values { instance, exact: false }, &mut CutPool::closed(alloc), &root, &table, Effort { evaluations, enough: i128::MAX }, 1_000_000) else {
         return Ok(());
     };
     let ascended = start.elapsed(rt)?.as_micros();

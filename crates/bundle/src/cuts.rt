@@ -401,6 +401,21 @@ impl Bundle {
         cut.error.saturating_add(self.change(&cut.slopes, stopped))
     }
 
+    /// The stride.
+    pub fn stride(&self) -> i64 {
+        self.stride
+    }
+
+    /// Takes this stride, within its limits.
+    pub fn set_stride(&mut self, stride: i64) {
+        self.stride = within(i128::from(stride), LONGEST).max(1);
+    }
+
+    /// How many more cuts are kept before one is given up.
+    pub fn room(&self) -> usize {
+        self.most.saturating_sub(self.cuts.len())
+    }
+
     /// By how much a cut with these slopes changes with the moves of some prices.
     pub fn change(&self, slopes: &[i64], moved: &[(usize, i64)]) -> i128 {
         let mut change: i128 = 0;

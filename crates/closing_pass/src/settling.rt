@@ -31,7 +31,7 @@ use branch_tree::Outcome;
 use decided_nodes::{Decided, Pivoting, exact_dispatch};
 use dual_model::{Node, Table};
 use opening::Evaluator;
-use prices::{Ascent, Values, next_ascent};
+use prices::{Ascent, CutPool, Values, next_ascent};
 use search_core::Move;
 use search_core::laws::tree_runs_hold;
 use search_core::limits::NODE_ENTRIES;
@@ -247,9 +247,11 @@ impl Settling<'_> {
             instance: self.instance,
             exact: self.closing.exact,
         };
+        let mut pool = CutPool::closed(alloc);
         let ascent = next_ascent(
             alloc,
             values,
+            &mut pool,
             &holding.path,
             &holding.stored,
             scale,

@@ -6,7 +6,7 @@ ghost use Rattle.node_visits.specs.Trials.{IsAscentFor};
 
 use dual_model::Node;
 use opening::Priced;
-use prices::{Ascent, Values, next_ascent, zero};
+use prices::{Ascent, CutPool, Values, next_ascent, zero};
 use std::alloc::Global;
 use uc_model::{NoMemory, Printed};
 
@@ -21,10 +21,10 @@ pub struct Start {
 
 /// The ascent of the first claim, from the prices in order of merit, which come out better than the opening's. The only error is
 /// `NoMemory`.
-pub fn first_ascent(alloc: Global, values: Values) -> Result<Ascent, NoMemory>
+pub fn first_ascent(alloc: Global, values: Values, pool: &mut CutPool) -> Result<Ascent, NoMemory>
     requires { IsLawfulInstance values.instance.now }
     ensures { IfOk result (IsAscentFor values.entry.instance.now 1) }
 {
     let none = zero(alloc, values.instance)?;
-    next_ascent(alloc, values, &Node::root(alloc), &none, 1, i128::MAX)
+    next_ascent(alloc, values, pool, &Node::root(alloc), &none, 1, i128::MAX)
 }

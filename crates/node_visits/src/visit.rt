@@ -19,7 +19,7 @@ use claims::{Branching, Hints, split_cell};
 use decided_nodes::{Decided, Pivoting, exact_dispatch};
 use dual_model::{Node, Table};
 use opening::{is_positive, node_ray};
-use prices::{Ascent, Values, next_ascent, with_cell, with_ray};
+use prices::{Ascent, CutPool, Values, next_ascent, with_cell, with_ray};
 use schedule_repair::is_small;
 use search_desk::{Claim, Evaluated};
 use std::alloc::Global;
@@ -238,7 +238,8 @@ fn ascended(
     ensures kept { worker.new ≡ worker.old }
     ensures trial { IfOk result (IsTrialFor (uses_exact_dispatch search.aim.pivoting) worker.old claim.now) }
 {
-    let ascent = ascent(alloc, worker.values(), claim, search, next)?;
+    let values = worker.values();
+    let ascent = ascent(alloc, values, &mut worker.pool, claim, search, next)?;
     let table = ascended_table(alloc, worker, claim, &ascent, search.aim.exact);
     let (ascent, table) = beside(ascent, table)?;
     Ok(Trial {
@@ -328,6 +329,7 @@ fn enough(claim: &Claim, goal: i128) -> i128 {
 fn ascent(
     alloc: Global,
     values: Values,
+    pool: &mut CutPool,
     claim: &Claim,
     search: Search,
     next: &mut Option<Ascent>,
@@ -337,9 +339,9 @@ fn ascent(
     ensures ascent { IfOk result (IsAscentFor values.entry.instance.now claim.now.unit) }
 {
     if claim.unit == 1 {
-        root_ascent(alloc, values, search.aim.shared, next)
+        root_ascent(alloc, values, pool, search.aim.shared, next)
     } else {
-        node_ascent(alloc, values, claim, enough(claim, search.goal))
+        node_ascent(alloc, values, pool, claim, enough(claim, search.goal))
     }
 }
 
@@ -347,6 +349,7 @@ fn ascent(
 fn root_ascent(
     alloc: Global,
     values: Values,
+    pool: &mut CutPool,
     shared: bool,
     next: &mut Option<Ascent>,
 ) -> Result<Ascent, NoMemory>
@@ -356,10 +359,10 @@ fn root_ascent(
 {
     let ascent = match next.take() {
         Some(ascent) => ascent,
-        None => first_ascent(alloc, values)?,
+        None => first_ascent(alloc, values, pool)?,
     };
     if shared {
-        let stepped = root_steps(alloc, values, &ascent.table);
+        let stepped = root_steps(alloc, values, pool, &ascent.table);
         drop(ascent);
         stepped
     } else {
@@ -368,35 +371,54 @@ fn root_ascent(
 }
 
 // Two more ascents of the first claim, each from the table of the one before.
-fn root_steps(alloc: Global, values: Values, table: &Table) -> Result<Ascent, NoMemory>
+fn root_steps(
+    alloc: Global,
+    values: Values,
+    pool: &mut CutPool,
+    table: &Table,
+) -> Result<Ascent, NoMemory>
     requires { IsLawfulInstance values.instance.now }
     ensures { IfOk result (IsAscentFor values.entry.instance.now 1) }
 {
-    let ascent = root_step(alloc, values, table)?;
-    let stepped = root_step(alloc, values, &ascent.table);
+    let ascent = root_step(alloc, values, pool, table)?;
+    let stepped = root_step(alloc, values, pool, &ascent.table);
     drop(ascent);
     stepped
 }
 
 // One more ascent of the first claim, from the table of the one before.
-fn root_step(alloc: Global, values: Values, table: &Table) -> Result<Ascent, NoMemory>
+fn root_step(
+    alloc: Global,
+    values: Values,
+    pool: &mut CutPool,
+    table: &Table,
+) -> Result<Ascent, NoMemory>
     requires { IsLawfulInstance values.instance.now }
     ensures { IfOk result (IsAscentFor values.entry.instance.now 1) }
 {
-    next_ascent(alloc, values, &Node::root(alloc), table, 1, i128::MAX)
+    next_ascent(alloc, values, pool, &Node::root(alloc), table, 1, i128::MAX)
 }
 
 // The ascent from what the node stores, with a ray or a cell that is looked for where no schedule is known.
 fn node_ascent(
     alloc: Global,
     values: Values,
+    pool: &mut CutPool,
     claim: &Claim,
     enough: i128,
 ) -> Result<Ascent, NoMemory>
     requires claim { IsHeldClaim values.instance.now claim.now }
     ensures ascent { IfOk result (IsAscentFor values.entry.instance.now claim.now.unit) }
 {
-    let ascent = next_ascent(alloc, values, &claim.path, &claim.table, claim.unit, enough)?;
+    let ascent = next_ascent(
+        alloc,
+        values,
+        pool,
+        &claim.path,
+        &claim.table,
+        claim.unit,
+        enough,
+    )?;
     if claim.seen.is_some() || ascent.ray.is_some() {
         Ok(ascent)
     } else {

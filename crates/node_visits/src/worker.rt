@@ -12,17 +12,19 @@ ghost use Rattle.opening.specs.Rays.{HasNoRay, IsFirstRay};
 use crate::effort::Effort;
 use crate::pair::beside;
 use opening::{Evaluator, excluding_ray};
-use prices::{Ascent, Values};
+use prices::{Ascent, CutPool, Values};
 use schedule_repair::{Repair, repair};
 use std::alloc::Global;
 use std::marker::Model;
 use uc_model::{Instance, NoMemory, Printed};
 
-/// The evaluator of the instance, what its repairs share, and whether its ascents climb exact values. Contracts see the instance.
+/// The evaluator of the instance, what its repairs share, the cuts that its ascents share, and whether these climb exact values. Contracts see the
+/// instance.
 #[derive(Drop)]
 pub struct Worker<'a> {
     pub evaluator: Evaluator<'a>,
     repairs: Repair,
+    pub pool: CutPool,
     exact: bool,
 }
 
@@ -45,6 +47,7 @@ impl<'a> Worker<'a> {
         Ok(Worker {
             evaluator,
             repairs,
+            pool: CutPool::new(alloc),
             exact: values.exact,
         })
     }

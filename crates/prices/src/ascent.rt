@@ -7,6 +7,7 @@ ghost use Rattle.dual_model.specs.Prices.{IsLawfulTable};
 ghost use Rattle.dual_model.specs.TableValue.{IsLawfulScale};
 
 use crate::merit::merit_prices;
+use crate::pool::CutPool;
 use crate::price_list::{push_ramp_prices, table_of};
 use bundle::{Bundle, Cut, Move, WHOLE, times, word};
 use dual_model::{Node, Table};
@@ -249,10 +250,12 @@ fn missing_cost(needs: &[i64], price: u32) -> i128 {
 }
 
 /// Ascends at a node from a table with an effort, to a table at the scale `k`; from the prices in order of merit where the table has
-/// none of demand. Where a unit has no pattern at the node, no share is told. The only error is `NoMemory`.
+/// none of demand. It begins with those cuts of the pool that the node leaves, and keeps its own there. Where a unit has no pattern at
+/// the node, no share is told. The only error is `NoMemory`.
 pub fn ascend(
     alloc: Global,
     values: Values,
+    pool: &mut CutPool,
     node: &Node,
     table: &Table,
     effort: Effort,
@@ -274,7 +277,8 @@ pub fn ascend(
         keeps_more: false,
         held: None,
     };
-    let top = top_from(alloc, &mut hill, values.instance, start)?;
+    pool.turn_to(values.instance, node)?;
+    let top = top_from(alloc, &mut hill, values.instance, pool, start)?;
     ended(alloc, &hill, values.instance, top, k)
 }
 
@@ -328,7 +332,8 @@ fn keep_ray(
         keeps_more: true,
         held: None,
     };
-    let top = top_from(alloc, hill, instance, start)?;
+    let mut pool = CutPool::closed(alloc);
+    let top = top_from(alloc, hill, instance, &mut pool, start)?;
     let ray = ray(alloc, hill, instance, &top);
     let Top { prices, shares, .. } = top;
     drop(prices);
@@ -344,6 +349,7 @@ pub(crate) fn top_from(
     alloc: Global,
     hill: &mut Hill,
     instance: &Instance,
+    pool: &mut CutPool,
     start: Start,
 ) -> Result<Top, NoMemory> {
     let Some(first) = hill.evaluate(instance, &start.prices, Evaluation::empty(alloc))? else {
@@ -355,8 +361,10 @@ pub(crate) fn top_from(
     };
     let rise = hill.sizes.of_value(first.value) / start.part.max(1);
     let bundle = bundle_for(alloc, instance, hill, &start)?;
+    pool.keep(alloc, &first, &start.prices)?;
     let mut center = begin(alloc, bundle, start.prices, first, rise)?;
-    climb(alloc, hill, instance, &mut center, start.effort)?;
+    pool.lend(alloc, &mut center.bundle, &center.prices, center.value)?;
+    climb(alloc, hill, instance, pool, &mut center, start.effort)?;
     settle(alloc, &mut center)?;
     Ok(Top {
         prices: center.prices,
@@ -425,6 +433,7 @@ fn climb(
     alloc: Global,
     hill: &mut Hill,
     instance: &Instance,
+    pool: &mut CutPool,
     center: &mut Center,
     effort: Effort,
 ) -> Result<(), NoMemory> {
@@ -454,7 +463,7 @@ fn climb(
                     center.value = found.value;
                     break;
                 }
-                Some(found) => take(alloc, center, found, &step)?,
+                Some(found) => take(alloc, pool, center, found, &step)?,
                 None => break,
             }
         }
@@ -591,18 +600,21 @@ fn cut(bundle: &Bundle, found: Evaluation, weight: i64) -> Cut {
 // Takes what was found at the prices that were tried: the centre moves there where the value has risen enough.
 fn take(
     alloc: Global,
+    pool: &mut CutPool,
     center: &mut Center,
     found: Evaluation,
     step: &Move,
 ) -> Result<(), NoMemory> {
     let value = found.value;
     let gain = value.saturating_sub(center.value);
+    pool.keep(alloc, &found, &center.tried)?;
     let mut own = cut(&center.bundle, found, 0);
     let back = center.bundle.change(&own.slopes, &step.moved);
     own.error = gain.saturating_sub(back);
     center.bundle.push(alloc, own)?;
     center.shares.clear();
     if gain > step.predicted / 10 {
+        pool.keep_stride(&center.bundle);
         center.bundle.recenter(&step.moved, gain);
         mem::swap(&mut center.prices, &mut center.tried);
         center.value = value;

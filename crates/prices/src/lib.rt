@@ -4,11 +4,13 @@
 mod ascent;
 pub mod laws;
 mod merit;
+mod pool;
 mod price_list;
 mod steps;
 mod tight;
 
 pub use ascent::{Ascent, Effort, Values, ascend, with_ray};
 pub use opening_tables::{SCALE, marginal, marginal_in, opening_ray, unpriced, zero};
+pub use pool::CutPool;
 pub use steps::{next_ascent, step};
 pub use tight::with_cell;

@@ -8,6 +8,7 @@ ghost use Rattle.dual_model.specs.NodeAnswer.{IsValued};
 ghost use Rattle.prices.specs.Steps.{IsStepFor};
 
 use crate::ascent::{Ascent, Effort, Values, ascend};
+use crate::pool::CutPool;
 use dual_model::{Node, Table, Valued};
 use opening_tables::SCALE;
 use std::alloc::Global;
@@ -34,11 +35,22 @@ const FREE_NODE_EVALUATIONS: u32 = 180;
 /// The ramps of few units can bind where it is at most one of so many.
 const FEW_RAMPED: usize = 4;
 
-/// The ascent to a table to try next at a node at which `had` tables were tried, of which the last is `table`: the table's scale is
-/// a million and `had`. It ends where it takes the bound for `enough`, in micro-dollars. The only error is `NoMemory`.
+/// The most at a node but the root where the ascent begins with the cuts of earlier ones, those there where there are few cells and no ramps
+/// that have prices, and those where prices differ much: over many periods, or where renewable units may meet half of the demand.
+const LENT_EVALUATIONS: u32 = 75;
+
+const FEW_LENT_EVALUATIONS: u32 = 25;
+
+const MANY_LENT_EVALUATIONS: u32 = 120;
+
+const MANY_PERIODS: u32 = 72;
+
+/// The ascent to a table to try next at a node at which `had` tables were tried, of which the last is `table`, with the cuts of the pool:
+/// the table's scale is a million and `had`. It ends where it takes the bound for `enough`, in micro-dollars. The only error is `NoMemory`.
 pub fn next_ascent(
     alloc: Global,
     values: Values,
+    pool: &mut CutPool,
     node: &Node,
     table: &Table,
     had: u32,
@@ -52,35 +64,83 @@ pub fn next_ascent(
     ensures ray { IfOk result (λ ascent. IfSome ascent.ray (IsLawfulTable values.entry.instance.now)) }
     ensures ray_scale { IfOk result (λ ascent. IfSome ascent.ray (λ ray. ray.k ≡ pos 0)) }
 {
+    let is_root = node.fixings.as_slice().is_empty();
+    let evaluations = if is_root || !pool.is_open(values.instance) {
+        evaluations_of(values.instance, is_root)
+    } else {
+        lent_evaluations(values.instance)
+    };
     let effort = Effort {
-        evaluations: evaluations_of(values.instance, node.fixings.as_slice().is_empty()),
+        evaluations,
         enough,
     };
     let scale = SCALE + i64::from(had);
-    ascend(alloc, values, node, table, effort, scale)
+    ascend(alloc, values, pool, node, table, effort, scale)
 }
 
-// The most evaluations of an ascent, at the root or at another node.
+// The most evaluations of an ascent from one cut, at the root or at another node.
 fn evaluations_of(instance: &Instance, is_root: bool) -> u32 {
-    let units = instance.thermal.as_slice();
-    let cells = units.len().saturating_mul(instance.periods as usize);
-    let mut ramped: usize = 0;
-    for unit in units {
-        if !is_agile(unit) {
-            ramped = ramped.saturating_add(1);
-        }
-    }
-    if cells >= MANY_CELLS {
+    if cells_of(instance) >= MANY_CELLS {
         MANY_EVALUATIONS
-    } else if cells <= FEW_CELLS && ramped == 0 {
+    } else if is_cheap(instance) {
         FEW_EVALUATIONS
     } else if is_root {
         EVALUATIONS
-    } else if ramped <= units.len() / FEW_RAMPED {
+    } else if ramped_units(instance) <= instance.thermal.as_slice().len() / FEW_RAMPED {
         FREE_NODE_EVALUATIONS
     } else {
         NODE_EVALUATIONS
     }
+}
+
+// The most of one that begins with the cuts of others.
+fn lent_evaluations(instance: &Instance) -> u32 {
+    if is_cheap(instance) {
+        FEW_LENT_EVALUATIONS
+    } else if instance.periods > MANY_PERIODS || is_windy(instance) {
+        MANY_LENT_EVALUATIONS
+    } else {
+        LENT_EVALUATIONS
+    }
+}
+
+/// How many cells the units have.
+pub(crate) fn cells_of(instance: &Instance) -> usize {
+    let units = instance.thermal.as_slice().len();
+    units.saturating_mul(instance.periods as usize)
+}
+
+// Whether an evaluation is cheap beside what the cuts take.
+fn is_cheap(instance: &Instance) -> bool {
+    cells_of(instance) <= FEW_CELLS && ramped_units(instance) == 0
+}
+
+// How many units have ramps that can bind.
+fn ramped_units(instance: &Instance) -> usize {
+    let mut ramped: usize = 0;
+    for unit in instance.thermal.as_slice() {
+        if !is_agile(unit) {
+            ramped = ramped.saturating_add(1);
+        }
+    }
+    ramped
+}
+
+// Whether renewable units may meet half of all demand.
+fn is_windy(instance: &Instance) -> bool {
+    let mut most: i64 = 0;
+    for unit in instance.renewable.as_slice() {
+        most = most.saturating_add(sum_of(unit.maximum.as_slice()));
+    }
+    most.saturating_mul(2) >= sum_of(instance.demand.as_slice())
+}
+
+fn sum_of(watts: &[i64]) -> i64 {
+    let mut sum: i64 = 0;
+    for own in watts {
+        sum = sum.saturating_add(*own);
+    }
+    sum
 }
 
 // Whether a unit may rise and fall over its whole range within an hour.
@@ -110,5 +170,6 @@ pub fn step(
         instance,
         exact: false,
     };
-    Ok(next_ascent(alloc, values, node, table, had, i128::MAX)?.table)
+    let mut pool = CutPool::closed(alloc);
+    Ok(next_ascent(alloc, values, &mut pool, node, table, had, i128::MAX)?.table)
 }

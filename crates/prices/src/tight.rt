@@ -11,6 +11,7 @@ ghost use Rattle.dual_model.specs.Prices.{IsLawfulTable};
 use crate::ascent::{
     Ascent, Effort, Hill, Sizes, Start, Top, Values, hill_of, no_prices, ray, top_from,
 };
+use crate::pool::CutPool;
 use bundle::at;
 use dual_model::Node;
 use quick_value::{Decisions, Evaluator};
@@ -201,7 +202,8 @@ impl<'a> Seeker<'a> {
 
     // Where the ascent from the start ends.
     fn top(&mut self, alloc: Global, start: Start) -> Result<Top, NoMemory> {
-        top_from(alloc, &mut self.hill, self.instance, start)
+        let mut pool = CutPool::closed(alloc);
+        top_from(alloc, &mut self.hill, self.instance, &mut pool, start)
     }
 
     // The held price at which the node has the least to spare, and where its ascent ends.

@@ -102,7 +102,8 @@ fn repaired(
     ensures ascent { IfOk result (λ both. IsAscentFor worker.old 1 both.0) }
     ensures accepted { IfOk result (λ both. IsAcceptedIfFound worker.old both.1) }
 {
-    let ascent = first_ascent(alloc, worker.values())?;
+    let values = worker.values();
+    let ascent = first_ascent(alloc, values, &mut worker.pool)?;
     let best = first_repaired(alloc, worker, gap, &ascent)?;
     Ok((ascent, best))
 }
