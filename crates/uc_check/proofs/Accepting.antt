@@ -1,26 +1,30 @@
 -- A certificate that holds is accepted: each fault but want of memory has a cause that isn't there.
-use Rattle.std.proofs.Common.{◌≡◌, ◌∙◌, ℕ, Bool, true, false, List, refl, ap, sym, subst, inl, inr, ◌⊎◌, ⊎_elim, arith, length, ◌<◌, ◌≤◌, ◌<ℤ◌, ◌≤ℤ◌, pos, Option, Some, None, IfSome}
+use Rattle.std.proofs.Common.{◌≡◌, ◌∙◌, ℕ, Bool, true, false, List, refl, sym, subst, inl, inr, ◌⊎◌, ⊎_elim, arith, length, ◌<◌, ◌≤◌, ◌<ℤ◌, ◌≤ℤ◌, pos, Option, Some, None, IfSome}
 use Rattle.uc_model.proofs.Ring.{linear}
 use Rattle.uc_model.specs.Limits.{greatest_shortage_cost}
 use Rattle.uc_model.specs.declared.field_refusal.FieldRefusal.{FieldRefusal}
 use Rattle.uc_model.specs.declared.limits.TheConstants.{MAX_SHORTAGE_COST}
+use Rattle.uc_model.specs.declared.instance.Instance.{Instance}
+use Rattle.instance.specs.Bytes.{StandFor, StandForCounted}
+use Rattle.instance.specs.declared.from_bytes.ReadFault.TheVariants as read_fault
+use Rattle.instance.proofs.ExactLaws.{exact_is}
 use Rattle.dual_model.specs.Certificate.{Certificate, CertificateHolds}
 use Rattle.outside.specs.declared.slot.Slot.TheVariants as slot
 use Rattle.outside.specs.ToldBytes.{Tells}
 use Rattle.outside.specs.Slots.{SlotState}
-use Rattle.instance.specs.Bytes.{StandFor, StandForCounted}
-use Rattle.instance.specs.declared.from_bytes.ReadFault.TheVariants as read_fault
-use Rattle.instance.proofs.ExactLaws.{exact_is}
+use Rattle.branch_tree.specs.declared.found.Found.{Found}
 use Rattle.cert_text.specs.CertificateText.{certificate_text, listing_of}
 use Rattle.cert_text.specs.TextConditions.{HasText}
 use Rattle.cert_text.specs.declared.cert.Version.{Version}
-use Rattle.command_line.specs.Command.{Check}
 use Rattle.report.specs.FaultText.{status_of}
-use Rattle.uc_check.specs.Outside.{Outside}
-use Rattle.uc_check.specs.Reading.{Instance, ReadOptions, Json, Refused, most_bytes, StandForPriced, HasInstance, HasCause, IsRefused, IsRefusal, IsTooDear}
-use Rattle.uc_check.specs.Writing.{Found}
-use Rattle.uc_check.specs.Checking.{Code, Fault, Line, Long, Memory, Read, Write, check_options, most_certificate_bytes, IsCertificateText, HasCertificateCause, IsInstanceFault, IsCertificateFault, IsCheckFailure, IsCheckStopped, IsAccepting}
-use Rattle.uc_check.specs.Ending.{End, IsAnswered, IsFaulty}
+use Rattle.report.specs.declared.fault.Fault.TheVariants.{Instance as Refused, Json, Line, Long, Memory, Read}
+use Rattle.command_line.specs.Command.{Check}
+use Rattle.command_runs.specs.Outside.{Outside}
+use Rattle.command_runs.specs.declared.input.ReadOptions.{ReadOptions}
+use Rattle.command_runs.specs.Reading.{most_bytes, StandForPriced, HasInstance, HasCause, IsRefused, IsTooDear}
+use Rattle.command_runs.specs.Certificates.{most_certificate_bytes, IsCertificateText}
+use Rattle.command_runs.specs.Ending.{IsAnswered, IsFaulty}
+use Rattle.uc_check.specs.Checking.{Code, Fault, Write, check_options, HasCertificateCause, IsInstanceFault, IsCertificateFault, IsCheckFailure, IsAccepting}
 use Rattle.uc_check.specs.Accepting.{IsAcceptedFor, IsLittle, IsUndisturbed}
 use Rattle.uc_check.proofs.SameTexts.{same_certificate}
 use Rattle.uc_check.proofs.TextLengths.{text_short}

@@ -5,11 +5,15 @@ use Rattle.dual_model.specs.Certificate.{Certificate}
 use Rattle.outside.specs.declared.slot.Slot.TheVariants as slot
 use Rattle.outside.specs.ToldBytes.{Tells}
 use Rattle.outside.specs.Slots.{SlotState}
+use Rattle.outside.specs.declared.slot.Slot.{Slot}
+use Rattle.branch_tree.specs.declared.found.Found.{Found}
+use Rattle.report.specs.declared.fault.Fault.TheVariants.{Line, Long, Memory, Read}
 use Rattle.command_line.specs.Command.{Check}
-use Rattle.uc_check.specs.Outside.{Slot, Outside}
-use Rattle.uc_check.specs.Writing.{Found}
-use Rattle.uc_check.specs.Checking.{Code, Fault, Line, Long, Memory, Read, Write, most_certificate_bytes, IsCertificateText, HasCertificate, IsVerified, HasCertificateCause, IsInstanceFault, IsCertificateFault, IsCheckStopped, IsCheckFailure, KeepsToInput, IsAccepting}
-use Rattle.uc_check.specs.Ending.{End, IsAnswered, IsFaulty}
+use Rattle.command_runs.specs.Outside.{Outside}
+use Rattle.command_runs.specs.Certificates.{most_certificate_bytes, IsCertificateText, HasCertificate}
+use Rattle.command_runs.specs.declared.ending.End.{End}
+use Rattle.command_runs.specs.Ending.{IsAnswered, IsFaulty}
+use Rattle.uc_check.specs.Checking.{Code, Fault, Write, IsVerified, HasCertificateCause, IsInstanceFault, IsCertificateFault, IsCheckStopped, IsCheckFailure, KeepsToInput, IsAccepting}
 use Rattle.uc_check.specs.Upgrading.{TellTheSame, with_left, leaving, IsCheckedAs}
 
 -- the file with other bytes left

@@ -1,14 +1,6 @@
-pub mod Endings
-pub mod ReportEnds
-pub mod Telling
-pub mod Prices
-pub mod Unread
-pub mod OnlyRead
 pub mod Verdicts
 pub mod SameTexts
 pub mod TextLengths
 pub mod Accepting
 pub mod CheckedAlike
 pub mod Rewriting
-pub mod TextNumbers
-pub mod Uplifts

@@ -4,15 +4,17 @@ use Rattle.std.proofs.Common.{◌≡◌, ◌∙◌, refl, sym, ap, subst, None}
 use Rattle.outside.specs.declared.slot.Slot.TheVariants as slot
 use Rattle.outside.specs.Slots.{SlotState, SameBut}
 use Rattle.outside.specs.Sinks.{SinkState}
+use Rattle.outside.specs.declared.slot.Slot.{Slot}
 use Rattle.cert_text.specs.CertificateText.{listing_of, written_text, written_version}
 use Rattle.cert_text.proofs.Parts.{written_text_is}
+use Rattle.cert_text.specs.declared.cert.Cert.{Cert}
 use Rattle.command_line.specs.Command.{Upgrade}
-use Rattle.uc_check.specs.Outside.{Slot, outside_of}
-use Rattle.uc_check.specs.Reading.{IsOpenedByNoOther, IsOnlyRead}
-use Rattle.uc_check.specs.Writing.{IsSaved, FailsToSave}
-use Rattle.uc_check.specs.Checking.{Fault, Write, most_certificate_bytes, IsCertificateText, HasReadCause}
+use Rattle.command_runs.specs.Outside.{outside_of}
+use Rattle.command_runs.specs.Reading.{IsOpenedByNoOther, IsOnlyRead}
+use Rattle.command_runs.specs.Writing.{IsSaved, FailsToSave}
+use Rattle.command_runs.specs.Certificates.{most_certificate_bytes, HasCertificateText, IsCertificateText, HasReadCause}
+use Rattle.uc_check.specs.Checking.{Fault, Write}
 use Rattle.uc_check.specs.Upgrading.{IsRewritten, IsUpgradeFailure, IsUpgradeUnsaved, KeepsToCertificates}
-use Rattle.uc_check.specs.inside.Checks.{Cert, HasCertificateText}
 use Rattle.uc_check.proofs.SameTexts.{tell_the_same}
 use Rattle.uc_check.proofs.CheckedAlike.{checked_as}
 use Rattle.uc_check.proofs.Verdicts.{in_file}

@@ -5,7 +5,7 @@ use Rattle.dual_model.specs.Cover.{Leaf}
 use Rattle.dual_model.specs.Certificate.{Certificate}
 use Rattle.cert_text.specs.CertificateText.{Listing, TreeNode, LeafNode, SplitNode, preorder, listing_of, certificate_text}
 use Rattle.cert_text.proofs.GrammarLaws.{texts_apart}
-use Rattle.uc_check.specs.Checking.{IsCertificateText}
+use Rattle.command_runs.specs.Certificates.{IsCertificateText}
 use Rattle.uc_check.specs.Upgrading.{TellTheSame}
 
 -- nodes in preorder tell their tree, and where they end

@@ -1,12 +1,11 @@
 -- How long the text of a certificate is at most, by how many tables and nodes it has. Each table but the first may be told by its difference
 -- to the one before it, which names a row of either at most once.
-use Rattle.std.proofs.Common.{◌≡◌, ◌∙◌, ℕ, suc, ◌+◌, ◌*◌, ◌/◌, ◌^◌, ◌<◌, ◌≤◌, Bool, true, false, All, List, [], ◌∷◌, ◌++◌, codes, get_or, length, map, refl, ap, sym, subst, arith, ℤ, pos, negsuc, unsigned_abs, Option, Some, None, IfSome, cond}
+use Rattle.std.proofs.Common.{◌≡◌, ◌∙◌, ℕ, suc, ◌+◌, ◌*◌, ◌/◌, ◌^◌, ◌<◌, ◌≤◌, Bool, true, false, All, List, [], ◌∷◌, ◌++◌, codes, get_or, length, map, refl, ap, subst, arith, ℤ, pos, negsuc, unsigned_abs, Option, Some, None, IfSome, cond}
 use Rattle.std.specs.Prelude.{sum_by}
 use Rattle.std.proofs.Math.Nat.{suc-mul}
-use Rattle.std.proofs.lemmas.List.{length-append, length-map}
-use Rattle.std.proofs.lemmas.List.Concat.{length-flat_map}
+use Rattle.std.proofs.lemmas.List.{length-append}
 use Rattle.std.proofs.lemmas.List.Elements.{All-nil, All-cons, All-head, All-tail}
-use Rattle.std.proofs.lemmas.List.Sums.{sum_by-cons, sum_by-le}
+use Rattle.std.proofs.lemmas.List.Sums.{sum_by-cons}
 use Rattle.uc_model.specs.Decimal.{minus_text, signed_text, whole_text}
 use Rattle.uc_model.specs.Money.{money_text}
 use Rattle.uc_model.proofs.DecimalText.{length-whole_text-le}
@@ -15,11 +14,11 @@ use Rattle.dual_model.specs.Certificate.{Certificate, WrittenSchedule}
 use Rattle.dual_model.specs.Cover.{Bound, Ray, Empty}
 use Rattle.dual_model.specs.Prices.{IsRowWithin}
 use Rattle.outside.specs.Lines.{joined, spaced, line, words_of, list_line}
-use Rattle.table_list.specs.Changes.{Change, OfDemand, OfReserve, OfRamps, is_before, no_row, new_row, price_changes, row_changes, rows_from, table_changes}
+use Rattle.table_list.specs.Changes.{Change, OfDemand, OfReserve, OfRamps, is_before, no_row, price_changes, row_changes, rows_from, table_changes}
 use Rattle.cert_text.specs.declared.cert.Version.{Version}
 use Rattle.cert_text.specs.declared.cert.Version.TheVariants.{First, Second, Third}
-use Rattle.cert_text.specs.CertificateText.{Cell, Printed, Table, RampRow, TreeNode, LeafNode, SplitNode, Listing, certificate_lines, certificate_text, cell_text, change_line, claim_line, cost_line, end_line, has_price, leaf_line, listing_of, next_line, next_lines, node_line, over_words, penalty_line, plan_lines, prices_line, ramp_line, ramps_line, renewable_line, scale_line, schedule_lines, shed_line, short_line, shortage_lines, size_line, table_lines, tables_lines, thermal_line, told_from, told_lines, version_line, version_number}
-use Rattle.uc_check.specs.Checking.{most_certificate_bytes}
+use Rattle.cert_text.specs.CertificateText.{Cell, Printed, Table, RampRow, TreeNode, LeafNode, SplitNode, Listing, certificate_lines, certificate_text, cell_text, change_line, claim_line, cost_line, end_line, has_price, listing_of, next_line, next_lines, node_line, over_words, penalty_line, plan_lines, prices_line, ramp_line, ramps_line, renewable_line, scale_line, schedule_lines, shed_line, short_line, shortage_lines, size_line, table_lines, tables_lines, thermal_line, told_from, told_lines, version_line}
+use Rattle.command_runs.specs.Certificates.{most_certificate_bytes}
 use Rattle.uc_check.specs.Accepting.{most_rows, IsLittle}
 use Rattle.cert_text.specs.TextConditions.{AreShortagesText, HasDigits, HasText, IsCellText, IsMoney, IsNodeText, IsPowerRow, IsRampText, IsScheduleText, IsTableText, IsThermalRow}
 

@@ -1,26 +1,29 @@
 -- How the ends of a run of `check` follow from its steps: reading the instance (from the files f to g), reading the
 -- certificate (from g to h), checking it, and the report.
-use Rattle.std.proofs.Common.{◌≡◌, ℕ, true, sym, subst, ap, ◌∙◌, refl, ⊎_elim, Result, Ok, Err, IfErr, IsErrAnd, Some, None, List}
+use Rattle.std.proofs.Common.{◌≡◌, ℕ, true, subst, ap, ◌∙◌, refl, ⊎_elim, Some, None, List}
 use Rattle.uc_model.specs.Limits.{IsLawfulInstance}
 use Rattle.uc_model.proofs.PrintedCosts.{cost-le-printed}
+use Rattle.uc_model.specs.declared.instance.Instance.{Instance}
 use Rattle.dual_model.specs.Certificate.{Certificate, CertificateHolds, WrittenSchedule}
 use Rattle.dual_model.specs.Laws.{IsClaimTrue}
 use Rattle.outside.specs.declared.slot.Slot.TheVariants as slot
 use Rattle.outside.specs.Slots.{SlotState, SameBut}
 use Rattle.outside.specs.Sinks.{SinkState}
+use Rattle.outside.specs.declared.slot.Slot.{Slot}
 use Rattle.cert_text.specs.Reading.{IsTextOf}
+use Rattle.cert_text.specs.declared.cert.Cert.{Cert}
 use Rattle.cert_check.specs.Answers.{AreClaimsOf, IsAccepted, IsRead}
+use Rattle.cert_check.specs.declared.claims.Claims.{Claims}
 use Rattle.report.specs.ClaimsReport.{claims_report}
+use Rattle.report.specs.declared.fault.Fault.{Fault}
+use Rattle.report.specs.declared.fault.Fault.TheVariants.{Memory}
 use Rattle.command_line.specs.Command.{Check}
-use Rattle.uc_check.specs.Outside.{Slot, Outside, outside_of}
-use Rattle.uc_check.specs.Reading.{Fault, Instance, Memory, HasInstance}
-use Rattle.uc_check.specs.Checking.{Code, Write, check_options, HasCertificate, HasCertificateCause, IsCertificateFault, IsCheckFailure, IsCheckStopped, IsInstanceFault, IsScheduleTrue, text_of_claims}
-use Rattle.uc_check.specs.inside.Checks.{Cert, Claims, HasCertificateText, IsChecked, IsRefusedCert}
-
--- what `?` hands up is what it was handed
-pub handed_up : {T E : Type 0} (result : Result T E) (e : E) (P : E → Type 0) → IsErrAnd result (λ f. f ≡ e) → P e → IfErr result P
-handed_up (Ok x) e P is p = tt
-handed_up (Err f) e P is p = subst P (sym is) p
+use Rattle.command_runs.specs.Outside.{Outside, outside_of}
+use Rattle.command_runs.specs.Reading.{HasInstance}
+use Rattle.command_runs.specs.Certificates.{HasCertificate, HasCertificateText, HasReadCause}
+use Rattle.uc_check.specs.Checking.{Code, Write, check_options, HasCertificateCause, IsCertificateFault, IsCheckFailure, IsCheckStopped, IsInstanceFault, IsScheduleTrue, text_of_claims}
+use Rattle.uc_check.specs.Checks.{IsChecked}
+use Rattle.uc_check.specs.inside.Refusals.{IsRefusedCert}
 
 -- what was read has a text
 pub is_read : (bytes : List ℕ) (cert : Cert) → IsTextOf bytes cert → IsRead cert
@@ -94,6 +97,11 @@ refused_cause f g h instance cert (Code code) checked text refused =
     record { certificate = c; is = in_file (g slot.CertIn) cert text; refused = why.0; fails = why.1; calm = checked }
 refused_cause f g h instance cert Memory checked text refused = tt
 refused_cause f g h instance cert _ checked text refused = absurd refused
+
+-- a certificate that could not be read is at fault for each instance
+pub for_instance : (instance : Instance) (old new : SlotState) (fault : Fault) → HasReadCause old new fault → HasCertificateCause instance old new fault
+for_instance instance old new (Code code) cause = absurd cause
+for_instance instance old new fault cause = cause
 
 -- a fault of the certificate, whose instance was read before it
 pub certificate_fault : (asked : Check) (f g h : Slot → SlotState) (out err_old err_new : SinkState) (instance : Instance) (rounded : ℕ) (fault : Fault)

@@ -5,9 +5,9 @@ use Rattle.outside.specs.Counts.{HasRisen}
 use Rattle.outside.specs.declared.slot.Slot.TheVariants as slot
 use Rattle.cert_text.specs.CertificateText.{Listing}
 use Rattle.command_line.specs.Command.{Check}
-use Rattle.uc_check.specs.Outside.{Outside}
+use Rattle.command_runs.specs.Outside.{Outside}
+use Rattle.command_runs.specs.declared.ending.End.{End}
 use Rattle.uc_check.specs.Checking.{IsCheckRun}
-use Rattle.uc_check.specs.Ending.{End}
 
 -- no call on either file failed, nor one on the output
 pub record IsUndisturbed (before after : Outside) : Type 0 where

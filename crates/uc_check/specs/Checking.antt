@@ -1,54 +1,33 @@
 -- What a run of `check` did, by how it ended. This project's own.
-use Rattle.std.specs.Prelude.{◌≡◌, ℕ, ◌^◌, ◌≤◌, ◌⊎◌, ⊤, true, false, List, Option, Some, None, pos, ◌*ℤ◌, ◌≤ℤ◌, length}
+use Rattle.std.specs.Prelude.{◌≡◌, ℕ, ◌⊎◌, true, false, List, Option, Some, None, pos, ◌*ℤ◌, ◌≤ℤ◌}
 use Rattle.uc_model.specs.Cost.{cost}
 use Rattle.uc_model.specs.Rules.{Obeys}
 use Rattle.uc_model.specs.PrintedSchedule.{printed_denominator, printed_schedule}
 use Rattle.uc_model.specs.declared.refusal.Refusal.{Refusal}
+use Rattle.uc_model.specs.declared.instance.Instance.{Instance}
 use Rattle.dual_model.specs.Certificate.{Certificate, CertificateHolds, WrittenSchedule}
 use Rattle.dual_model.specs.Laws.{IsClaimTrue}
 use Rattle.outside.specs.declared.slot.Slot.TheVariants as slot
-use Rattle.outside.specs.Counts.{HasRisen}
-use Rattle.outside.specs.ToldBytes.{Tells}
 use Rattle.outside.specs.Slots.{SlotState}
-use Rattle.cert_text.specs.CertificateText.{certificate_text, listing_of}
-use Rattle.cert_text.specs.TextConditions.{HasText}
-use Rattle.cert_text.specs.Grammar.{IsKindAt}
-use Rattle.cert_text.specs.declared.cert.Version.{Version}
-use Rattle.cert_text.specs.declared.cert.CertKind.{CertKind}
-use Rattle.cert_text.specs.declared.cert.CertKind.TheVariants as kinds
+use Rattle.outside.specs.declared.slot.Slot.{Slot}
+use Rattle.branch_tree.specs.declared.found.Found.{Found}
 use Rattle.cert_check.specs.Answers.{cost_of, is_none}
 use Rattle.cert_check.specs.Refusals.{IsRefusedBy}
 use Rattle.report.specs.ClaimsReport.{claims_report}
 pub use Rattle.report.specs.declared.fault.Fault.{Fault}
-pub use Rattle.report.specs.declared.fault.Fault.TheVariants.{Read, Write, Memory, Long, Line, Code}
-use Rattle.uc_check.specs.Outside.{Slot, Outside}
+pub use Rattle.report.specs.declared.fault.Fault.TheVariants.{Write, Code}
 use Rattle.command_line.specs.Command.{Check}
-use Rattle.uc_check.specs.Reading.{Instance, ReadOptions, most_bytes, HasInstance, HasCause, IsLong, IsOpenedByNoOther, IsOnlyRead}
-use Rattle.uc_check.specs.Writing.{Found, IsTold, FailsToTell}
-use Rattle.uc_check.specs.Ending.{End, Ends}
+use Rattle.command_runs.specs.Outside.{Outside}
+use Rattle.command_runs.specs.declared.input.ReadOptions.{ReadOptions}
+use Rattle.command_runs.specs.Reading.{most_bytes, HasInstance, HasCause, IsOpenedByNoOther, IsOnlyRead}
+use Rattle.command_runs.specs.Certificates.{most_certificate_bytes, HasCertificate, HasReadCause}
+use Rattle.command_runs.specs.Writing.{IsTold, FailsToTell}
+use Rattle.command_runs.specs.declared.ending.End.{End}
+use Rattle.command_runs.specs.Ending.{Ends}
 
 -- how the instance is read: a rounded number isn't refused
 abbrev pub check_options : Check → ReadOptions
 check_options asked = record { exact = false; shed = asked.shed; spill_reserve = asked.spill_reserve }
-
--- the most bytes of a certificate's file: 64 TiB
-abbrev pub most_certificate_bytes : ℕ
-most_certificate_bytes = 2 ^ 46
-
--- ---- the certificate in the file
-
--- the bytes are the text of the certificate, in some version of the format
-pub record IsCertificateText (bytes : List ℕ) (certificate : Certificate) : Type 0 where
-  pub version : Version
-  pub conditions : HasText version (listing_of certificate)
-  pub text : bytes ≡ certificate_text version certificate
-
--- the file's bytes, where they are told, are at most as many as are read, and the text of the certificate
-pub record HasCertificate (file : SlotState) (certificate : Certificate) : Type 0 where
-  pub bytes : List ℕ
-  pub told : Tells file.left bytes
-  pub few : length bytes ≤ most_certificate_bytes
-  pub is : IsCertificateText bytes certificate
 
 -- the schedule that is written obeys, and costs at most what is written
 pub record IsScheduleTrue (instance : Instance) (written : WrittenSchedule) : Type 0 where
@@ -75,28 +54,6 @@ text_of_claims certificate = claims_report (cost_of certificate.schedule) certif
 
 -- ---- faults
 
--- the number that the line of a fault has for its kind
-abbrev pub kind_number : CertKind → ℕ
-kind_number kinds.Form = 1
-kind_number kinds.Cut = 2
-kind_number kinds.Tail = 3
-
--- the bytes are no certificate's text, and the line is the first at fault
-pub record IsFaultyAt (bytes : List ℕ) (line kind : ℕ) : Type 0 where
-  pub none : (certificate : Certificate) → ¬ IsCertificateText bytes certificate
-  pub what : CertKind
-  pub is_kind : kind ≡ kind_number what
-  pub first : IsKindAt bytes line what
-
--- the same of the bytes of the file, where they are told, of which there are no more than are read, and reading them
--- met no fault
-pub record HasFaultyLine (old new : SlotState) (line kind : ℕ) : Type 0 where
-  pub bytes : List ℕ
-  pub told : Tells old.left bytes
-  pub few : length bytes ≤ most_certificate_bytes
-  pub faulty : IsFaultyAt bytes line kind
-  pub calm : new.faults ≡ old.faults
-
 -- the certificate in the file doesn't hold for the instance, for which it is refused by the code, and reading it met
 -- no fault
 pub record HasRefusedCertificate (instance : Instance) (old new : SlotState) (code : Refusal) : Type 0 where
@@ -105,14 +62,6 @@ pub record HasRefusedCertificate (instance : Instance) (old new : SlotState) (co
   pub refused : IsRefusedBy instance certificate code
   pub fails : ¬ CertificateHolds instance certificate
   pub calm : new.faults ≡ old.faults
-
--- the cause of a fault that comes of reading the certificate's file, by the file before and after
-abbrev pub HasReadCause : SlotState → SlotState → Fault → Type 0
-HasReadCause old new (Read slot.CertIn) = HasRisen old.faults new.faults
-HasReadCause old new Memory = ⊤
-HasReadCause old new (Long slot.CertIn) = IsLong most_certificate_bytes old new
-HasReadCause old new (Line line kind) = HasFaultyLine old new line kind
-HasReadCause old new _ = ⊥
 
 -- the cause of a fault that comes of the certificate: it could not be read, or was refused
 abbrev pub HasCertificateCause : Instance → SlotState → SlotState → Fault → Type 0

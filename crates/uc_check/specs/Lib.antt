@@ -1,9 +1,5 @@
-pub mod Outside
-pub mod Reading
-pub mod Writing
-pub mod Ending
 pub mod Checking
+pub mod Checks
 pub mod Accepting
 pub mod Upgrading
-pub mod Uplifting
 pub mod inside

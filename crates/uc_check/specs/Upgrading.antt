@@ -3,16 +3,20 @@ use Rattle.std.specs.Prelude.{◌≡◌, ◌↔◌, ℕ, ◌≤◌, true, false,
 use Rattle.dual_model.specs.Certificate.{Certificate}
 use Rattle.outside.specs.declared.slot.Slot.TheVariants as slot
 use Rattle.outside.specs.Slots.{SlotState}
+use Rattle.outside.specs.declared.slot.Slot.{Slot}
+use Rattle.branch_tree.specs.declared.found.Found.{Found}
 use Rattle.cert_text.specs.CertificateText.{written_text}
 use Rattle.report.specs.UpgradeReport.{upgrade_report}
 use Rattle.report.specs.declared.fault.Fault.{Fault}
 use Rattle.report.specs.declared.fault.Fault.TheVariants.{Write}
-use Rattle.uc_check.specs.Outside.{Slot, Outside}
 use Rattle.command_line.specs.Command.{Check, Upgrade}
-use Rattle.uc_check.specs.Reading.{IsOpenedByNoOther, IsOnlyRead}
-use Rattle.uc_check.specs.Writing.{Found, IsSaved, FailsToSave, IsTold, FailsToTell}
-use Rattle.uc_check.specs.Checking.{most_certificate_bytes, IsCertificateText, HasCertificate, HasReadCause, IsCheckRun}
-use Rattle.uc_check.specs.Ending.{End, Ends}
+use Rattle.command_runs.specs.Outside.{Outside}
+use Rattle.command_runs.specs.Reading.{IsOpenedByNoOther, IsOnlyRead}
+use Rattle.command_runs.specs.Writing.{IsSaved, FailsToSave, IsTold, FailsToTell}
+use Rattle.command_runs.specs.Certificates.{most_certificate_bytes, IsCertificateText, HasCertificate, HasReadCause}
+use Rattle.command_runs.specs.declared.ending.End.{End}
+use Rattle.command_runs.specs.Ending.{Ends}
+use Rattle.uc_check.specs.Checking.{IsCheckRun}
 
 -- ---- two texts of one certificate
 -- Each certificate has both texts or neither. So one that holds for an instance has the one exactly where it has the other.

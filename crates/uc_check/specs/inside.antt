@@ -1,5 +1,1 @@
-pub mod Checks
-pub mod Unread
-pub mod Prices
-pub mod Picks
-pub mod ReportEnds
+pub mod Refusals

@@ -1,18 +1,18 @@
 //! A run of `check`.
 
-ghost use Rattle.std.specs.Prelude.{◌≡◌, IfOk, IfErr, OnOk, OnErr};
+ghost use Rattle.std.specs.Prelude.{IfOk, IfErr, OnOk, OnErr};
 ghost use Rattle.outside.specs.Slots.{AllUnopened};
 ghost use Rattle.outside.specs.Sinks.{SinkState};
 ghost use Rattle.report.specs.ClaimsReport.{claims_report};
-ghost use Rattle.uc_check.specs.Outside.{outside_of};
-ghost use Rattle.uc_check.specs.Writing.{IsTold, FailsToTell};
-ghost use Rattle.uc_check.specs.Checking.{IsAccepting, IsCheckFailure, KeepsToInput, IsCheckRun};
 ghost use Rattle.command_line.specs.Asked.{check_asked, HasPrices};
+ghost use Rattle.command_runs.specs.Outside.{outside_of};
+ghost use Rattle.command_runs.specs.Writing.{IsTold, FailsToTell};
+ghost use Rattle.uc_check.specs.Checking.{IsAccepting, IsCheckFailure, KeepsToInput, IsCheckRun};
 
-use crate::ending::{End, Failure, end_of, end_of_report};
 use crate::verify::verify;
 use cert_check::Claims;
 use command_line::Check;
+use command_runs::{End, Failure, end_of, end_of_report};
 use outside::{Failed, Files, Sink};
 use report::write_claims;
 use std::alloc::Global;

@@ -1,21 +1,21 @@
 //! Reading an instance and a certificate, and checking the one against the other.
 
-ghost use Rattle.std.specs.Prelude.{◌≡◌, IfOk, IfErr};
-ghost use Rattle.outside.specs.Slots.{AllUnopened};
-ghost use Rattle.outside.specs.Sinks.{SinkState};
+ghost use Rattle.std.specs.Prelude.{IfOk, IfErr};
 ghost use Rattle.uc_model.specs.Limits.{IsLawfulInstance};
 ghost use Rattle.dual_model.specs.Laws.{IsClaimTrue};
+ghost use Rattle.outside.specs.Slots.{AllUnopened};
+ghost use Rattle.outside.specs.Sinks.{SinkState};
 ghost use Rattle.cert_check.specs.Answers.{IsAccepted, IsRead};
-ghost use Rattle.uc_check.specs.Outside.{outside_of};
-ghost use Rattle.uc_check.specs.Checking.{IsCheckStopped, KeepsToInput};
 ghost use Rattle.command_line.specs.Asked.{check_asked, HasPrices};
-ghost use Rattle.uc_check.specs.inside.Checks.{IsRefusedCert, IsChecked};
+ghost use Rattle.command_runs.specs.Outside.{outside_of};
+ghost use Rattle.uc_check.specs.Checking.{IsCheckStopped, KeepsToInput};
+ghost use Rattle.uc_check.specs.inside.Refusals.{IsRefusedCert};
+ghost use Rattle.uc_check.specs.Checks.{IsChecked};
 
-use crate::certificate::read_certificate;
-use crate::input::{ReadOptions, read_instance};
 use cert_check::{CheckFault, Claims};
 use cert_text::Cert;
 use command_line::Check;
+use command_runs::{ReadOptions, read_certificate, read_instance};
 use outside::Files;
 use report::Fault;
 use std::alloc::Global;
@@ -23,7 +23,7 @@ use uc_model::Instance;
 
 /// An instance, a certificate that holds for it, and what that claims.
 #[derive(Drop)]
-pub(crate) struct Checked {
+pub struct Checked {
     pub instance: Instance,
     pub cert: Cert,
     pub claims: Claims,
@@ -45,11 +45,7 @@ fn claims_of(alloc: Global, instance: &Instance, cert: &Cert) -> Result<Claims, 
 }
 
 /// Reads the instance and the certificate, and checks it. A fault comes before any byte is written.
-pub(crate) fn verify<F: Files>(
-    alloc: Global,
-    asked: &Check,
-    files: &mut F,
-) -> Result<Checked, Fault>
+pub fn verify<F: Files>(alloc: Global, asked: &Check, files: &mut F) -> Result<Checked, Fault>
     requires unopened { AllUnopened (F.state files.old) }
     requires prices { HasPrices asked.now.shed asked.now.spill_reserve }
     ensures verified { IfOk result (IsChecked (check_asked asked.now) (F.state files.old) (F.state files.new)) }

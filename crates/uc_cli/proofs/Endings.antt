@@ -4,10 +4,10 @@ use Rattle.std.proofs.Common.{◌≡◌, ℕ, true, false, subst, ap, ◌∙◌,
 use Rattle.outside.specs.declared.slot.Slot.TheVariants as slot
 use Rattle.outside.specs.Slots.{SlotState, SameBut}
 use Rattle.outside.specs.Sinks.{SinkState}
-use Rattle.uc_check.specs.Writing.{IsSaved, FailsToSave, text_of_certificate}
+use Rattle.command_runs.specs.Writing.{IsSaved, FailsToSave, text_of_certificate}
 use Rattle.command_line.specs.Command.{Solve}
-use Rattle.uc_check.specs.Outside.{outside_of}
-use Rattle.uc_check.specs.Reading.{HasCause}
+use Rattle.command_runs.specs.Outside.{outside_of}
+use Rattle.command_runs.specs.Reading.{HasCause}
 use Rattle.uc_cli.specs.Run.{Fault, Instance, Slot, Write, solve_options, IsAnswer, IsDone, IsFailure, IsUnsaved, IsUntold}
 use Rattle.uc_cli.specs.inside.Written.{AreUnwritten, AreWritten, IsNotSaved, IsNotTold}
 use Rattle.branch_tree.specs.declared.found.Found.{Found}

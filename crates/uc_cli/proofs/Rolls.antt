@@ -4,8 +4,8 @@ use Rattle.outside.specs.declared.slot.Slot.TheVariants as slot
 use Rattle.outside.specs.Slots.{SlotState, SameBut}
 use Rattle.outside.specs.Sinks.{SinkState}
 use Rattle.command_line.specs.Command.{Roll}
-use Rattle.uc_check.specs.Outside.{outside_of}
-use Rattle.uc_check.specs.Reading.{HasCause, IsOpenedByNoOther, IsOnlyRead, most_bytes}
+use Rattle.command_runs.specs.Outside.{outside_of}
+use Rattle.command_runs.specs.Reading.{HasCause, IsOpenedByNoOther, IsOnlyRead, most_bytes}
 use Rattle.uc_cli.specs.RollRun.{Fault, Instance, Rolled, Slot, Write, roll_options, IsRollAnswer, IsRollDone, IsRollFailure, KeepsToInstance}
 use Rattle.uc_cli.specs.inside.Rolls.{IsToldRoll, IsUntoldRoll}
 

@@ -22,7 +22,7 @@ use Rattle.search_answers.specs.Writable.{HasFewRows, IsWritable}
 use Rattle.workers.specs.Rolling.{IsRolled}
 use Rattle.search_answers.specs.SearchResult.{IsSearchResult}
 use Rattle.command_line.specs.Command.{Solve}
-use Rattle.uc_check.specs.Reading.{HasInstance}
+use Rattle.command_runs.specs.Reading.{HasInstance}
 use Rattle.uc_check.specs.Checking.{IsScheduleTrue}
 use Rattle.uc_cli.specs.DemoRun.{Found, IsDemoAnswer}
 use Rattle.uc_cli.specs.RollRun.{IsRolledTrue}

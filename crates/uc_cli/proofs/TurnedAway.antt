@@ -4,18 +4,18 @@ use Rattle.outside.specs.declared.slot.Slot.TheVariants as slot
 use Rattle.outside.specs.Slots.{SlotState, AllUnopened}
 use Rattle.outside.specs.Sinks.{SinkState}
 use Rattle.command_line.specs.Arguments.{is_taken}
-use Rattle.uc_check.specs.Checking.{most_certificate_bytes}
+use Rattle.command_runs.specs.Certificates.{most_certificate_bytes}
 use Rattle.command_line.specs.Command.{Command, Solves, Checks, Demos, Upgrades, Uplifts, Rolls, command_of}
-use Rattle.uc_check.specs.Outside.{outside_of}
-use Rattle.uc_check.specs.Reading.{most_bytes}
+use Rattle.command_runs.specs.Outside.{outside_of}
+use Rattle.command_runs.specs.Reading.{most_bytes}
 use Rattle.uc_cli.specs.RollRun.{IsRollFailure}
 use Rattle.uc_cli.specs.Run.{Fault, Memory, Slot, Words, IsRun, IsTurnedAway, IsUsage}
-use Rattle.uc_check.specs.declared.ending.End.{End}
-use Rattle.uc_check.specs.Ending.{IsEndOf}
+use Rattle.command_runs.specs.declared.ending.End.{End}
+use Rattle.command_runs.specs.Ending.{IsEndOf}
 use Rattle.command_line.specs.Asked.{IsRefusal}
 use Rattle.command_line.proofs.Commands.{names_a_command}
-use Rattle.uc_check.proofs.Endings.{faulty}
-use Rattle.uc_check.proofs.OnlyRead.{untouched}
+use Rattle.command_runs.proofs.Endings.{faulty}
+use Rattle.command_runs.proofs.OnlyRead.{untouched}
 
 -- the run came to this fault and found nothing
 abbrev pub EndsAt : Fault → SinkState → SinkState → End → Type 0

@@ -12,12 +12,12 @@ use Rattle.search_answers.specs.SearchResult.{IsSearchResult}
 use Rattle.report.specs.DemoReport.{demo_report}
 use Rattle.report.specs.declared.fault.Fault.{Fault}
 use Rattle.report.specs.declared.fault.Fault.TheVariants.{Write, Memory}
-use Rattle.uc_check.specs.Outside.{Outside}
+use Rattle.command_runs.specs.Outside.{Outside}
 use Rattle.command_line.specs.Command.{Demo}
 use Rattle.uc_check.specs.Checking.{IsScheduleTrue}
-use Rattle.uc_check.specs.Ending.{Ends}
-use Rattle.uc_check.specs.Writing.{IsTold, FailsToTell}
-use Rattle.uc_check.specs.declared.ending.End.{End}
+use Rattle.command_runs.specs.Ending.{Ends}
+use Rattle.command_runs.specs.Writing.{IsTold, FailsToTell}
+use Rattle.command_runs.specs.declared.ending.End.{End}
 
 -- an answer for the instance of the seed: what was found with a budget of 200 claims and at a gap of a thousandth of the cost; that
 -- its schedule obeys and costs at most what is printed; and that its bound, or that there is no schedule, is true of every schedule

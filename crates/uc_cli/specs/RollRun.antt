@@ -16,13 +16,13 @@ use Rattle.report.specs.FaultText.{status_of as status_of_fault}
 pub use Rattle.report.specs.declared.fault.Fault.{Fault}
 pub use Rattle.report.specs.declared.fault.Fault.TheVariants.{Write}
 use Rattle.command_line.specs.Command.{Roll}
-use Rattle.uc_check.specs.Outside.{Outside}
-use Rattle.uc_check.specs.Reading.{most_bytes, HasInstance, HasCause, IsOpenedByNoOther, IsOnlyRead}
+use Rattle.command_runs.specs.Outside.{Outside}
+use Rattle.command_runs.specs.Reading.{most_bytes, HasInstance, HasCause, IsOpenedByNoOther, IsOnlyRead}
 use Rattle.uc_check.specs.Checking.{IsScheduleTrue}
-use Rattle.uc_check.specs.Ending.{IsAnswered}
-use Rattle.uc_check.specs.Writing.{IsTold, FailsToTell, TellsFault}
-pub use Rattle.uc_check.specs.declared.ending.End.{End}
-use Rattle.uc_check.specs.declared.input.ReadOptions.{ReadOptions}
+use Rattle.command_runs.specs.Ending.{IsAnswered}
+use Rattle.command_runs.specs.Writing.{IsTold, FailsToTell, TellsFault}
+pub use Rattle.command_runs.specs.declared.ending.End.{End}
+use Rattle.command_runs.specs.declared.input.ReadOptions.{ReadOptions}
 
 -- how the instance is read, as by `solve`
 abbrev pub roll_options : Roll → ReadOptions

@@ -19,19 +19,19 @@ use Rattle.branch_tree.specs.declared.found.Found.{Found}
 use Rattle.report.specs.FoundReport.{found_report}
 pub use Rattle.report.specs.declared.fault.Fault.{Fault}
 pub use Rattle.report.specs.declared.fault.Fault.TheVariants.{Words, Write, Memory}
-use Rattle.uc_check.specs.Outside.{Outside}
+use Rattle.command_runs.specs.Outside.{Outside}
 use Rattle.command_line.specs.Command.{Solve, Command, Solves, Checks, Demos, Upgrades, Uplifts, Rolls}
-use Rattle.uc_check.specs.Reading.{most_bytes, HasInstance, HasCause, IsOpenedByNoOther, IsOnlyRead}
+use Rattle.command_runs.specs.Reading.{most_bytes, HasInstance, HasCause, IsOpenedByNoOther, IsOnlyRead}
 use Rattle.uc_check.specs.Checking.{IsCheckRun, IsScheduleTrue}
 use Rattle.uc_check.specs.Accepting.{IsAcceptedFor}
 use Rattle.uc_check.specs.Upgrading.{IsUpgradeRun}
-use Rattle.uc_check.specs.Uplifting.{IsUpliftRun}
-use Rattle.uc_check.specs.Ending.{Ends, IsFaulty}
+use Rattle.uc_uplift.specs.Uplifting.{IsUpliftRun}
+use Rattle.command_runs.specs.Ending.{Ends, IsFaulty}
 use Rattle.uc_cli.specs.DemoRun.{IsDemoRun}
 use Rattle.uc_cli.specs.RollRun.{IsRollRun}
-use Rattle.uc_check.specs.Writing.{text_of_certificate, IsSaved, FailsToSave, IsTold, FailsToTell}
-use Rattle.uc_check.specs.declared.ending.End.{End}
-use Rattle.uc_check.specs.declared.input.ReadOptions.{ReadOptions}
+use Rattle.command_runs.specs.Writing.{text_of_certificate, IsSaved, FailsToSave, IsTold, FailsToTell}
+use Rattle.command_runs.specs.declared.ending.End.{End}
+use Rattle.command_runs.specs.declared.input.ReadOptions.{ReadOptions}
 
 -- how the instance is read: with these prices of shortages, and where it is asked, a rounded number is refused
 abbrev pub solve_options : Solve → ReadOptions

@@ -4,19 +4,19 @@ ghost use Rattle.std.specs.Prelude.{◌≡◌, IfOk, IfErr, OnOk, OnErr};
 ghost use Rattle.outside.specs.declared.slot.Slot.{Slot};
 ghost use Rattle.outside.specs.Slots.{SlotState};
 ghost use Rattle.report.specs.DemoReport.{demo_report};
-ghost use Rattle.uc_check.specs.Outside.{outside_of};
-ghost use Rattle.uc_check.specs.Writing.{IsTold, FailsToTell};
+ghost use Rattle.command_runs.specs.Outside.{outside_of};
+ghost use Rattle.command_runs.specs.Writing.{IsTold, FailsToTell};
 ghost use Rattle.uc_cli.specs.DemoRun.{IsDemoAnswer, IsDemoAnswered, IsDemoFailure, IsDemoRun};
 ghost use Rattle.command_line.specs.Asked.{demo_asked};
 
 use branch_tree::Found;
 use command_line::Demo;
+use command_runs::{End, Failure, end_of};
 use outside::{Failed, Gate, Sink};
 use report::{DEMO_GAP, Fault, write_demo};
 use std::alloc::Global;
 use std::sync::Wait;
 use std::thread::Threads;
-use uc_check::{End, Failure, end_of};
 use workers::{Options, search};
 
 /// The budget of a demo, in claims.

@@ -6,6 +6,6 @@ mod program;
 mod rolling;
 mod solve;
 
+pub use command_runs::End;
 pub use outside::{SlurpFault, slurp};
 pub use program::uc;
-pub use uc_check::End;

@@ -4,18 +4,20 @@ ghost use Rattle.std.specs.Prelude.{◌≡◌, map, string_bytes, true, false, S
 ghost use Rattle.outside.specs.Slots.{AllUnopened};
 ghost use Rattle.command_line.specs.Arguments.{is_taken};
 ghost use Rattle.command_line.specs.Command.{Command as WordsCommand, command_of as command_of_words};
-ghost use Rattle.uc_check.specs.Outside.{outside_of};
+ghost use Rattle.command_runs.specs.Outside.{outside_of};
 ghost use Rattle.uc_cli.specs.Run.{IsRun, IsUsage};
 
 use crate::demo::demo;
 use crate::rolling::roll_windows;
 use crate::solve::solve;
 use command_line::{Command, command_of};
+use command_runs::{End, Failure, end_of};
 use outside::{Files, Gate, Sink};
 use std::alloc::Global;
 use std::sync::Wait;
 use std::thread::Threads;
-use uc_check::{End, Failure, check_certificate, end_of, upgrade_certificate, uplift_certificate};
+use uc_check::{check_certificate, upgrade_certificate};
+use uc_uplift::uplift_certificate;
 
 /// A run of the program. The words begin with the program's name; each slot of the files is unopened.
 ///

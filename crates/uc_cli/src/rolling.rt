@@ -5,9 +5,9 @@ ghost use Rattle.outside.specs.declared.slot.Slot.TheVariants as slot;
 ghost use Rattle.outside.specs.declared.slot.Stage.TheVariants.{Unopened};
 ghost use Rattle.outside.specs.Slots.{AllUnopened, SameBut};
 ghost use Rattle.outside.specs.Sinks.{SinkState};
-ghost use Rattle.uc_check.specs.Reading.{most_bytes, HasCause, IsOpenedByNoOther, IsOnlyRead};
-ghost use Rattle.uc_check.specs.Outside.{outside_of};
-ghost use Rattle.uc_check.specs.Writing.{IsTold, FailsToTell};
+ghost use Rattle.command_runs.specs.Reading.{most_bytes, HasCause, IsOpenedByNoOther, IsOnlyRead};
+ghost use Rattle.command_runs.specs.Outside.{outside_of};
+ghost use Rattle.command_runs.specs.Writing.{IsTold, FailsToTell};
 ghost use Rattle.report.specs.RolledReport.{rolled_report};
 ghost use Rattle.uc_cli.specs.RollRun.{Slot, roll_options, IsRollAnswer, IsRollDone, IsRollFailure, KeepsToInstance, IsRollRun};
 ghost use Rattle.uc_cli.specs.inside.Rolls.{IsToldRoll, IsUntoldRoll, IsFaultEnd};
@@ -15,12 +15,12 @@ ghost use Rattle.command_line.specs.Asked.{roll_asked, HasNumbers};
 ghost use Rattle.command_line.specs.declared.command.Command.TheVariants as forms;
 
 use command_line::Roll;
+use command_runs::{End, ReadOptions, read_instance, tell_fault};
 use outside::{Failed, Files, Gate, Sink};
 use report::{Fault, write_rolled};
 use std::alloc::Global;
 use std::sync::Wait;
 use std::thread::Threads;
-use uc_check::{End, ReadOptions, read_instance, tell_fault};
 use uc_model::Instance;
 use workers::{Options, Rolled, roll};
 

@@ -3,7 +3,7 @@ use Rattle.std.specs.Prelude.{◌≡◌, ℕ, true, Option, Some, None}
 use Rattle.outside.specs.Sinks.{SinkState}
 use Rattle.report.specs.FaultText.{status_of}
 use Rattle.report.specs.RolledReport.{rolled_report}
-use Rattle.uc_check.specs.Writing.{IsTold, FailsToTell, TellsFault}
+use Rattle.command_runs.specs.Writing.{IsTold, FailsToTell, TellsFault}
 use Rattle.uc_cli.specs.RollRun.{End, Fault, Instance, Rolled, Write}
 
 -- the report is told, and what comes of it is what was rolled

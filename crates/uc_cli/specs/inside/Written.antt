@@ -4,7 +4,7 @@ use Rattle.outside.specs.Slots.{SlotState}
 use Rattle.outside.specs.Sinks.{SinkState}
 use Rattle.branch_tree.specs.declared.found.Found.{Found}
 use Rattle.report.specs.FoundReport.{found_report}
-use Rattle.uc_check.specs.Writing.{text_of_certificate, IsSaved, FailsToSave, IsTold, FailsToTell}
+use Rattle.command_runs.specs.Writing.{text_of_certificate, IsSaved, FailsToSave, IsTold, FailsToTell}
 use Rattle.uc_cli.specs.Run.{Fault, Instance, Write}
 
 -- the certificate is saved and the report told, by the certificate's slot and the output before and after

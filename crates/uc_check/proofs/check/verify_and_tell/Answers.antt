@@ -1,8 +1,9 @@
 -- Each end from the steps before it.
 use Rattle.std.specs.Prelude.{None, refl}
-use Rattle.uc_check.specs.Writing.{IsTold, FailsToTell}
-use Rattle.uc_check.proofs.ReportEnds.{told_end, untold_end}
-use Rattle.uc_check.proofs.Verdicts.{handed_up, stopped_failure, of_claims}
+use Rattle.command_runs.specs.Writing.{IsTold, FailsToTell}
+use Rattle.command_runs.proofs.ReportEnds.{told_end, untold_end}
+use Rattle.command_runs.proofs.HandedUp.{handed_up}
+use Rattle.uc_check.proofs.Verdicts.{stopped_failure, of_claims}
 use Rattle.uc_check.proofs.check.verify_and_tell.Goals as goal
 
 pub returns-in_err-checked-clause-failed : goal.returns-in_err-checked-clause-failed

@@ -1,7 +1,7 @@
 -- Each end from the steps before it.
 use Rattle.command_line.specs.Asked.{upgrade_asked}
 use Rattle.uc_check.proofs.Rewriting.{keeps, rewritten, unread, unsaved}
-use Rattle.uc_check.proofs.Verdicts.{handed_up}
+use Rattle.command_runs.proofs.HandedUp.{handed_up}
 use Rattle.uc_check.proofs.upgrade.rewrite.Goals as goal
 
 pub returns-in_err-cert-clause-failed : goal.returns-in_err-cert-clause-failed

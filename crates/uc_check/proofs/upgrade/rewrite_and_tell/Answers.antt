@@ -1,9 +1,9 @@
 -- Each end from the steps before it.
 use Rattle.std.specs.Prelude.{None, refl}
-use Rattle.uc_check.specs.Outside.{outside_of}
+use Rattle.command_runs.specs.Outside.{outside_of}
 use Rattle.uc_check.specs.Upgrading.{IsUpgradeFailure}
-use Rattle.uc_check.proofs.ReportEnds.{told_end, untold_end}
-use Rattle.uc_check.proofs.Verdicts.{handed_up}
+use Rattle.command_runs.proofs.ReportEnds.{told_end, untold_end}
+use Rattle.command_runs.proofs.HandedUp.{handed_up}
 use Rattle.uc_check.proofs.upgrade.rewrite_and_tell.Goals as goal
 
 pub returns-in_err-rewrite-clause-failed : goal.returns-in_err-rewrite-clause-failed

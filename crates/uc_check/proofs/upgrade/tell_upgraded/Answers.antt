@@ -1,6 +1,6 @@
 -- At a fault of `flush` the whole text was written.
 use Rattle.std.proofs.lemmas.Result.{on_err_weaker}
-use Rattle.uc_check.proofs.Telling.{unflushed}
+use Rattle.command_runs.proofs.Telling.{unflushed}
 use Rattle.uc_check.proofs.upgrade.tell_upgraded.Goals as goal
 
 pub returns-clause-failed : goal.returns-clause-failed

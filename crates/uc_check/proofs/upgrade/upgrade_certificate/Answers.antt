@@ -1,5 +1,5 @@
 -- The run upgraded the certificate, or ended with a fault that it told.
-use Rattle.uc_check.proofs.Endings.{ended}
+use Rattle.command_runs.proofs.Endings.{ended}
 use Rattle.uc_check.proofs.upgrade.upgrade_certificate.Goals as goal
 
 pub returns : goal.returns

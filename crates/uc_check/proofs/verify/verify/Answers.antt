@@ -1,8 +1,7 @@
 -- A fault of the certificate comes after the instance was read.
 use Rattle.std.proofs.Common.{inr, refl}
 use Rattle.command_line.specs.Asked.{check_asked}
-use Rattle.uc_check.proofs.Unread.{for_instance}
-use Rattle.uc_check.proofs.Verdicts.{certificate_fault, refused_cause, verified}
+use Rattle.uc_check.proofs.Verdicts.{certificate_fault, for_instance, refused_cause, verified}
 use Rattle.uc_check.proofs.verify.verify.Goals as goal
 
 pub returns-in-Ok-claims_of-clause-verified : goal.returns-in-Ok-claims_of-clause-verified

@@ -1,6 +1,6 @@
 -- The run ended with an answer, or with a fault that it told.
 use Rattle.std.proofs.Common.{refl}
-use Rattle.uc_check.proofs.Endings.{ended}
+use Rattle.command_runs.proofs.Endings.{ended}
 use Rattle.uc_cli.proofs.demo.demo.Goals as goal
 
 pub returns : goal.returns

@@ -1,7 +1,7 @@
 -- Each end from the steps before it.
 use Rattle.std.proofs.Common.{refl, sym, subst, None}
 use Rattle.command_line.specs.Asked.{demo_asked}
-use Rattle.uc_check.proofs.Verdicts.{handed_up}
+use Rattle.command_runs.proofs.HandedUp.{handed_up}
 use Rattle.uc_cli.specs.DemoRun.{IsDemoFailure}
 use Rattle.uc_cli.proofs.demo.find_and_tell.Goals as goal
 

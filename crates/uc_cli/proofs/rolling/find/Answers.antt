@@ -2,7 +2,7 @@
 use Rattle.std.proofs.Common.{false}
 use Rattle.report.specs.declared.fault.Fault.TheVariants.{Memory}
 use Rattle.command_line.specs.Asked.{roll_asked}
-use Rattle.uc_check.proofs.Verdicts.{handed_up}
+use Rattle.command_runs.proofs.HandedUp.{handed_up}
 use Rattle.uc_cli.proofs.SearchResults.{rolled_true}
 use Rattle.uc_cli.proofs.rolling.find.Goals as goal
 

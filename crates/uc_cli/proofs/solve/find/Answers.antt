@@ -2,7 +2,7 @@
 use Rattle.outside.specs.declared.slot.Slot.TheVariants as slot
 use Rattle.report.specs.declared.fault.Fault.TheVariants.{Memory}
 use Rattle.command_line.specs.Asked.{solve_asked}
-use Rattle.uc_check.proofs.Verdicts.{handed_up}
+use Rattle.command_runs.proofs.HandedUp.{handed_up}
 use Rattle.uc_cli.proofs.SearchResults.{answered}
 use Rattle.uc_cli.proofs.solve.find.Goals as goal
 

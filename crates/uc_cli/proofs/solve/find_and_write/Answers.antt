@@ -1,9 +1,9 @@
 -- Each end from the steps before it.
 use Rattle.std.proofs.Common.{refl, None}
 use Rattle.command_line.specs.Asked.{solve_asked}
-use Rattle.uc_check.proofs.Verdicts.{handed_up}
-use Rattle.uc_check.specs.Outside.{outside_of}
-use Rattle.uc_check.specs.declared.ending.Failure.{Failure}
+use Rattle.command_runs.proofs.HandedUp.{handed_up}
+use Rattle.command_runs.specs.Outside.{outside_of}
+use Rattle.command_runs.specs.declared.ending.Failure.{Failure}
 use Rattle.uc_cli.specs.Run.{IsFailure}
 use Rattle.uc_cli.proofs.Endings.{stopped, unwritten, done}
 use Rattle.uc_cli.proofs.solve.find_and_write.Goals as goal

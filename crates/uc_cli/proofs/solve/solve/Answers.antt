@@ -1,5 +1,5 @@
 -- The run ended with an answer, or with a fault that it told.
-use Rattle.uc_check.proofs.Endings.{ended}
+use Rattle.command_runs.proofs.Endings.{ended}
 use Rattle.uc_cli.proofs.solve.solve.Goals as goal
 
 pub returns : goal.returns

@@ -1,0 +1,2 @@
+pub mod Uplifting
+pub mod inside

@@ -1,0 +1,6 @@
+//! The command `uplift`.
+#![tactic(auto)]
+
+mod uplifting;
+
+pub use uplifting::uplift_certificate;
