@@ -1,9 +1,10 @@
 //! The instances of the demo generator.
 
 use crate::Answer;
+use crate::text::{put_each, put_line, told, whole};
 use demo_gen::instance;
 use std::alloc::{AllocError, Global};
-use uc_model::{Instance, Thermal};
+use uc_model::{Instance, Renewable, Thermal};
 
 /// The numbers of the instance of a seed.
 pub(crate) fn tell_demo(alloc: Global, word: &str) -> Answer {
@@ -13,40 +14,30 @@ pub(crate) fn tell_demo(alloc: Global, word: &str) -> Answer {
             let mut text = String::new(alloc);
             let put = put_system(&mut text, &system);
             drop(system);
-            Ok(put.and(Ok(text))?)
+            whole(put, text)
         }
-        Err(_) => Ok(String::from_str(alloc, "no seed\n")?),
+        Err(_) => told(alloc, "no seed\n"),
     }
 }
 
 // The numbers of an instance, unit by unit in their order.
 fn put_system(text: &mut String, system: &Instance) -> Result<(), AllocError> {
-    writeln!(text, "periods {}", system.periods)?;
+    put_line(text, "periods", &[i64::from(system.periods)])?;
     put_line(text, "demand", system.demand.as_slice())?;
     put_line(text, "reserves", system.reserves.as_slice())?;
     for unit in system.thermal.as_slice() {
         put_unit(text, unit)?;
     }
     for unit in system.renewable.as_slice() {
-        put_line(text, unit.name.as_str(), unit.minimum.as_slice())?;
-        put_line(text, unit.name.as_str(), unit.maximum.as_slice())?;
+        put_renewable(text, unit)?;
     }
     Ok(())
 }
 
-/// Numbers, each behind a blank.
-pub(crate) fn put_each(text: &mut String, numbers: &[i64]) -> Result<(), AllocError> {
-    for number in numbers {
-        write!(text, " {number}")?;
-    }
-    Ok(())
-}
-
-/// A line of numbers behind a word.
-pub(crate) fn put_line(text: &mut String, word: &str, numbers: &[i64]) -> Result<(), AllocError> {
-    text.push_str(word)?;
-    put_each(text, numbers)?;
-    text.push_str("\n")
+// The lines of the limits of a renewable unit.
+fn put_renewable(text: &mut String, unit: &Renewable) -> Result<(), AllocError> {
+    put_line(text, unit.name.as_str(), unit.minimum.as_slice())?;
+    put_line(text, unit.name.as_str(), unit.maximum.as_slice())
 }
 
 // A line of the numbers of a thermal unit.
@@ -69,10 +60,10 @@ fn put_unit(text: &mut String, unit: &Thermal) -> Result<(), AllocError> {
     ];
     put_each(text, &numbers)?;
     for row in unit.startup.as_slice() {
-        write!(text, " {} {}", row.lag, row.cost)?;
+        put_each(text, &[i64::from(row.lag), row.cost])?;
     }
     for point in unit.points.as_slice() {
-        write!(text, " {} {}", point.mw, point.cost)?;
+        put_each(text, &[point.mw, point.cost])?;
     }
     text.push_str("\n")
 }

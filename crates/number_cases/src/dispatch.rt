@@ -8,17 +8,17 @@ ghost use Rattle.schedule_check.specs.PlainNumbers.{HasPlainNumbers};
 
 use crate::Answer;
 use crate::commitment::patterns;
-use crate::demo::put_line;
 use crate::pivot::tell_pivot;
 use crate::reporting::tell_report;
 use crate::table::marginal_text;
+use crate::text::{first, put_line, told, whole};
 use crate::uplifts::tell_uplift;
 use dispatch_repair::{DispatchFault, MostFault, dispatch, most_on};
 use instance::penalize;
 use schedule_check::cost;
 use std::alloc::{AllocError, Global};
 use uc_model::limits::MAX_PENALTY;
-use uc_model::{Instance, NoMemory, Pattern, Printed, Stuck};
+use uc_model::{Cell, Instance, NoMemory, Pattern, Printed, Stuck};
 
 /// Why words have no dispatch.
 #[derive(Drop)]
@@ -82,7 +82,7 @@ pub(crate) fn no_dispatch(alloc: Global, why: NoDispatch) -> Answer {
 
 /// What is answered where words are not a pattern for each unit.
 pub(crate) fn no_commitment(alloc: Global) -> Answer {
-    Ok(String::from_str(alloc, "a pattern for each unit\n")?)
+    told(alloc, "a pattern for each unit\n")
 }
 
 /// What a commitment's dispatch gives, or its marginal prices, or where and why it is stuck and what it gives before.
@@ -116,15 +116,10 @@ pub(crate) fn tell_priced(alloc: Global, instance: Instance, word: &str, rest: &
             "pivot" => tell_pivot(alloc, &instance, rest),
             _ => tell_dispatch(alloc, &instance, word, rest),
         },
-        _ => no_prices(alloc),
+        _ => told(alloc, "no such prices\n"),
     };
     drop(instance);
     answer
-}
-
-// What is answered where prices are not such.
-fn no_prices(alloc: Global) -> Answer {
-    Ok(String::from_str(alloc, "no such prices\n")?)
 }
 
 // Two prices, and what comes behind them.
@@ -140,7 +135,7 @@ fn prices(rest: &str) -> Option<(u32, u32, &str)>
 fn price(rest: &str) -> Option<(u32, &str)>
     ensures { IfSome result (λ pair. pair.0 ≤ MAX_PENALTY) }
 {
-    let (word, rest) = rest.split_once(' ').unwrap_or((rest, ""));
+    let (word, rest) = first(rest);
     match word.parse::<u32>() {
         Ok(price) if price <= MAX_PENALTY => Some((price, rest)),
         _ => None,
@@ -153,16 +148,23 @@ pub(crate) fn tell_most_on(alloc: Global, instance: &Instance) -> Answer
 {
     match most_on(alloc, instance) {
         Ok(patterns) => {
-            let mut text = String::from_str(alloc, "patterns")?;
-            for pattern in &patterns {
-                write!(text, " {}", pattern.low)?;
-            }
-            text.push_str("\n")?;
-            Ok(text)
+            let mut text = String::new(alloc);
+            let put = put_patterns(&mut text, &patterns);
+            drop(patterns);
+            whole(put, text)
         }
         Err(MostFault::Empty(g)) => Ok(format!(in alloc; "empty {}\n", g.saturating_add(1))?),
         Err(MostFault::NoMemory) => Err(NoMemory),
     }
+}
+
+// A line of patterns.
+fn put_patterns(text: &mut String, patterns: &[Pattern]) -> Result<(), AllocError> {
+    text.push_str("patterns")?;
+    for pattern in patterns {
+        write!(text, " {}", pattern.low)?;
+    }
+    text.push_str("\n")
 }
 
 /// A text, and behind it where and why a dispatch is stuck, and what it gives before.
@@ -176,16 +178,21 @@ pub(crate) fn stuck_text(text: String, stuck: &Stuck) -> Answer {
 // A text with the rows of a schedule behind it.
 fn schedule_text(text: String, printed: &Printed) -> Answer {
     let mut text = text;
-    put_schedule(&mut text, printed)?;
-    Ok(text)
+    let put = put_schedule(&mut text, printed);
+    whole(put, text)
 }
 
 // A schedule with what is missing in each period, and its cost.
 fn shortage_text(alloc: Global, printed: &Printed, cost: i64) -> Answer {
-    let mut text = schedule_text(String::new(alloc), printed)?;
-    put_missing(&mut text, printed)?;
-    writeln!(text, "cost {cost}")?;
-    Ok(text)
+    let mut text = String::new(alloc);
+    let put = put_priced(&mut text, printed, cost);
+    whole(put, text)
+}
+
+fn put_priced(text: &mut String, printed: &Printed, cost: i64) -> Result<(), AllocError> {
+    put_schedule(text, printed)?;
+    put_missing(text, printed)?;
+    put_line(text, "cost", &[cost])
 }
 
 /// The rows of what is missing in each period, of demand and of reserve.
@@ -198,18 +205,27 @@ pub(crate) fn put_missing(text: &mut String, printed: &Printed) -> Result<(), Al
 /// output of each renewable one.
 pub(crate) fn put_schedule(text: &mut String, printed: &Printed) -> Result<(), AllocError> {
     for row in printed.thermal.as_slice() {
-        text.push_str("thermal")?;
-        for cell in row.as_slice() {
-            if cell.on {
-                write!(text, " {}:{}:{}", cell.p, cell.r, cell.category)?;
-            } else {
-                text.push_str(" off")?;
-            }
-        }
-        text.push_str("\n")?;
+        put_cells(text, row.as_slice())?;
     }
     for row in printed.renewable.as_slice() {
         put_line(text, "renewable", row.as_slice())?;
     }
     Ok(())
+}
+
+// The row of a thermal unit.
+fn put_cells(text: &mut String, cells: &[Cell]) -> Result<(), AllocError> {
+    text.push_str("thermal")?;
+    for cell in cells {
+        put_cell(text, cell)?;
+    }
+    text.push_str("\n")
+}
+
+fn put_cell(text: &mut String, cell: &Cell) -> Result<(), AllocError> {
+    if cell.on {
+        write!(text, " {}:{}:{}", cell.p, cell.r, cell.category)
+    } else {
+        text.push_str(" off")
+    }
 }

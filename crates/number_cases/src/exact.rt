@@ -2,16 +2,19 @@
 
 ghost use Rattle.std.specs.Prelude.{◌<◌, IfOk};
 ghost use Rattle.uc_model.specs.Limits.{IsLawfulInstance};
-ghost use Rattle.uc_model.specs.Schedule.{thermal_count};
+ghost use Rattle.uc_model.specs.Schedule.{thermal_count, thermal_unit};
+ghost use Rattle.cost_curves.specs.LowerHull.{IsLowerHull};
 ghost use Rattle.dual_model.specs.Prices.{IsLawfulTable};
 
 use crate::Answer;
 use crate::commitment::pattern;
+use crate::text::{first, large_line, told};
 use crate::uplifts::table_with;
 use cost_curves::Curve;
 use dual_model::{Fix, Table};
 use state_walk::{ExactWalk, least_exact};
 use std::alloc::Global;
+use uc_model::limits::MAX_POINTS;
 use uc_model::{Instance, NoMemory, Pattern};
 use unit_exact::{Exact, least};
 
@@ -22,37 +25,27 @@ struct Asked {
     fix: Fix,
 }
 
-/// The exact value of the first unit and a pattern of it, as `DEMAND RESERVE KNOWN ON` says: prices of demand and of reserve, the
-/// periods that are decided, and those of them in which the unit is on.
-pub(crate) fn tell_exact(alloc: Global, instance: &Instance, words: &str) -> Answer
+/// The exact value of the first unit, as `DEMAND RESERVE KNOWN ON` says: prices of demand and of reserve, the periods that are
+/// decided, and those of them in which the unit is on. It is the solver's, with a pattern, or the checker's.
+pub(crate) fn tell_exact(
+    alloc: Global,
+    instance: &Instance,
+    words: &str,
+    is_checked: bool,
+) -> Answer
     requires { IsLawfulInstance instance.now }
 {
     if instance.thermal.as_slice().is_empty() {
-        return Ok(String::from_str(alloc, "no unit\n")?);
+        return told(alloc, "no unit\n");
     }
     let asked = read_words(alloc, instance, words)?;
-    let found = found(alloc, instance, &asked.table, &asked.fix);
+    let answer = if is_checked {
+        checked_text(alloc, instance, &asked)
+    } else {
+        found_text(alloc, instance, &asked)
+    };
     drop(asked);
-    match found? {
-        Some((value, pattern)) => Ok(format!(in alloc; "exact {value} {}\n", pattern.low)?),
-        None => Ok(String::from_str(alloc, "no schedule\n")?),
-    }
-}
-
-/// That value as the checker finds it.
-pub(crate) fn tell_checked(alloc: Global, instance: &Instance, words: &str) -> Answer
-    requires { IsLawfulInstance instance.now }
-{
-    if instance.thermal.as_slice().is_empty() {
-        return Ok(String::from_str(alloc, "no unit\n")?);
-    }
-    let asked = read_words(alloc, instance, words)?;
-    let checked = checked(alloc, instance, &asked.table, &asked.fix);
-    drop(asked);
-    match checked? {
-        Some(value) => Ok(format!(in alloc; "exact {value}\n")?),
-        None => Ok(String::from_str(alloc, "no schedule\n")?),
-    }
+    answer
 }
 
 // What the words say.
@@ -60,9 +53,9 @@ fn read_words(alloc: Global, instance: &Instance, words: &str) -> Result<Asked, 
     requires { IsLawfulInstance instance.now }
     ensures { IfOk result (λ asked. IsLawfulTable instance.now asked.table) }
 {
-    let (demand, words) = words.split_once(' ').unwrap_or((words, ""));
-    let (reserve, words) = words.split_once(' ').unwrap_or((words, ""));
-    let (known, on) = words.split_once(' ').unwrap_or((words, ""));
+    let (demand, words) = first(words);
+    let (reserve, words) = first(words);
+    let (known, on) = first(words);
     let demand = demand.parse::<i32>().unwrap_or(0);
     let reserve = reserve.parse::<u32>().unwrap_or(0);
     let table = table_with(alloc, instance, demand, reserve, &[])?;
@@ -73,23 +66,45 @@ fn read_words(alloc: Global, instance: &Instance, words: &str) -> Result<Asked, 
     Ok(Asked { table, fix })
 }
 
+// The solver's value and pattern.
+fn found_text(alloc: Global, instance: &Instance, asked: &Asked) -> Answer
+    requires lawful { IsLawfulInstance instance.now }
+    requires some { 0 < thermal_count instance.now }
+    requires table { IsLawfulTable instance.now asked.now.table }
+{
+    match found(alloc, instance, asked)? {
+        Some((value, pattern)) => Ok(format!(in alloc; "exact {value} {}\n", pattern.low)?),
+        None => told(alloc, "no schedule\n"),
+    }
+}
+
+// The checker's value.
+fn checked_text(alloc: Global, instance: &Instance, asked: &Asked) -> Answer
+    requires lawful { IsLawfulInstance instance.now }
+    requires some { 0 < thermal_count instance.now }
+    requires table { IsLawfulTable instance.now asked.now.table }
+{
+    match checked(alloc, instance, asked)? {
+        Some(value) => large_line(alloc, "exact", &[value]),
+        None => told(alloc, "no schedule\n"),
+    }
+}
+
 // The exact value of the first unit at the table, with a pattern.
 fn found(
     alloc: Global,
     instance: &Instance,
-    table: &Table,
-    fix: &Fix,
+    asked: &Asked,
 ) -> Result<Option<(i128, Pattern)>, NoMemory>
     requires lawful { IsLawfulInstance instance.now }
     requires some { 0 < thermal_count instance.now }
-    requires table { IsLawfulTable instance.now table.now }
+    requires table { IsLawfulTable instance.now asked.now.table }
 {
-    let points = instance.thermal.as_slice()[0].points.as_slice();
-    let curve = Curve::of(alloc, points)?;
-    let value = match Exact::new(alloc, instance.periods as usize, points.len()) {
+    let curve = first_curve(alloc, instance)?;
+    let value = match Exact::new(alloc, instance.periods as usize, MAX_POINTS) {
         Ok(exact) => {
             let mut exact = exact;
-            let value = least(&mut exact, instance, &curve, table, 0, fix);
+            let value = least(&mut exact, instance, &curve, &asked.table, 0, &asked.fix);
             drop(exact);
             Ok(value)
         }
@@ -100,22 +115,16 @@ fn found(
 }
 
 // And by a walk.
-fn checked(
-    alloc: Global,
-    instance: &Instance,
-    table: &Table,
-    fix: &Fix,
-) -> Result<Option<i128>, NoMemory>
+fn checked(alloc: Global, instance: &Instance, asked: &Asked) -> Result<Option<i128>, NoMemory>
     requires lawful { IsLawfulInstance instance.now }
     requires some { 0 < thermal_count instance.now }
-    requires table { IsLawfulTable instance.now table.now }
+    requires table { IsLawfulTable instance.now asked.now.table }
 {
-    let points = instance.thermal.as_slice()[0].points.as_slice();
-    let curve = Curve::of(alloc, points)?;
-    let value = match ExactWalk::new(alloc, instance.periods as usize, points.len()) {
+    let curve = first_curve(alloc, instance)?;
+    let value = match ExactWalk::new(alloc, instance.periods as usize, MAX_POINTS) {
         Ok(walk) => {
             let mut walk = walk;
-            let value = least_exact(&mut walk, instance, &curve, table, 0, fix);
+            let value = least_exact(&mut walk, instance, &curve, &asked.table, 0, &asked.fix);
             drop(walk);
             Ok(value)
         }
@@ -123,4 +132,13 @@ fn checked(
     };
     drop(curve);
     value
+}
+
+// The curve of the first unit.
+fn first_curve(alloc: Global, instance: &Instance) -> Result<Curve, NoMemory>
+    requires lawful { IsLawfulInstance instance.now }
+    requires some { 0 < thermal_count instance.now }
+    ensures { IfOk result (IsLowerHull (thermal_unit instance.now 0).points) }
+{
+    Curve::of(alloc, instance.thermal.as_slice()[0].points.as_slice())
 }

@@ -7,6 +7,7 @@ ghost use Rattle.dual_model.specs.TableValue.{IsLawfulRow, row_at};
 ghost use Rattle.dual_model.specs.UnitTerms.{AreSizedTerms};
 
 use crate::Answer;
+use crate::text::{first, large_line, told};
 use crate::unit::{first_unit, period};
 use cost_curves::Curve;
 use interval_graph::Intervals;
@@ -19,13 +20,13 @@ use uc_model::{Instance, NoMemory, Terms, Thermal};
 pub(crate) fn tell_interval(alloc: Global, instance: &Instance, words: &str) -> Answer
     requires { IsLawfulInstance instance.now }
 {
-    let (first, last) = words.split_once(' ').unwrap_or((words, ""));
+    let (begin, end) = first(words);
     let periods = instance.periods as usize;
-    match (first_unit(instance), period(first), period(last)) {
+    match (first_unit(instance), period(begin), period(end)) {
         (Some(unit), Some(a), Some(b)) if a <= b && b < periods => {
             interval_text(alloc, unit, periods, a, b)
         }
-        _ => Ok(String::from_str(alloc, "no such interval\n")?),
+        _ => told(alloc, "no such interval\n"),
     }
 }
 
@@ -37,8 +38,8 @@ fn interval_text(alloc: Global, unit: &Thermal, periods: usize, a: usize, b: usi
     requires within { b < periods }
 {
     match interval_cost(alloc, unit, periods, a, b)? {
-        Some(cost) => Ok(format!(in alloc; "cost {cost}\n")?),
-        None => Ok(String::from_str(alloc, "no cost\n")?),
+        Some(cost) => large_line(alloc, "cost", &[cost]),
+        None => told(alloc, "no cost\n"),
     }
 }
 
@@ -83,7 +84,8 @@ fn free_terms(alloc: Global, unit: &Thermal, periods: usize) -> Result<Terms, No
         Ok(curve) => terms(alloc, unit, curve, 1_000_000, &rows),
         Err(NoMemory) => Err(NoMemory),
     };
-    drop((rows, curve));
+    drop(curve);
+    drop(rows);
     made
 }
 

@@ -5,12 +5,13 @@ ghost use Rattle.uc_model.specs.Limits.{IsLawfulInstance};
 use crate::Answer;
 use crate::demo::tell_demo;
 use crate::dispatch::{tell_dispatch, tell_most_on, tell_priced};
-use crate::exact::{tell_checked, tell_exact};
+use crate::exact::tell_exact;
 use crate::interval::tell_interval;
 use crate::node::{tell_child, tell_node};
 use crate::rolling::tell_roll;
 use crate::system::{changed, unit_changed};
 use crate::table::{tell_rays, tell_step, tell_zero};
+use crate::text::{first, told};
 use crate::unit::{period, tell_unit};
 use instance::{ReadFault, read_instance};
 use std::alloc::Global;
@@ -25,7 +26,7 @@ pub(crate) fn follow<R: Print + Files + AllocGlobal>(
     line: &str,
 ) -> io::Result<()> {
     let alloc = rt.alloc();
-    let (word, rest) = line.split_once(' ').unwrap_or((line, ""));
+    let (word, rest) = first(line);
     let text = match word {
         "" | "#" | "case" => return Ok(()),
         "system" => Some(fs::read_to_string(rt, rest)?),
@@ -48,7 +49,7 @@ pub(crate) fn follow<R: Print + Files + AllocGlobal>(
 
 // The text of a line of a file, as `FILE NUMBER` says; nothing where there is no such line.
 fn line_of<R: Files + AllocGlobal>(rt: &R, words: &str) -> io::Result<Option<String>> {
-    let (file, number) = words.split_once(' ').unwrap_or((words, ""));
+    let (file, number) = first(words);
     let lines = fs::read_to_string(rt, file)?;
     match period(number).and_then(|n| lines.lines().nth(n)) {
         Some(line) => Ok(Some(String::from_str(rt.alloc(), line)?)),
@@ -67,7 +68,7 @@ fn answer(alloc: Global, system: &str, word: &str, rest: &str) -> Answer {
         }
         Ok((instance, _)) => answer_of(alloc, &instance, word, rest),
         Err(ReadFault::NoMemory) => Err(NoMemory),
-        Err(_) => Ok(String::from_str(alloc, "no instance\n")?),
+        Err(_) => told(alloc, "no instance\n"),
     }
 }
 
@@ -85,8 +86,8 @@ fn answer_of(alloc: Global, instance: &Instance, word: &str, rest: &str) -> Answ
         "exact-node" => tell_node(alloc, instance, rest, true),
         "child" => tell_child(alloc, instance, rest),
         "interval" => tell_interval(alloc, instance, rest),
-        "exact" => tell_exact(alloc, instance, rest),
-        "checked-exact" => tell_checked(alloc, instance, rest),
+        "exact" => tell_exact(alloc, instance, rest, false),
+        "checked-exact" => tell_exact(alloc, instance, rest, true),
         "roll" => tell_roll(alloc, instance, rest),
         _ => tell_unit(alloc, instance, word, rest),
     }

@@ -15,6 +15,7 @@ mod reporting;
 mod rolling;
 mod system;
 mod table;
+mod text;
 mod unit;
 mod uplifts;
 

@@ -9,6 +9,7 @@ ghost use Rattle.dual_model.specs.Tree.{child as child_of};
 ghost use Rattle.dual_value.specs.NodeAnswer.{HasSizes, IsValued};
 
 use crate::Answer;
+use crate::text::{first, put_large, told, whole};
 use crate::uplifts::table_with;
 use dual_model::{Fixing, Node, Table};
 use dual_value::{Inherited, Room, ValueFault, Valued, child, exact_value, value};
@@ -35,9 +36,10 @@ pub(crate) fn root_total(alloc: Global, instance: &Instance, table: &Table) -> A
 fn evaluation_text(alloc: Global, evaluation: Evaluation, has_parts: bool) -> Answer {
     match evaluation {
         Ok(valued) => {
-            let text = valued_text(alloc, &valued, has_parts);
+            let mut text = String::new(alloc);
+            let put = put_valued(&mut text, &valued, has_parts);
             drop(valued);
-            Ok(text?)
+            whole(put, text)
         }
         Err(fault) => fault_text(alloc, fault),
     }
@@ -56,13 +58,13 @@ pub(crate) fn fault_text(alloc: Global, fault: ValueFault) -> Answer {
 pub(crate) fn tell_node(alloc: Global, instance: &Instance, words: &str, exact: bool) -> Answer
     requires { IsLawfulInstance instance.now }
 {
-    let (price, decisions) = words.split_once(' ').unwrap_or((words, ""));
+    let (price, decisions) = first(words);
     let price = price.parse::<i32>().unwrap_or(0);
     let node = node(alloc, decisions)?;
     if is_node_of(instance, &node) {
         node_text(alloc, instance, &node, price, exact)
     } else {
-        Ok(String::from_str(alloc, "no such cell\n")?)
+        told(alloc, "no such cell\n")
     }
 }
 
@@ -86,14 +88,14 @@ pub(crate) fn tell_child(alloc: Global, instance: &Instance, words: &str) -> Ans
     requires { IsLawfulInstance instance.now }
 {
     let (words, last) = words.rsplit_once(' ').unwrap_or((words, ""));
-    let (price, decisions) = words.split_once(' ').unwrap_or((words, ""));
+    let (price, decisions) = first(words);
     let price = price.parse::<i32>().unwrap_or(0);
     let parent = node(alloc, decisions)?;
     match decision(last) {
         Some(fixing) if is_node_of(instance, &parent) && is_cell_of(instance, &fixing) => {
             child_text(alloc, instance, &parent, &fixing, price)
         }
-        _ => Ok(String::from_str(alloc, "no such cell\n")?),
+        _ => told(alloc, "no such cell\n"),
     }
 }
 
@@ -109,7 +111,7 @@ fn child_text(
     requires parent { IsNodeOf instance.now parent.now }
     requires cell { IsCell instance.now fixing.now.g fixing.now.t }
 {
-    let table = table(alloc, instance, price)?;
+    let table = table_with(alloc, instance, price, 0, &[])?;
     let evaluation = match valued(alloc, instance, parent, &table) {
         Ok(valued) => child_valued(alloc, instance, parent, fixing, &table, &valued),
         Err(fault) => Err(fault),
@@ -182,28 +184,22 @@ fn exactly_valued(alloc: Global, instance: &Instance, node: &Node, table: &Table
 }
 
 // The total, and where they are wanted a line for each unit.
-fn valued_text(alloc: Global, valued: &Valued, has_parts: bool) -> Result<String, AllocError> {
-    let mut text = format!(in alloc; "value {}\n", valued.total)?;
+fn put_valued(text: &mut String, valued: &Valued, has_parts: bool) -> Result<(), AllocError> {
+    put_large(text, "value", &[valued.total])?;
     if has_parts {
-        let patterns = valued.patterns.as_slice();
-        for (part, pattern) in valued.parts.as_slice().iter().zip(patterns) {
-            writeln!(text, "part {part} {}", pattern.low)?;
-        }
+        put_parts(text, valued)
+    } else {
+        Ok(())
     }
-    Ok(text)
 }
 
-// The table with this price of demand in each period, at the scale of a million.
-fn table(alloc: Global, instance: &Instance, price: i32) -> Result<Table, NoMemory>
-    requires lawful { IsLawfulInstance instance.now }
-    ensures size { IfOk result (HasSizeOf instance.now) }
-    ensures limits { IfOk result IsWithinLimits }
-{
-    let periods = instance.periods as usize;
-    let demand = vec![in alloc; i64::from(price); periods]?;
-    let reserve = vec![in alloc; 0; periods]?;
-    let units = instance.thermal.as_slice().len() as u32;
-    Table::new(alloc, units, 1_000_000, &demand, &reserve, &[])
+// A line for each unit.
+fn put_parts(text: &mut String, valued: &Valued) -> Result<(), AllocError> {
+    let patterns = valued.patterns.as_slice();
+    for (part, pattern) in valued.parts.as_slice().iter().zip(patterns) {
+        writeln!(text, "part {part} {}", pattern.low)?;
+    }
+    Ok(())
 }
 
 // The node of decisions, each `UNIT:PERIOD:on` or `off`.

@@ -1,6 +1,7 @@
 //! The exact dispatch of commitments.
 
 ghost use Rattle.uc_model.specs.Limits.{IsLawfulInstance};
+ghost use Rattle.dispatch_rules.specs.CommitmentTask.{AreAllowed};
 ghost use Rattle.dual_model.specs.Fixings.{IsNodeOf};
 
 use crate::Answer;
@@ -8,12 +9,13 @@ use crate::commitment::patterns;
 use crate::dispatch::{no_commitment, put_missing, put_schedule};
 use crate::node::{fault_text, is_node_of, valued};
 use crate::table::put_table;
+use crate::text::whole;
 use dual_model::{Fixing, Node};
-use dual_value::ValueFault;
+use dual_value::{ValueFault, Valued};
 use pivot_dispatch::{Pivot, best};
 use prices::zero;
 use std::alloc::{AllocError, Global};
-use uc_model::{Instance, List, Pattern};
+use uc_model::{Instance, List, Pattern, Printed};
 
 /// The exact dispatch of the commitment that the words tell, or the first unit whose pattern isn't allowed.
 pub(crate) fn tell_pivot(alloc: Global, instance: &Instance, words: &str) -> Answer
@@ -56,7 +58,7 @@ fn node_answer(alloc: Global, instance: &Instance, node: &Node) -> Answer
             let mut text = String::new(alloc);
             let put = put_pivot(&mut text, &pivot);
             drop(pivot);
-            Ok(put.and(Ok(text))?)
+            whole(put, text)
         }
         Err(fault) => fault_text(alloc, fault),
     }
@@ -68,17 +70,29 @@ fn node_pivot(alloc: Global, instance: &Instance, node: &Node) -> Result<Pivot, 
     requires node { IsNodeOf instance.now node.now }
 {
     let table = zero(alloc, instance)?;
-    let valued = valued(alloc, instance, node, &table)?;
-    Ok(best(alloc, instance, valued.patterns.as_slice())?)
+    let valued = valued(alloc, instance, node, &table);
+    drop(table);
+    match valued {
+        Ok(valued) => pivot_of(alloc, instance, valued),
+        Err(fault) => Err(fault),
+    }
+}
+
+// The exact dispatch of the patterns of a value.
+fn pivot_of(alloc: Global, instance: &Instance, valued: Valued) -> Result<Pivot, ValueFault>
+    requires lawful { IsLawfulInstance instance.now }
+    requires allowed { AreAllowed instance.now valued.patterns }
+{
+    let pivot = best(alloc, instance, valued.patterns.as_slice());
+    drop(valued);
+    Ok(pivot?)
 }
 
 // What an exact dispatch answers: a schedule and its prices, a ray, or the limit that is met.
 fn put_pivot(text: &mut String, pivot: &Pivot) -> Result<(), AllocError> {
     match pivot {
         Pivot::Best { schedule, table } => {
-            writeln!(text, "best over {}", schedule.denominator)?;
-            put_schedule(text, schedule)?;
-            put_missing(text, schedule)?;
+            put_best(text, schedule)?;
             put_table(text, table)
         }
         Pivot::Ray(table) => {
@@ -87,4 +101,11 @@ fn put_pivot(text: &mut String, pivot: &Pivot) -> Result<(), AllocError> {
         }
         Pivot::Wide { what, pivots, .. } => writeln!(text, "wide {what:?} after {pivots} pivots"),
     }
+}
+
+// A schedule as it is, and its denominator.
+fn put_best(text: &mut String, schedule: &Printed) -> Result<(), AllocError> {
+    writeln!(text, "best over {}", schedule.denominator)?;
+    put_schedule(text, schedule)?;
+    put_missing(text, schedule)
 }

@@ -4,6 +4,7 @@ ghost use Rattle.uc_model.specs.Limits.{IsLawfulInstance};
 
 use crate::Answer;
 use crate::dispatch::{dispatched, no_dispatch};
+use crate::text::{first, told};
 use branch_tree::{Found, Layout, Tree};
 use outside_memory::MemorySink;
 use report::write_found;
@@ -15,7 +16,7 @@ use uc_model::{Instance, List, NoMemory, Printed};
 pub(crate) fn tell_report(alloc: Global, instance: &Instance, words: &str) -> Answer
     requires { IsLawfulInstance instance.now }
 {
-    let (denominator, bits) = words.split_once(' ').unwrap_or((words, ""));
+    let (denominator, bits) = first(words);
     match dispatched(alloc, instance, bits) {
         Ok(printed) => {
             let mut printed = printed;
@@ -28,9 +29,24 @@ pub(crate) fn tell_report(alloc: Global, instance: &Instance, words: &str) -> An
 
 // The report of a search that found the schedule at a cost and a bound of nothing.
 fn report_text(alloc: Global, instance: &Instance, printed: Printed) -> Answer {
-    let found = Found {
+    match Tree::with_room(alloc, 0, 0, 1) {
+        Ok(tree) => {
+            let found = found_with(alloc, printed, tree);
+            let text = written(alloc, instance, &found);
+            drop(found);
+            text
+        }
+        Err(NoMemory) => {
+            drop(printed);
+            Err(NoMemory)
+        }
+    }
+}
+
+fn found_with(alloc: Global, printed: Printed, tree: Tree) -> Found {
+    Found {
         schedule: Some((printed, 0)),
-        tree: Tree::with_room(alloc, 0, 0, 1)?,
+        tree,
         tables: List::from_vec(Vec::new(alloc)),
         log: List::from_vec(Vec::new(alloc)),
         most_on: None,
@@ -38,12 +54,15 @@ fn report_text(alloc: Global, instance: &Instance, printed: Printed) -> Answer {
             nodes: List::from_vec(Vec::new(alloc)),
             tables: List::from_vec(Vec::new(alloc)),
         },
-    };
+    }
+}
+
+// The report that is written of it.
+fn written(alloc: Global, instance: &Instance, found: &Found) -> Answer {
     let mut sink = MemorySink::new(alloc);
-    let outcome = write_found(&mut sink, &found, instance, 0, 0);
-    drop(found);
+    let outcome = write_found(&mut sink, found, instance, 0, 0);
     match (outcome, sink.written()) {
-        (Ok(()), Some(bytes)) => Ok(String::from_str(alloc, str::from_utf8(bytes).unwrap_or(""))?),
+        (Ok(()), Some(bytes)) => told(alloc, str::from_utf8(bytes).unwrap_or("")),
         _ => Err(NoMemory),
     }
 }

@@ -9,6 +9,7 @@ ghost use Rattle.roll.specs.Stitched.{IsContinuation};
 use crate::Answer;
 use crate::commitment::patterns;
 use crate::dispatch::{no_commitment, put_schedule, stuck_text};
+use crate::text::{first, put_line, whole};
 use dispatch_repair::{DispatchFault, dispatch};
 use roll::{Carried, begin, carry, stitch, whole_cost, window};
 use std::alloc::{AllocError, Global};
@@ -27,8 +28,8 @@ struct Pace {
 pub(crate) fn tell_roll(alloc: Global, instance: &Instance, words: &str) -> Answer
     requires { IsLawfulInstance instance.now }
 {
-    let (window, words) = words.split_once(' ').unwrap_or((words, ""));
-    let (step, bits) = words.split_once(' ').unwrap_or((words, ""));
+    let (window, words) = first(words);
+    let (step, bits) = first(words);
     let pace = Pace {
         window: hours(window),
         step: hours(step),
@@ -43,7 +44,7 @@ pub(crate) fn tell_roll(alloc: Global, instance: &Instance, words: &str) -> Answ
             let cost = whole_cost(instance, &kept);
             let put = put_whole(&mut text, &kept, cost);
             drop(kept);
-            Ok(put.and(Ok(text))?)
+            whole(put, text)
         }
         Err(DispatchFault::Stuck(stuck)) => stuck_text(text, &stuck),
         Err(DispatchFault::NoMemory) => Err(NoMemory),
@@ -188,19 +189,12 @@ fn pattern_from(pattern: &Pattern, first: u32) -> Pattern {
 fn put_states(text: &mut String, carried: &Carried) -> Result<(), AllocError> {
     text.push_str("left")?;
     for state in carried.units.as_slice() {
-        if state.on {
-            write!(
-                text,
-                " on:{}:{}:{}",
-                state.output, state.time_on, state.time_off
-            )?;
-        } else {
-            write!(
-                text,
-                " off:{}:{}:{}",
-                state.output, state.time_on, state.time_off
-            )?;
-        }
+        text.push_str(if state.on { " on" } else { " off" })?;
+        write!(
+            text,
+            ":{}:{}:{}",
+            state.output, state.time_on, state.time_off
+        )?;
     }
     text.push_str("\n")
 }
@@ -208,5 +202,5 @@ fn put_states(text: &mut String, carried: &Carried) -> Result<(), AllocError> {
 // A schedule and its cost.
 fn put_whole(text: &mut String, kept: &Printed, cost: i64) -> Result<(), AllocError> {
     put_schedule(text, kept)?;
-    writeln!(text, "cost {cost}")
+    put_line(text, "cost", &[cost])
 }

@@ -8,25 +8,29 @@ ghost use Rattle.dual_model.specs.Opening.{ray_count};
 ghost use Rattle.dual_model.specs.Prices.{IsLawfulTable};
 
 use crate::Answer;
-use crate::demo::put_each;
 use crate::node::root_total;
-use dual_model::{Node, Table};
+use crate::text::{large_line, put_row};
+use dual_model::{Node, RampRow, Table};
 use prices::{marginal, opening_ray, step, zero};
 use std::alloc::{AllocError, Global};
 use uc_model::{Instance, NoMemory, Printed};
 
 /// A line of the table's numbers.
 pub(crate) fn put_table(text: &mut String, table: &Table) -> Result<(), AllocError> {
-    write!(text, "scale {} demand", table.k())?;
-    put_each(text, table.pi())?;
-    text.push_str(" reserve")?;
-    put_each(text, table.mu())?;
+    put_row(text, "scale", &[table.k()])?;
+    put_row(text, " demand", table.pi())?;
+    put_row(text, " reserve", table.mu())?;
     for row in table.ramps() {
-        let unit = row.g.saturating_add(1);
-        let period = row.t.saturating_add(1);
-        write!(text, " ramp {unit}:{period}:{}:{}", row.up, row.down)?;
+        put_ramp(text, row)?;
     }
     text.push_str("\n")
+}
+
+// A ramp row.
+fn put_ramp(text: &mut String, row: &RampRow) -> Result<(), AllocError> {
+    let unit = row.g.saturating_add(1);
+    let period = row.t.saturating_add(1);
+    write!(text, " ramp {unit}:{period}:{}:{}", row.up, row.down)
 }
 
 // The table's numbers, and the value of the root at it.
@@ -84,7 +88,7 @@ pub(crate) fn tell_step(alloc: Global, instance: &Instance, words: &str) -> Answ
     let table = zero(alloc, instance)?;
     let scale = stepped(alloc, instance, &table, had);
     drop(table);
-    Ok(format!(in alloc; "scale {}\n", scale?)?)
+    large_line(alloc, "scale", &[i128::from(scale?)])
 }
 
 // The scale of the table to try at the root behind so many, of which this is the last.

@@ -5,6 +5,7 @@ ghost use Rattle.uc_model.specs.Limits.{IsLawfulInstance, IsLawfulThermal};
 
 use crate::Answer;
 use crate::commitment::pattern;
+use crate::text::{first, large_line, put_line, told, whole};
 use cost_curves::Curve;
 use period_term::term;
 use start_costs::{least_allowed, sigma};
@@ -17,14 +18,14 @@ pub(crate) fn tell_unit(alloc: Global, instance: &Instance, word: &str, rest: &s
     requires { IsLawfulInstance instance.now }
 {
     let Some(unit) = first_unit(instance) else {
-        return Ok(String::from_str(alloc, "no unit\n")?);
+        return told(alloc, "no unit\n");
     };
     match word {
         "curve" => tell_curve(alloc, unit, rest),
         "term" => tell_term(alloc, unit, rest),
-        "start" => Ok(tell_start(alloc, unit, rest)?),
-        "sigma" => Ok(tell_sigma(alloc, unit, rest)?),
-        _ => Ok(String::from_str(alloc, "no such question\n")?),
+        "start" => tell_start(alloc, unit, rest),
+        "sigma" => tell_sigma(alloc, unit, rest),
+        _ => told(alloc, "no such question\n"),
     }
 }
 
@@ -49,11 +50,18 @@ fn tell_curve(alloc: Global, unit: &Thermal, words: &str) -> Answer
     requires { IsLawfulThermal unit.now }
 {
     let curve = Curve::of(alloc, unit.points.as_slice())?;
-    let mut text = format!(in alloc; "width {}\n", curve.width())?;
+    let mut text = String::new(alloc);
+    let put = put_curve(&mut text, &curve, words);
+    drop(curve);
+    whole(put, text)
+}
+
+fn put_curve(text: &mut String, curve: &Curve, words: &str) -> Result<(), AllocError> {
+    put_line(text, "width", &[curve.width()])?;
     for word in words.split(' ') {
-        put_output(&mut text, &curve, word.parse::<i64>().unwrap_or(-1))?;
+        put_output(text, curve, word.parse::<i64>().unwrap_or(-1))?;
     }
-    Ok(text)
+    Ok(())
 }
 
 // The least cost at an output, the ends of its segment, and the slopes on its left and right where both are.
@@ -95,8 +103,8 @@ fn tell_term(alloc: Global, unit: &Thermal, words: &str) -> Answer
         reserve,
         i64::from(number(words, 3)),
     ) {
-        Some(term) => Ok(format!(in alloc; "term {term}\n")?),
-        None => Ok(String::from_str(alloc, "no term\n")?),
+        Some(term) => large_line(alloc, "term", &[term]),
+        None => told(alloc, "no term\n"),
     }
 }
 
@@ -106,29 +114,29 @@ pub(crate) fn period(word: &str) -> Option<usize> {
 }
 
 // The cheapest category of a start in a period of a pattern, and what it costs.
-fn tell_start(alloc: Global, unit: &Thermal, words: &str) -> Result<String, AllocError>
+fn tell_start(alloc: Global, unit: &Thermal, words: &str) -> Answer
     requires { IsLawfulThermal unit.now }
 {
-    let (bits, rest) = words.split_once(' ').unwrap_or((words, ""));
+    let (bits, rest) = first(words);
     match period(rest) {
         Some(t) if t < MAX_PERIODS as usize => {
             let (category, cost) = least_allowed(unit, &pattern(bits), t);
-            format!(in alloc; "category {category} cost {cost}\n")
+            Ok(format!(in alloc; "category {category} cost {cost}\n")?)
         }
-        _ => String::from_str(alloc, "no such period\n"),
+        _ => told(alloc, "no such period\n"),
     }
 }
 
 // The least cost of a start in a period, by the period of the last stop, of which 0 is none.
-fn tell_sigma(alloc: Global, unit: &Thermal, words: &str) -> Result<String, AllocError>
+fn tell_sigma(alloc: Global, unit: &Thermal, words: &str) -> Answer
     requires { IsLawfulThermal unit.now }
 {
-    let (stop, rest) = words.split_once(' ').unwrap_or((words, ""));
+    let (stop, rest) = first(words);
     match period(rest) {
         Some(t) if t < MAX_PERIODS as usize => {
             let cost = sigma(unit, period(stop), t);
-            format!(in alloc; "cost {cost}\n")
+            large_line(alloc, "cost", &[i128::from(cost)])
         }
-        _ => String::from_str(alloc, "no such period\n"),
+        _ => told(alloc, "no such period\n"),
     }
 }

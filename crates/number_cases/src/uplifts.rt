@@ -11,7 +11,7 @@ ghost use Rattle.schedule_check.specs.PlainNumbers.{HasPlainNumbers};
 
 use crate::Answer;
 use crate::dispatch::{dispatched, no_dispatch};
-use crate::unit::period;
+use crate::text::{first, put_large, whole};
 use dual_model::{RampRow, Table};
 use std::alloc::{AllocError, Global};
 use uc_model::{Instance, NoMemory, Printed};
@@ -29,9 +29,9 @@ struct Prices {
 pub(crate) fn tell_uplift(alloc: Global, instance: &Instance, words: &str) -> Answer
     requires { IsLawfulInstance instance.now }
 {
-    let (demand, words) = words.split_once(' ').unwrap_or((words, ""));
-    let (reserve, words) = words.split_once(' ').unwrap_or((words, ""));
-    let (ramp, bits) = words.split_once(' ').unwrap_or((words, ""));
+    let (demand, words) = first(words);
+    let (reserve, words) = first(words);
+    let (ramp, bits) = first(words);
     let prices = Prices {
         demand: demand.parse::<i32>().unwrap_or(0),
         reserve: reserve.parse::<u32>().unwrap_or(0),
@@ -64,26 +64,17 @@ fn uplift_text(alloc: Global, instance: &Instance, printed: &Printed, prices: &P
     let mut text = String::new(alloc);
     let put = put_uplifts(&mut text, &uplifts);
     drop(uplifts);
-    Ok(put.and(Ok(text))?)
+    whole(put, text)
 }
 
 // A line for each kind of uplift and slack.
 fn put_uplifts(text: &mut String, uplifts: &Uplifts) -> Result<(), AllocError> {
-    put_line(text, "thermal", uplifts.thermal.as_slice())?;
-    put_line(text, "renewable", uplifts.renewable.as_slice())?;
-    writeln!(text, "shed {}", uplifts.shed)?;
-    writeln!(text, "reserve-slack {}", uplifts.reserve_slack)?;
-    writeln!(text, "ramp-slack {}", uplifts.ramp_slack)?;
-    writeln!(text, "total {}", uplifts.total)
-}
-
-// A line of numbers behind a word.
-fn put_line(text: &mut String, word: &str, numbers: &[i128]) -> Result<(), AllocError> {
-    text.push_str(word)?;
-    for number in numbers {
-        write!(text, " {number}")?;
-    }
-    text.push_str("\n")
+    put_large(text, "thermal", uplifts.thermal.as_slice())?;
+    put_large(text, "renewable", uplifts.renewable.as_slice())?;
+    put_large(text, "shed", &[uplifts.shed])?;
+    put_large(text, "reserve-slack", &[uplifts.reserve_slack])?;
+    put_large(text, "ramp-slack", &[uplifts.ramp_slack])?;
+    put_large(text, "total", &[uplifts.total])
 }
 
 // The table of the prices at the scale of a million.
@@ -158,19 +149,28 @@ fn ramp_row(instance: &Instance, word: &str) -> Option<RampRow>
     ensures cell { IfSome result (λ row. IsCell instance.now row.g row.t) }
     ensures row { IfSome result (λ row. IsRowSigned row × IsRowPriced row) }
 {
-    let (unit, words) = word.split_once(':')?;
-    let (hour, words) = words.split_once(':')?;
-    let (up, down) = words.split_once(':')?;
-    let g = period(unit)?;
-    let t = period(hour)?;
-    if g < instance.thermal.as_slice().len() && t < instance.periods as usize {
+    let unit = part(word, 0);
+    let hour = part(word, 1);
+    if 0 < unit
+        && unit as usize <= instance.thermal.as_slice().len()
+        && 0 < hour
+        && hour <= instance.periods
+    {
         Some(RampRow {
-            g: g as u32,
-            t: t as u32,
-            up: i64::from(up.parse::<u32>().ok()?),
-            down: i64::from(down.parse::<u32>().ok()?),
+            g: unit - 1,
+            t: hour - 1,
+            up: i64::from(part(word, 2)),
+            down: i64::from(part(word, 3)),
         })
     } else {
         None
+    }
+}
+
+// A number among those of a word with colons, from 0; 0 where there is none.
+fn part(word: &str, n: usize) -> u32 {
+    match word.split(':').nth(n) {
+        Some(part) => part.parse::<u32>().unwrap_or(0),
+        None => 0,
     }
 }
