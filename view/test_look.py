@@ -458,7 +458,12 @@ class LookTest(unittest.TestCase):
         return path
 
     def look(self, *files: pathlib.Path) -> Tuple[int, List[str]]:
-        """The status, and the lines without the files' folder."""
+        """The status, and the lines of what is found, without the files' folder."""
+        status, lines = self.look_at_all(*files)
+        return status, [line for line in lines if ": ramps: " not in line]
+
+    def look_at_all(self, *files: pathlib.Path) -> Tuple[int, List[str]]:
+        """The same with the lines of ramps."""
         out = io.StringIO()
         with contextlib.redirect_stdout(out):
             status = command.main([str(path) for path in files])
@@ -487,6 +492,40 @@ class Checks(LookTest):
         text, count = re.subn(r"(?<=[:\[ ])(\d+)(?=[,\]}])", r"\1.0000001", json.dumps(BASE))
         system = units.read_system("i", text.encode())
         self.assertEqual([system.instance.rounded, len(list(texts.numbers(system)))], [count, count])
+
+
+class RampsTest(LookTest):
+    """The line of the ramps. Above their minima units a, b and c have 80, 40 and 30 MW."""
+
+    def assert_ramps(self, edits: List[Edit], *wanted: Tuple[int, int, str]) -> None:
+        """The percent that are told, and the advice; nothing else is found."""
+        lines = [
+            f"i: ramps: {slow} % of the capacity above the minima is of units with ramps below half of theirs, and reserve is up to {reserve} % "
+            f"of all ramps up; --exact-units {advice}"
+            for slow, reserve, advice in wanted
+        ]
+        self.assertEqual(self.look_at_all(self.put("i", edited(edits))), (0, lines))
+
+    def test_no_ramp_can_bind(self) -> None:
+        self.assert_ramps([])
+
+    def test_slow_ramps(self) -> None:
+        self.assert_ramps(fields(*B, ramp_up_limit=19), (26, 7, "is worth trying"))
+        self.assert_ramps(fields(*B, ramp_down_limit=19), (26, 6, "is worth trying"))
+        self.assert_ramps(fields(*B, ramp_up_limit=20), (0, 7, "hardly helps"))
+        for most, told in ((16, (4, 8, "hardly helps")), (17, (5, 8, "is worth trying"))):
+            changes = {"power_output_maximum": most, POINTS: points((10, 300), (most, 30 * most + 3))}
+            self.assert_ramps(fields(*C, ramp_up_limit=2, **changes), told)
+
+    def test_ramps_that_reserve_takes(self) -> None:
+        for reserve, told in ((22, (0, 14, "hardly helps")), (23, (0, 15, "is worth trying"))):
+            self.assert_ramps([*fields(*A, ramp_up_limit=79), (("reserves", 1), reserve)], told)
+
+    def test_no_rise_at_all(self) -> None:
+        still = [edit for unit in (A, B, C) for edit in fields(*unit, ramp_up_limit=0)]
+        _, lines = self.look_at_all(self.put("i", edited(still)))
+        told = "i: ramps: 100 % of the capacity above the minima is of units with ramps below half of theirs, and reserve is up to 100 % of all ramps up"
+        self.assertEqual(lines[-1], f"{told}; --exact-units is worth trying")
 
 
 class Files(LookTest):

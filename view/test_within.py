@@ -3,6 +3,7 @@ from __future__ import annotations
 
 import contextlib
 import io
+import json
 import os
 import pathlib
 import signal
@@ -18,12 +19,12 @@ sys.dont_write_bytecode = True
 HERE = pathlib.Path(__file__).resolve().parent
 sys.path.insert(0, str(HERE))
 
-from timed_search import command, run  # noqa: E402
+from timed_search import command, run, trials  # noqa: E402
 
 PROGRAM = """#!/bin/sh
 echo "$@" >> "$(dirname "$0")/log"
-for word; do case $word in --cert=*) certificate=${word#--cert=} ;; --units=*) budget=${word#--units=} ;; esac; done
-echo "certificate of budget $budget" > "$certificate"
+for word; do case $word in --cert=*) certificate=${word#--cert=} ;; --units=*) budget=${word#--units=} ;; --exact-units) way=exact ;; esac; done
+echo "certificate of budget $budget$way" > "$certificate"
 """
 SIZES = "periods 1 thermal 0 renewable 0 rounded 0\n"
 SPENT = SIZES + "budget spent\ncost {}.000000\nbound {}.000000\nevaluations 1\n"
@@ -44,12 +45,12 @@ class WithinTest(unittest.TestCase):
         self.case.write_text("{}")
         self.program = self.folder / "program"
 
-    def play(self, *runs: Tuple[str, str]) -> None:
-        """Lets the runs of the budgets 1, 4, 16 and so on print these reports and end so; later ones wait for ever."""
-        lines = [PROGRAM, "case $budget in\n"]
-        for number, (printed, ends) in enumerate(runs):
-            (self.folder / f"report{number}").write_text(printed)
-            lines.append(f'{4**number}) cat "{self.folder}/report{number}"; {ends} ;;\n')
+    def play(self, *runs: Tuple[str, str], exact: Tuple[Tuple[str, str], ...] = ()) -> None:
+        """Lets the runs of the budgets 1, 4, 16 and so on, and those with exact units, print these reports and end so; later ones wait for ever."""
+        lines = [PROGRAM, "case $budget$way in\n"]
+        for number, way, (printed, ends) in [(n, "", it) for n, it in enumerate(runs)] + [(n, "exact", it) for n, it in enumerate(exact)]:
+            (self.folder / f"report{number}{way}").write_text(printed)
+            lines.append(f'{4**number}{way}) cat "{self.folder}/report{number}{way}"; {ends} ;;\n')
         lines.append('*) echo $$ > "$0.process"; exec sleep 60 ;;\nesac\n')
         self.program.write_text("".join(lines))
         self.program.chmod(0o755)
@@ -111,8 +112,8 @@ class Answers(WithinTest):
         for call, budget in zip(calls, (1, 4)):
             options = f"--units={budget} --workers=1 --gap=0 --shed=500 --exact"
             self.assertRegex(call, f"^solve --cert=[^ ]+ {options} -- {self.case}$")
-        self.assertEqual(list(command._budgets(5)), [1, 4, 5])
-        self.assertEqual(list(command._budgets(1_000_000))[-2:], [262_144, 1_000_000])
+        self.assertEqual(list(trials.budgets(5)), [1, 4, 5])
+        self.assertEqual(list(trials.budgets(1_000_000))[-2:], [262_144, 1_000_000])
 
     def test_a_worse_answer_isnt_kept(self) -> None:
         self.play((SPENT.format(110, 100), "exit 1"), (SPENT.format(112, 101), "exit 1"), (NO_SCHEDULE.format(102), "exit 2"))
@@ -144,6 +145,43 @@ class Answers(WithinTest):
         status, out, lines = self.run_within()
         self.assertEqual((status, out, lines), (7, "", ["uc-within: the report: budget spent, where the status is 0"]))
         self.assert_left("")
+
+
+class Ways(WithinTest):
+    """With exact units and without them."""
+
+    def put_ramps(self, part: float) -> None:
+        """Ramps of a part of each unit's greatest output."""
+        value = json.loads((HERE.parent / "examples/kazarlis10.json").read_text())
+        for unit in value["thermal_generators"].values():
+            unit["ramp_up_limit"] = part * unit["power_output_maximum"]
+        self.case.write_text(json.dumps(value))
+
+    def test_ramps_decide_whether_both_are_tried(self) -> None:
+        self.assertFalse(trials.has_tight_ramps(str(self.case)))
+        for part, is_tight in ((0.3, True), (0.5, True), (0.7, False), (1, False)):
+            self.put_ramps(part)
+            self.assertEqual(trials.has_tight_ramps(str(self.case)), is_tight, part)
+
+    def test_the_better_is_kept_and_goes_first(self) -> None:
+        self.put_ramps(0.5)
+        spent = [(SPENT.format(110 - n, 100), "exit 1") for n in range(10)]
+        self.play(spent[3], spent[4], spent[7], exact=(spent[0], spent[5], spent[6]))
+        status, out, lines = self.run_within("--units", 16)
+        self.assertEqual((status, out), (1, spent[7][0]))
+        told = [line.partition(", ")[0].partition(": ")[2] + line.partition(" s")[2] for line in lines[:-1]]
+        self.assertEqual(told[:2], ["budget 1", "budget 1 with --exact-units; the one before is kept"])
+        self.assertEqual(told[2:], ["budget 4", "budget 4 with --exact-units", "budget 16 with --exact-units", "budget 16"])
+        self.assertEqual(lines[-1], "uc-within: the greatest budget is spent; the answer of budget 16 is kept")
+        self.assert_left("certificate of budget 16\n")
+
+    def test_exact_units_that_are_asked_for(self) -> None:
+        self.put_ramps(0.5)
+        self.play(exact=((CLOSED, "exit 0"),))
+        status, out, lines = self.run_within("--exact-units")
+        self.assertEqual((status, out), (0, CLOSED))
+        self.assert_lines(lines, f"budget 1 with --exact-units, cost 103.000000, bound 103.000000, gap 0 ppm{LAST_LINE}")
+        self.assert_left("certificate of budget 1exact\n")
 
 
 class Ends(WithinTest):

@@ -9,15 +9,17 @@ from schedule_view.amounts import amount_text, gap_parts
 from schedule_view.refusal import Refusal
 from schedule_view.report import Outcome, Report, read_report
 
+from .trials import Trial
+
 # what no larger budget changes
 LAST = Outcome.CLOSED, Outcome.INFEASIBLE
 
 
 @dataclass(frozen=True)
 class Answer:
-    """A whole report of the program with its bytes, and the budget of its run."""
+    """A whole report of the program with its bytes, and what run it is of."""
 
-    budget: int
+    trial: Trial
     data: bytes
     report: Report
 
@@ -28,7 +30,7 @@ class Answer:
 
     @property
     def is_last(self) -> bool:
-        """Whether a larger budget would answer the same."""
+        """Whether no other run would answer more."""
         return self.report.outcome in LAST
 
     @property
@@ -45,7 +47,7 @@ class Answer:
 
     def _parts(self) -> Iterator[str]:
         report = self.report
-        yield f"budget {self.budget}"
+        yield str(self.trial)
         if report.outcome is Outcome.INFEASIBLE:
             yield "infeasible"
             return
@@ -57,12 +59,12 @@ class Answer:
             yield f"gap {gap} ppm"
 
 
-def answer_of(budget: int, status: int, data: bytes) -> Answer:
+def answer_of(trial: Trial, status: int, data: bytes) -> Answer:
     """The answer of a run that ended with this status. Refused where its report says otherwise."""
     report = read_report("the report", data, takes_parts=True)
     if STATUS_OF.get(report.outcome) != status:
         raise Refusal(report.path, "", f"{report.outcome.value}, where the status is {status}")
-    return Answer(budget, data, report)
+    return Answer(trial, data, report)
 
 
 def is_to_be_kept(answer: Answer, before: Optional[Answer]) -> bool:

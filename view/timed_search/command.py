@@ -7,6 +7,7 @@ import os
 import pathlib
 import sys
 import time
+from functools import cached_property
 from typing import Iterator, List, NoReturn, Optional
 
 from instance_table.rows import STATUS_OF
@@ -19,14 +20,15 @@ from schedule_view.refusal import Refusal, printable
 
 from .answer import Answer, answer_of, is_to_be_kept
 from .run import Task, TimeIsOver, run_until
+from .trials import Trial, budgets, has_tight_ramps
 
-FACTOR = 4
 MOST_SECONDS = 10**7
 # statuses besides those of answers: no run was whole in time, or when it was stopped; faulty words; files; no program
 TOO_SHORT, STOPPED, WORDS, FILES, NO_PROGRAM = 124, 130, 5, 7, 70
-ABOUT = """Runs `uc solve` with the budgets 1, 4, 16 and so on, for so many seconds. After each run a line on the error output tells budget, cost,
-bound, gap and the seconds since the beginning, and the certificate takes its place. At the end, which comes with a closed answer, with the
-time or with a signal to stop, the report of the best run is printed, and its status is the status."""
+ABOUT = """Runs `uc solve` with the budgets 1, 4, 16 and so on, for so many seconds. Where `uc-look` says that --exact-units is worth trying, each
+budget is run without it and with it. After each run a line on the error output tells budget, cost, bound, gap and the seconds since the
+beginning, and the certificate of the best run takes its place. At the end, which comes with a closed answer, with the time or with a signal to
+stop, the report of the best run is printed, and its status is the status."""
 
 
 class Words(argparse.ArgumentParser):
@@ -71,15 +73,6 @@ def _seconds(text: str) -> float:
     if not (whole + decimals).isdigit() or not text.isascii() or not 0 < float(text) <= MOST_SECONDS:
         raise argparse.ArgumentTypeError(f"{text} is no number of seconds")
     return float(text)
-
-
-def _budgets(most: int) -> Iterator[int]:
-    """1, 4, 16 and so on, and last the greatest one."""
-    budget = 1
-    while budget < most:
-        yield budget
-        budget *= FACTOR
-    yield most
 
 
 def _run(given: argparse.Namespace, program: str) -> int:
@@ -130,33 +123,47 @@ class Search:
         if self.kept is None:
             _tell(f"{why}; there is no answer")
         elif not self.kept.is_last:
-            _tell(f"{why}; the answer of budget {self.kept.budget} is kept")
+            _tell(f"{why}; the answer of {self.kept.trial} is kept")
 
     def _run_all(self) -> str:
         """Why it ends, where it does so by itself."""
-        for budget in _budgets(self._given.units):
-            if not self._run(budget):
+        for trial in self._trials():
+            if not self._run(trial):
                 return "the program failed"
             if self.kept is not None and self.kept.is_last:
                 return "closed"
         return "the greatest budget is spent"
 
-    def _run(self, budget: int) -> bool:
-        """Runs a budget and keeps its answer; whether there is one. The cause of a fault is told."""
+    def _trials(self) -> Iterator[Trial]:
+        """Each budget. Where both ways are tried, that of the best answer goes first, as the time may end before the other one."""
+        for budget in budgets(self._given.units):
+            is_exact = self.kept.trial.is_exact if self.kept else self._given.exact_units
+            yield Trial(budget, is_exact)
+            if self._tries_both:
+                yield Trial(budget, not is_exact)
+
+    @cached_property
+    def _tries_both(self) -> bool:
+        """Whether budgets are run with `--exact-units` and without it; asked after the first run, which may end the search at once."""
+        return not self._given.exact_units and has_tight_ramps(self._given.instance)
+
+    def _run(self, trial: Trial) -> bool:
+        """Runs a trial and keeps its answer; whether there is one. The cause of a fault is told."""
         folder = pathlib.Path(self._draft.path).parent
-        task = Task(self._words(budget), folder / "report", folder / "errors")
+        task = Task(self._words(trial), folder / "report", folder / "errors")
         status = run_until(task, self._began + self._given.seconds)
         if status in STATUS_OF.values():
-            self._keep(answer_of(budget, status, read_file(str(task.report))))
+            self._keep(answer_of(trial, status, read_file(str(task.report))))
             return True
         told = last_line(read_file(str(task.errors)))
         what = f"signal {-status}" if status < 0 else f"status {status}"
-        _tell(f"budget {budget}: {what}{': ' + told if told else ''}")
+        _tell(f"{trial}: {what}{': ' + told if told else ''}")
         self._status = status if status > 0 else 128 - status
         return False
 
-    def _words(self, budget: int) -> List[str]:
-        options = [f"--cert={self._draft.path}", f"--units={budget}", *search_options(self._given)]
+    def _words(self, trial: Trial) -> List[str]:
+        given = argparse.Namespace(**{**vars(self._given), "exact_units": trial.is_exact})
+        options = [f"--cert={self._draft.path}", f"--units={trial.budget}", *search_options(given)]
         return [self._program, "solve", *options, "--", self._given.instance]
 
     def _keep(self, answer: Answer) -> None:
