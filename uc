@@ -19,7 +19,7 @@ weights='uc_model 72 dual_model 48 outside 66 outside_system 132 decimal_json 14
   cert_text 366 report 180 cost_curves 72 start_costs 30 period_term 84 ramp_duals 36 system_value 84 interval_graph 36
   step_functions 114 hull_function 24 unit_path 84 unit_runs 18 unit_exact 144 dispatch_repair 228 dual_value 96
   quick_value 258 pivot_run 144 fractions 20 dispatch_program 16 dispatch_rules 28 dispatch_prices 74
-  dispatch_table 240 dispatch_schedule 86 pivot_dispatch 56 found_schedule 24 decided_nodes 44 opening_tables 60
+  dispatch_table 240 dispatch_schedule 86 pivot_dispatch 56 found_schedule 24 decided_nodes 44 pivot_closing 24 opening_tables 60
   uplift 144 bundle 168 prices 216 repair_state 192 schedule_repair 228 roll 114
   branch_tree 78 incumbent 42 steal_pool 96 search_core 156 claims 42 book 150 decommitment 270 opening 138
   search_desk 110 node_visits 110 closing_pass 100 tree_search 300 search_answers 90 workers 130

@@ -401,12 +401,12 @@ impl Bundle {
         cut.error.saturating_add(self.change(&cut.slopes, stopped))
     }
 
-    /// The stride.
+    /// The stride, in parts of `PART`.
     pub fn stride(&self) -> i64 {
         self.stride
     }
 
-    /// Takes this stride, within its limits.
+    /// Takes this stride, in parts of `PART`, within its limits.
     pub fn set_stride(&mut self, stride: i64) {
         self.stride = within(i128::from(stride), LONGEST).max(1);
     }

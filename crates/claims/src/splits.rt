@@ -63,7 +63,7 @@ fn undecided(path: &Node, cell: Option<(u32, u32)>) -> Option<(u32, u32)> {
     }
 }
 
-// The cell that the shares of the ascent divide most; late it may be one that they divide hardly at all, and then any one.
+// The cell that the shares of the ascent divide most; late it may be one that they divide hardly at all, and at last the first undecided one.
 fn divided(instance: &Instance, path: &Node, shares: &[i64], late: bool) -> Option<(u32, u32)>
     requires { IsLawfulInstance instance.now }
     ensures { late ≡ true → result ≡ None → DecidesEach instance.now path.now }

@@ -122,7 +122,7 @@ impl Settling<'_> {
         Ok(used)
     }
 
-    // What the node is evaluated at: the table of an exact dispatch, where there is one, or else one that isn't.
+    // What the node is evaluated at: the table of an exact dispatch, where there is one, or else the one that it stores or an ascent's.
     fn trial<C: Run>(
         &self,
         alloc: Global,

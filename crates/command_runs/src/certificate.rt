@@ -44,7 +44,7 @@ fn certificate_of(alloc: Global, bytes: &[u8]) -> Result<Cert, Fault>
     }
 }
 
-/// The certificate in the file of this name.
+/// The certificate in the file of this name. An error tells why there is none: the file, its length, the first line at fault, or memory.
 pub fn read_certificate<F: Files>(alloc: Global, files: &mut F, name: &str) -> Result<Cert, Fault>
     requires { (F.state files.old Slot.CertIn).stage ≡ Unopened }
     ensures text { IfOk result (HasCertificateText (F.state files.old Slot.CertIn)) }

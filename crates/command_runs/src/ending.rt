@@ -1,8 +1,7 @@
 //! How a run ends.
 
-ghost use Rattle.command_runs.specs.Ending.{IsEndOf};
+ghost use Rattle.command_runs.specs.Ending.{IsEndOf, IsReportEnd};
 ghost use Rattle.command_runs.specs.Writing.{TellsFault};
-ghost use Rattle.command_runs.specs.Ending.{IsReportEnd};
 
 use branch_tree::Found;
 use outside::{Failed, Sink};

@@ -11,7 +11,7 @@ use branch_tree::Found;
 use outside::{Failed, Files, Slot, SlotWriter};
 use uc_model::Instance;
 
-/// Writes the certificate to its slot, and finishes it.
+/// Writes the certificate to its slot, and finishes it. The only error is `Failed`, of the file.
 pub fn save<F: Files>(
     files: &mut F,
     name: &str,

@@ -8,7 +8,8 @@ ghost use Rattle.decided_nodes.specs.Decided.{DecidesBelow, DecidesEach, IsFreeB
 use dual_model::Node;
 use uc_model::Instance;
 
-/// A cell of the instance that the node leaves undecided, its thermal unit and its period, each from 0; none exactly where it decides each.
+/// The first cell of the instance that the node leaves undecided, its thermal unit and its period, each from 0; none exactly where it decides
+/// each.
 pub fn free_cell(instance: &Instance, node: &Node) -> Option<(u32, u32)>
     requires { IsLawfulInstance instance.now }
     ensures { MatchOption result (DecidesEach instance.now node.now) (IsFreeCell instance.now node.now) }

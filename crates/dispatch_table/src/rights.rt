@@ -70,11 +70,11 @@ fn stop_cap(given: &Given, g: usize, t: u32) -> i64
     ensures { result ≡ stop_cap_of (thermal_unit given.now.instance.now g) (commitment_at given.now.patterns.now g) t }
 {
     let on = given.is_on(g, t);
-    let is_followed = stops_behind(given, g, t);
-    given.unit(g).stop_cap(on, is_followed)
+    let stops = stops_behind(given, g, t);
+    given.unit(g).stop_cap(on, stops)
 }
 
-// Whether a unit stops behind a period.
+// Whether a unit that is on in a period is off in the next one.
 fn stops_behind(given: &Given, g: usize, t: u32) -> bool
     requires given { IsGiven given.now }
     requires unit { g < thermal_count given.now.instance.now }

@@ -15,8 +15,8 @@ const MOST_NUMBERS: usize = 1 << 22;
 /// With more cells it keeps none.
 const MOST_CELLS: usize = 8000;
 
-/// A cut: what lacks of what each price is of, in watts, what it comes to where all prices are 0, and which unit is on in which period, unit by
-/// unit.
+/// A cut: by how many watts each priced need falls short of what is given, the value that the cut has where all prices are 0, and which unit is
+/// on in which period, unit by unit.
 #[derive(Drop)]
 struct Kept {
     lacks: Vec<i64>,
@@ -71,7 +71,7 @@ impl CutPool {
         self.most > 0 && cells_of(instance) <= MOST_CELLS
     }
 
-    /// Lends from now on what a node of the instance leaves. The only error is `NoMemory`.
+    /// Takes the decisions of a node of the instance: from now on only cuts that keep them are lent. The only error is `NoMemory`.
     pub(crate) fn turn_to(&mut self, instance: &Instance, node: &Node) -> Result<(), NoMemory> {
         self.decided.clear();
         for fixing in node.fixings.as_slice() {

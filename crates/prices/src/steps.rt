@@ -35,7 +35,7 @@ const FREE_NODE_EVALUATIONS: u32 = 180;
 /// The ramps of few units can bind where it is at most one of so many.
 const FEW_RAMPED: usize = 4;
 
-/// The most at a node but the root where the ascent begins with the cuts of earlier ones, those there where there are few cells and no ramps
+/// The most at a node but the root where the pool keeps the cuts of earlier ascents, those there where there are few cells and no ramps
 /// that have prices, and those where prices differ much: over many periods, or where renewable units may meet half of the demand.
 const LENT_EVALUATIONS: u32 = 75;
 
@@ -93,7 +93,7 @@ fn evaluations_of(instance: &Instance, is_root: bool) -> u32 {
     }
 }
 
-// The most of one that begins with the cuts of others.
+// The most of one at a node but the root, with a pool that keeps cuts.
 fn lent_evaluations(instance: &Instance) -> u32 {
     if is_cheap(instance) {
         FEW_LENT_EVALUATIONS
