@@ -23,9 +23,9 @@ const PART: i64 = 1 << 16;
 const LONGEST: i64 = 1 << 40;
 
 /// How often the prices that stay at 0 are found anew, and how often weight is moved then.
-const PASSES: u32 = 4;
+const PASSES: u32 = 6;
 
-const SHIFTS: u32 = 60;
+const SHIFTS: u32 = 40;
 
 /// A cut of less weight may be given up.
 const LIGHT: i64 = 1 << 14;

@@ -10,26 +10,18 @@ ghost use Rattle.search_desk.specs.Best.{IsNoWorse, cost_of};
 ghost use Rattle.search_desk.specs.Dispatches.{IsExhaustiveFor, IsPivotedBook};
 ghost use Rattle.closing_pass.specs.Closings.{IsEnded, IsLeft, is_finished};
 
+use crate::host::Host;
 use crate::settling::{Held, Settling};
 use book::{Book, Claimed};
 use decided_nodes::Pivoting;
 use outside::Gate;
 use search_core::laws::tree_runs_hold;
 use search_desk::{Run, cheaper, is_closed};
-use std::alloc::Global;
 use std::sync::Wait;
 use uc_model::{Instance, NoMemory, Printed};
 
 /// The caller, as a worker.
 const CALLER: u8 = 0;
-
-/// What a search runs on: the runtime of its threads, memory, and the gate that each claim enters.
-#[derive(Drop)]
-pub struct Host<'a, R: Wait, G: Gate> {
-    pub rt: &'a R,
-    pub alloc: Global,
-    pub gate: &'a G,
-}
 
 /// The book, and the best schedule so far with its cost in micro-dollars.
 #[derive(Drop)]

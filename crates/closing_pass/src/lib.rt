@@ -2,6 +2,8 @@
 #![tactic(auto)]
 
 mod closing;
+mod host;
 mod settling;
 
-pub use closing::{Closing, Host, Progress, close};
+pub use closing::{Closing, Progress, close};
+pub use host::Host;

@@ -5,10 +5,10 @@
 
 use crate::amounts::{HARDLY, NEVER, amount_at, put};
 use crate::decisions::Choice;
-use crate::starts::Warm;
 use crate::unit::Unit;
 use std::alloc::Global;
 use uc_model::NoMemory;
+use uc_model::limits::MAX_START_ROWS;
 
 /// An amount, and in which period the run or the rest before began; `None` is the initial state.
 #[derive(Clone, Copy)]
@@ -33,13 +33,26 @@ pub(crate) enum Stand {
 }
 
 /// The least way that ends in a rest from each period on, the last one being that to the end; the least way into a run from each period
-/// on; and how the unit stands in each period on the least way of all.
+/// on; how the unit stands in each period on the least way of all; and for each warm start the least late rest.
 #[derive(Drop)]
 pub(crate) struct Ways {
     rests: Vec<Way>,
     starts: Vec<Way>,
     pub stands: Vec<Stand>,
+    late: Vec<Late>,
 }
+
+// Since when the least of the rests lasts that are late enough for a warm start, and behind which period those begin that weren't looked at.
+#[derive(Clone, Copy)]
+struct Late {
+    least: usize,
+    behind: usize,
+}
+
+const UNSEEN: Late = Late {
+    least: 0,
+    behind: 0,
+};
 
 /// The rests that go on: since when no period forbids one, whether the initial one does, and the least that has lasted the minimum time.
 #[derive(Clone, Copy)]
@@ -56,6 +69,7 @@ impl Ways {
             rests: vec![in alloc; NO_WAY; periods.saturating_add(1)]?,
             starts: vec![in alloc; NO_WAY; periods]?,
             stands: vec![in alloc; Stand::Off; periods]?,
+            late: vec![in alloc; UNSEEN; MAX_START_ROWS]?,
         })
     }
 
@@ -74,6 +88,7 @@ impl Ways {
             NO_WAY
         };
         put(&mut self.rests, 0, rest);
+        self.late.fill(UNSEEN);
         Resting {
             since: 0,
             first: !unit.was_on,
@@ -124,45 +139,66 @@ impl Ways {
                 since: resting.least.since,
             };
         }
-        for warm in &unit.starts.warm {
+        for i in 0..unit.starts.warm.len().min(self.late.len()) {
+            let warm = unit.starts.warm[i];
             if t >= warm.from && warm.cost < always {
-                self.start_warm(&mut way, unit, resting, warm, t);
+                let since = self.warm_since(i, unit, resting, t);
+                self.start_behind(&mut way, warm.cost, since);
             }
         }
         put(&mut self.starts, t, way);
         way.amount
     }
 
-    // The same as a warm start: behind the least rest of all, if it began late enough, or else behind one that did.
-    fn start_warm(&self, way: &mut Way, unit: &Unit, resting: &Resting, warm: &Warm, t: usize) {
-        let amount = resting.least.amount.saturating_add(warm.cost);
-        if amount >= way.amount {
-            return;
-        }
+    // Since when the least rest lasts that is late enough for warm start i in period t: the least of all, if it is, or else the least of those
+    // that are.
+    fn warm_since(&mut self, i: usize, unit: &Unit, resting: &Resting, t: usize) -> Option<usize> {
+        let warm = unit.starts.warm.get(i)?;
         let first = t.saturating_sub(warm.longest);
         if resting.least.since >= Some(first) {
+            return resting.least.since;
+        }
+        let behind = t.saturating_add(1).saturating_sub(unit.down_time);
+        self.least_late(i, first.max(resting.since), behind)
+    }
+
+    // A way into a run behind the rest since then, at this cost of the start, where it is less.
+    fn start_behind(&self, way: &mut Way, cost: i64, since: Option<usize>) {
+        let Some(since) = since else {
+            return;
+        };
+        let amount = self.rest_at(since).amount.saturating_add(cost);
+        if amount < way.amount {
             *way = Way {
                 amount,
-                since: resting.least.since,
+                since: Some(since),
             };
-        } else {
-            let first = first.max(resting.since);
-            let behind = t.saturating_add(1).saturating_sub(unit.down_time);
-            self.start_behind(way, warm.cost, first, behind);
         }
     }
 
-    // The same behind a rest that began in one of some periods, at this cost of the start.
-    fn start_behind(&self, way: &mut Way, cost: i64, first: usize, behind: usize) {
-        for since in first..behind {
-            let amount = self.rest_at(since).amount.saturating_add(cost);
-            if amount < way.amount {
-                *way = Way {
-                    amount,
-                    since: Some(since),
-                };
+    // Since when the least of the rests lasts that begin in some periods. It goes on from what is known of warm start i, unless that began too early.
+    fn least_late(&mut self, i: usize, first: usize, behind: usize) -> Option<usize> {
+        if first >= behind {
+            return None;
+        }
+        let late = match self.late.get(i) {
+            Some(late) if late.least >= first => *late,
+            _ => Late {
+                least: first,
+                behind: first,
+            },
+        };
+        let mut least = late.least;
+        let mut amount = self.rest_at(least).amount;
+        for since in late.behind..behind {
+            let own = self.rest_at(since).amount;
+            if own < amount {
+                least = since;
+                amount = own;
             }
         }
+        put(&mut self.late, i, Late { least, behind });
+        Some(least)
     }
 
     /// The amount of the least way into a run from period t on.

@@ -1,17 +1,13 @@
 -- What a worker knows of a node that it holds.
 use Rattle.std.proofs.Common.{◌≡◌, ◌≢◌, ◌∙◌, ⊎_elim, ◌⊎◌, ℕ, suc, ◌<◌, ◌≤◌, false, true, All, List, [], ◌∷◌, ◌++◌, length, ap, sym, subst, arith, ℤ, Some, refl, length-append, slice_get}
 use Rattle.std.proofs.lemmas.List.{nil_from_length}
-use Rattle.std.proofs.lemmas.List.Elements.{All-nil, All-cons, All-append}
 use Rattle.std.proofs.lemmas.Option.{get_or_from_slice_get, slice_get_within}
-use Rattle.dual_model.specs.Fixings.{IsCell, IsNodeOf}
+use Rattle.dual_model.specs.Fixings.{IsNodeOf}
 use Rattle.dual_model.specs.Prices.{IsLawfulTable}
-use Rattle.dual_model.specs.Tree.{root, child, IsCoverBelow}
-use Rattle.dual_model.specs.declared.node.Fixing.{Fixing}
 use Rattle.dual_model.specs.declared.node.Node.{Node}
-use Rattle.branch_tree.specs.NumberedTree.{node_count, NumberedTree, EndAt, SplitAt, Subtree, unnumbered, subtree_below, subtree_at}
+use Rattle.branch_tree.specs.NumberedTree.{node_count}
 use Rattle.branch_tree.specs.StoredTree.{IsNodeAt}
-use Rattle.branch_tree.proofs.Changes.{from_some}
-use Rattle.branch_tree.proofs.Subtrees.{IsHere, leaf_case, subtree_cases}
+use Rattle.pivot_closing.proofs.Decided.{node_cells}
 use Rattle.book.specs.BookView.{BookView, state_of}
 use Rattle.book.specs.Calls.{IsClaimAnswer, IsHeldUnit, IsStoredAt, IsUnitHeld, claimed}
 use Rattle.book.specs.Claims.{holders}
@@ -30,31 +26,10 @@ use Rattle.search_core.proofs.Claims.{holdable}
 use Rattle.book.specs.Running.{IsRunning}
 use Rattle.search_desk.specs.Desks.{Instance, Table, IsLaterWithin, IsScaledWithin}
 
--- a node of a cover is a node of the instance
-below_node_of : (instance : Instance) (here : Node) (tree : NumberedTree) (wanted : ℕ) (part : Subtree) → IsNodeOf instance here
-    → IsCoverBelow instance here (unnumbered tree) → subtree_below here tree wanted ≡ Some part → IsNodeOf instance part.node
-below_node_of instance here (EndAt number l) wanted part is cover e =
-    let h = leaf_case here number l wanted part e in
-    subst (IsNodeOf instance) (sym (ap (λ (p : Subtree). p.node) h.whole)) is
-below_node_of instance here (SplitAt number g t off on) wanted part is cover e =
-    let cell : (b : _) → IsNodeOf instance (child here g t b) = λ b.
-    All-append (λ (fixing : Fixing). IsCell instance fixing.g fixing.t) here.fixings ((record { g = g; t = t; on = b }) ∷ []) is
-    (All-cons (λ (fixing : Fixing). IsCell instance fixing.g fixing.t) (record { g = g; t = t; on = b }) [] cover.0 (All-nil (λ (fixing : Fixing). IsCell instance fixing.g fixing.t))) in
-    ⊎_elim
-    (λ (h : IsHere here (SplitAt number g t off on) wanted part). subst (IsNodeOf instance) (sym (ap (λ (p : Subtree). p.node) h.whole)) is)
-    (λ (sides : (subtree_below (child here g t false) off wanted ≡ Some part) ⊎ (subtree_below (child here g t true) on wanted ≡ Some part)). ⊎_elim
-    (λ (l : subtree_below (child here g t false) off wanted ≡ Some part). below_node_of instance (child here g t false) off wanted part (cell false) cover.2 l)
-    (λ (r : subtree_below (child here g t true) on wanted ≡ Some part). below_node_of instance (child here g t true) on wanted part (cell true) cover.3 r)
-    sides)
-    (subtree_cases here number g t off on wanted part e)
-
+-- a node of the book's tree is a node of the instance
 pub node_of : (opening : Opening) (book : BookView) (number : ℕ) (node : Node) → IsRunning opening book → IsNodeAt book.tree number node
     → IsNodeOf opening.instance node
-node_of opening book number node running at =
-    let part = from_some (λ (p : Subtree). p.node) (subtree_at book.tree.nodes number) node at in
-    subst (IsNodeOf opening.instance) part.2
-    (below_node_of opening.instance root book.tree.nodes number part.0 (All-nil (λ (fixing : Fixing). IsCell opening.instance fixing.g fixing.t))
-    running.tree.cover part.1)
+node_of opening book number node running at = node_cells opening.instance book.tree.nodes number node running.tree.cover at
 
 -- an item of a list of which each is so
 pub listed : {A : Type 0} (P : A → Type 0) (xs : List A) (place : ℕ) (x : A) → All P xs → slice_get xs place ≡ Some x → P x
