@@ -141,7 +141,7 @@ impl Ways {
         }
         for i in 0..unit.starts.warm.len().min(self.late.len()) {
             let warm = unit.starts.warm[i];
-            if t >= warm.from && warm.cost < always {
+            if t >= warm.from && resting.least.amount.saturating_add(warm.cost) < way.amount {
                 let since = self.warm_since(i, unit, resting, t);
                 self.start_behind(&mut way, warm.cost, since);
             }
