@@ -27,6 +27,9 @@ const PASSES: u32 = 6;
 
 const SHIFTS: u32 = 40;
 
+/// Ends that are apart by this part of the bound are near.
+const NEAR: i128 = 10_000_000;
+
 /// A cut of less weight may be given up.
 const LIGHT: i64 = 1 << 14;
 
@@ -87,6 +90,87 @@ struct Ends {
     least: i128,
     high: usize,
     most: i128,
+}
+
+impl Ends {
+    // The ends of no cuts.
+    fn none() -> Ends {
+        Ends {
+            low: 0,
+            least: i128::MAX,
+            high: 0,
+            most: i128::MIN,
+        }
+    }
+
+    // The ends by these heights and weights.
+    fn of(heights: &[i128], weights: &[i64]) -> Ends {
+        let mut ends = Ends::none();
+        for (k, (height, weight)) in heights.iter().zip(weights).enumerate() {
+            ends.see(k, *height, *weight);
+        }
+        ends
+    }
+
+    // Takes cut k into account.
+    fn see(&mut self, k: usize, height: i128, weight: i64) {
+        if height < self.least {
+            self.low = k;
+            self.least = height;
+        }
+        if weight > 0 && height > self.most {
+            self.high = k;
+            self.most = height;
+        }
+    }
+
+    // How far they are apart.
+    fn apart(&self) -> i128 {
+        self.most.saturating_sub(self.least)
+    }
+
+    // Whether they are one, or as near as makes no odds where the bound is of this size.
+    fn are_near(&self, size: i128) -> bool {
+        self.low == self.high || self.apart() <= size / NEAR
+    }
+}
+
+// A shift of weight from the highest cut to the lowest one, over such a reach.
+#[derive(Clone, Copy)]
+struct Shift {
+    low: usize,
+    high: usize,
+    amount: i64,
+    reach: i64,
+}
+
+impl Shift {
+    // Moves the weight.
+    fn take(self, weights: &mut [i64]) {
+        if let Some(weight) = weights.get_mut(self.high) {
+            *weight = weight.saturating_sub(self.amount);
+        }
+        if let Some(weight) = weights.get_mut(self.low) {
+            *weight = weight.saturating_add(self.amount);
+        }
+    }
+
+    // By how much a cut rises whose products with the two are these. Nothing here comes near the ends of its type.
+    fn rise(self, low: i64, high: i64) -> i128 {
+        let change = times(low.wrapping_sub(high), self.amount) / i128::from(WHOLE);
+        change.wrapping_mul(i128::from(self.reach)) / i128::from(PART)
+    }
+}
+
+// The weighted mean of a cut's products with all cuts.
+fn mean_product(row: &[i64], weights: &[i64]) -> i64 {
+    let mut sum: i128 = 0;
+    for (product, weight) in row.iter().zip(weights) {
+        if *weight != 0 {
+            sum = sum.wrapping_add(times(*product, *weight));
+        }
+    }
+    word(sum / i128::from(WHOLE))
 }
 
 impl Bundle {
@@ -260,21 +344,30 @@ impl Bundle {
         let mut stopped = Vec::new(alloc);
         self.part(field, moves, &mut active, &mut stopped)?;
         self.products.count(alloc, &self.cuts, active)?;
-        let mut heights = self.heights(alloc, &stopped, reach)?;
-        let enough = size / 10_000_000;
+        let mut weights = self.weights(alloc)?;
+        let mut heights = self.heights(alloc, &weights, &stopped, reach)?;
+        let mut ends = Ends::of(&heights, &weights);
         for _ in 0..SHIFTS {
-            let ends = self.ends(&heights);
-            let apart = ends.most.saturating_sub(ends.least);
-            if ends.low == ends.high || apart <= enough {
+            let shift = self.shift(&ends, &weights, reach);
+            if ends.are_near(size) || shift.amount == 0 {
                 break;
             }
-            let amount = self.amount(&ends, apart, reach);
-            if amount == 0 {
-                break;
-            }
-            self.shift(&mut heights, &ends, amount, reach);
+            shift.take(&mut weights);
+            ends = self.shifted(&mut heights, &weights, shift);
+        }
+        for (cut, weight) in self.cuts.iter_mut().zip(&weights) {
+            cut.weight = *weight;
         }
         Ok(())
+    }
+
+    // The weights of the cuts.
+    fn weights(&self, alloc: Global) -> Result<Vec<i64>, NoMemory> {
+        let mut weights = Vec::with_capacity(alloc, self.cuts.len())?;
+        for cut in &self.cuts {
+            weights.push(cut.weight)?;
+        }
+        Ok(weights)
     }
 
     // Parts a field's prices by their moves: the places of those that end neither at 0, where they may not be below it, nor at their caps;
@@ -301,13 +394,14 @@ impl Bundle {
     fn heights(
         &self,
         alloc: Global,
+        weights: &[i64],
         stopped: &[(usize, i64)],
         reach: i64,
     ) -> Result<Vec<i128>, NoMemory> {
-        let mut heights = Vec::new(alloc);
+        let mut heights = Vec::with_capacity(alloc, self.cuts.len())?;
         for (cut, row) in self.cuts.iter().zip(&self.products.rows) {
             let fixed = self.fixed(cut, stopped);
-            heights.push(fixed.saturating_add(along(self.mean_product(row), reach)))?;
+            heights.push(fixed.saturating_add(along(mean_product(row, weights), reach)))?;
         }
         Ok(heights)
     }
@@ -330,70 +424,37 @@ impl Bundle {
         (first == 0) != (second == 0) || (first == cap) != (second == cap)
     }
 
-    // The ends by these heights.
-    fn ends(&self, heights: &[i128]) -> Ends {
-        let mut ends = Ends {
-            low: 0,
-            least: i128::MAX,
-            high: 0,
-            most: i128::MIN,
-        };
-        for (k, (cut, height)) in self.cuts.iter().zip(heights).enumerate() {
-            if *height < ends.least {
-                ends.low = k;
-                ends.least = *height;
-            }
-            if cut.weight > 0 && *height > ends.most {
-                ends.high = k;
-                ends.most = *height;
-            }
-        }
-        ends
-    }
-
-    // The weighted mean of a cut's products with all cuts.
-    fn mean_product(&self, row: &[i64]) -> i64 {
-        let mut sum: i128 = 0;
-        for (product, cut) in row.iter().zip(&self.cuts) {
-            sum = sum.saturating_add(times(*product, cut.weight));
-        }
-        word(sum / i128::from(WHOLE))
-    }
-
-    // How much weight moves between the ends, which are so far apart.
-    fn amount(&self, ends: &Ends, apart: i128, reach: i64) -> i64 {
-        let between = self.products.of(ends.low, ends.high).saturating_mul(2);
+    // The shift of weight between the ends that brings them to one height.
+    fn shift(&self, ends: &Ends, weights: &[i64], reach: i64) -> Shift {
+        let (low, high) = (ends.low, ends.high);
+        let between = self.products.of(low, high).saturating_mul(2);
         let bend = self
             .products
-            .of(ends.low, ends.low)
-            .saturating_add(self.products.of(ends.high, ends.high))
+            .of(low, low)
+            .saturating_add(self.products.of(high, high))
             .saturating_sub(between);
-        let whole = apart.saturating_mul(i128::from(WHOLE)) / along(bend, reach).max(1);
-        let most = match self.cuts.get(ends.high) {
-            Some(cut) => cut.weight,
-            None => 0,
-        };
-        within(whole, most.max(0)).max(0)
+        let apart = ends.apart().saturating_mul(i128::from(WHOLE));
+        let most = at(weights, high).max(0);
+        let amount = within(apart / along(bend, reach).max(1), most).max(0);
+        Shift {
+            low,
+            high,
+            amount,
+            reach,
+        }
     }
 
-    // Moves so much weight from the highest cut to the lowest one.
-    fn shift(&mut self, heights: &mut [i128], ends: &Ends, amount: i64, reach: i64) {
-        if let Some(cut) = self.cuts.get_mut(ends.high) {
-            cut.weight = cut.weight.saturating_sub(amount);
+    // Moves the heights by a shift, after which these are the weights, and finds the ends anew.
+    fn shifted(&self, heights: &mut [i128], weights: &[i64], shift: Shift) -> Ends {
+        let mut ends = Ends::none();
+        let products = self.products.row(shift.low).iter();
+        let products = products.zip(self.products.row(shift.high));
+        let heights = heights.iter_mut().zip(weights).enumerate();
+        for ((k, (height, weight)), (low, high)) in heights.zip(products) {
+            *height = height.wrapping_add(shift.rise(*low, *high));
+            ends.see(k, *height, *weight);
         }
-        if let Some(cut) = self.cuts.get_mut(ends.low) {
-            cut.weight = cut.weight.saturating_add(amount);
-        }
-        let products = self
-            .products
-            .row(ends.low)
-            .iter()
-            .zip(self.products.row(ends.high));
-        for (height, (low, high)) in heights.iter_mut().zip(products) {
-            let change = times(low.saturating_sub(*high), amount);
-            let moved = along(word(change / i128::from(WHOLE)), reach);
-            *height = height.saturating_add(moved);
-        }
+        ends
     }
 
     // The error of a cut after the moves of the prices that end at 0.
