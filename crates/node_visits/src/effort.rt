@@ -1,11 +1,11 @@
-//! How far a repair goes, and at which bound a node is pruned.
+//! Which ascents are repaired and how far, and at which bound a node is pruned.
 
 ghost use Rattle.std.specs.Prelude.{◌≤◌};
 ghost use Rattle.uc_model.specs.Limits.{IsLawfulInstance};
 ghost use Rattle.uc_model.specs.declared.tolerance.TheConstants.{WHOLE_GAP};
 
-use uc_model::Instance;
 use uc_model::tolerance::{WHOLE_GAP, tolerance};
+use uc_model::{Instance, Printed};
 
 /// The moves of the first repair for each unit: enough for the passes of each threshold.
 const FIRST_MOVES_EACH: u32 = 60;
@@ -18,6 +18,11 @@ const KICKED_UNITS: u32 = 100;
 /// The moves of each later repair for each unit: enough for a descent from one threshold, and some kicks of the best state.
 const LATER_MOVES_EACH: u32 = 25;
 
+/// After so many ascents without a cheaper schedule, or more in a large system, one of so many is repaired.
+const IDLE_ASCENTS: usize = 100;
+
+const SPARSE: usize = 4;
+
 /// By this part of the cost what an ascent takes the bound for may be too high: a margin that was chosen, of which nothing is proved.
 const ERRORS: u64 = 1 << 21;
 
@@ -26,6 +31,42 @@ const ERRORS: u64 = 1 << 21;
 pub struct Effort {
     pub moves: u32,
     pub enough: i64,
+}
+
+/// The least cost that a worker's repairs have found, in micro-dollars, and how many ascents it was to repair since.
+#[derive(Clone, Copy)]
+pub(crate) struct Idle {
+    least: i64,
+    ascents: usize,
+}
+
+impl Idle {
+    /// Nothing was found yet.
+    pub(crate) fn new() -> Idle {
+        Idle {
+            least: i64::MAX,
+            ascents: 0,
+        }
+    }
+
+    /// Whether the next ascent is to be repaired: not each one is after a hundred, nor after more than there are units or periods, since the
+    /// larger a system is, the longer its schedules come out cheaper.
+    pub(crate) fn is_due(&mut self, instance: &Instance) -> bool {
+        self.ascents = self.ascents.saturating_add(1);
+        let units = instance.thermal.as_slice().len();
+        let few = units.max(instance.periods as usize);
+        self.ascents <= few.max(IDLE_ASCENTS) || self.ascents % SPARSE == 0
+    }
+
+    /// Takes what a repair has found into account.
+    pub(crate) fn take(&mut self, found: &Option<(Printed, i64)>) {
+        if let Some((_, cost)) = found {
+            if *cost < self.least {
+                self.least = *cost;
+                self.ascents = 0;
+            }
+        }
+    }
 }
 
 /// How many moves the repair has at the claim of this unit.

@@ -9,7 +9,7 @@ ghost use Rattle.schedule_check.specs.Accepted.{IsAcceptedIfFound};
 ghost use Rattle.opening.specs.Blocked.{HasNoBlockedUnit};
 ghost use Rattle.opening.specs.Rays.{HasNoRay, IsFirstRay};
 
-use crate::effort::Effort;
+use crate::effort::{Effort, Idle};
 use crate::pair::beside;
 use opening::{Evaluator, excluding_ray};
 use prices::{Ascent, CutPool, Values};
@@ -18,14 +18,15 @@ use std::alloc::Global;
 use std::marker::Model;
 use uc_model::{Instance, NoMemory, Printed};
 
-/// The evaluator of the instance, what its repairs share, the cuts that its ascents share, and whether these climb exact values. Contracts see the
-/// instance.
+/// The evaluator of the instance, what its repairs share, the cuts that its ascents share, whether these climb exact values, and how long
+/// no repair has found a cheaper schedule. Contracts see the instance.
 #[derive(Drop)]
 pub struct Worker<'a> {
     pub evaluator: Evaluator<'a>,
     repairs: Repair,
     pub pool: CutPool,
     exact: bool,
+    idle: Idle,
 }
 
 impl<'a> Model for Worker<'a> {
@@ -49,6 +50,7 @@ impl<'a> Worker<'a> {
             repairs,
             pool: CutPool::new(alloc),
             exact: values.exact,
+            idle: Idle::new(),
         })
     }
 
@@ -106,7 +108,8 @@ impl<'a> Worker<'a> {
         excluding_ray(alloc, &mut self.evaluator, best, exact)
     }
 
-    /// A schedule that is found near the ascent, with its cost in micro-dollars. The only error is `NoMemory`.
+    /// A schedule that is found near the ascent, with its cost in micro-dollars; none where long no ascent led to a cheaper one, but for some. The
+    /// only error is `NoMemory`.
     pub fn repair(
         &mut self,
         alloc: Global,
@@ -117,7 +120,10 @@ impl<'a> Worker<'a> {
         ensures accepted { IfOk result (IsAcceptedIfFound self.old) }
     {
         let instance = self.evaluator.instance();
-        repair(
+        if !self.idle.is_due(instance) {
+            return Ok(None);
+        }
+        let found = repair(
             alloc,
             &mut self.repairs,
             instance,
@@ -125,6 +131,8 @@ impl<'a> Worker<'a> {
             &ascent.shares,
             effort.moves,
             effort.enough,
-        )
+        )?;
+        self.idle.take(&found);
+        Ok(found)
     }
 }
