@@ -1,2 +1,4 @@
 pub mod Hulls
+pub mod Problems
+pub mod Hours
 pub mod inside

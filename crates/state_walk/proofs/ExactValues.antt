@@ -1,38 +1,16 @@
 -- What the least value by runs says of a unit of an instance.
-use Rattle.std.proofs.Common.{◌≡◌, ℕ, ◌<◌, arith, List, length, get_or, pos, sym, ap, subst, ◌∙◌, ℤ, Option, Some, None, MatchOption}
-use Rattle.std.proofs.lemmas.List.{get_or_read}
+use Rattle.std.proofs.Common.{◌≡◌, ℕ, ◌<◌, arith, sym, ap, subst, ◌∙◌, ℤ, Option, Some, None, MatchOption}
 use Rattle.uc_model.specs.Limits.{IsLawfulInstance}
-use Rattle.uc_model.specs.Schedule.{no_unit, thermal_count, thermal_unit}
+use Rattle.uc_model.specs.Schedule.{thermal_count, thermal_unit}
 use Rattle.dual_model.specs.CostToGo.{IsWithin, MAX_COST_TO_GO}
 use Rattle.dual_model.specs.ExactValue.{HasNoUnitSchedule, IsExactUnitValue}
 use Rattle.dual_model.specs.Fixings.{IsFixOf}
-use Rattle.dual_model.specs.Prices.{HasSizeOf, IsWithinLimits}
-use Rattle.hull_function.specs.Hulls.{IsScale}
 use Rattle.unit_runs.specs.Patterns.{Instance, Node}
 use Rattle.unit_runs.specs.RunsToGo.{Fix, HasNoRunsByFix, IsLeastByFix, least_runs}
 use Rattle.unit_runs.proofs.ByFix.{least_by_fix_is_exact, no_runs_by_fix_means_unscheduled}
 use Rattle.unit_runs.proofs.RunWays.{runs_to_go_are_least}
-use Rattle.state_walk.specs.inside.Problems.{ArePrices, IsLawful, Steps, Table, Thermal}
+use Rattle.state_walk.specs.inside.Problems.{IsLawful, Steps, Table, Thermal}
 use Rattle.state_walk.proofs.WaySizes.{to-go-fits}
-
--- ---- the problem
-pub scale-of : (instance : Instance) (table : Table) → HasSizeOf instance table → IsWithinLimits table → IsScale table.k
-scale-of instance table size limits = record { low = size.form.scale; high = limits.scale }
-
-pub prices-of : (instance : Instance) (table : Table) → HasSizeOf instance table → IsWithinLimits table → ArePrices instance.periods table
-prices-of instance table size limits = record {
-  scale = scale-of instance table size limits;
-  demand = size.periods;
-  reserve = size.form.lengths ∙ size.periods;
-  demand_price = λ t l. limits.pi t (pos 0) (let count = size.periods in omega (arith, l, count));
-  reserve_price = λ t l. limits.mu t (pos 0) (let count = size.form.lengths ∙ size.periods in omega (arith, l, count));
-}
-
--- the unit that is read is that of the instance
-pub unit-read : (instance : Instance) (units : List Thermal) (g : ℕ) (unit : Thermal) → units ≡ instance.thermal → g < thermal_count instance
-    → unit ≡ get_or units g unit → unit ≡ thermal_unit instance g
-unit-read instance units g unit same h is =
-    get_or_read units g unit (subst (λ (xs : List Thermal). g < length xs) (sym same) h) is no_unit ∙ ap (λ (xs : List Thermal). get_or xs g no_unit) same
 
 -- ---- the answer
 module _ (instance : Instance) (table : Table) (g : ℕ) (fix : Fix) (unit : Thermal) (hull : Steps) (lawful : IsLawfulInstance instance)

@@ -12,16 +12,17 @@ use Rattle.dual_model.proofs.Optimum.{AtMost, total_of-parts}
 use Rattle.unit_runs.specs.CostThrough.{cost_through, hour_after, is_output, least_between, output_cost, reserve_cost, run_cost}
 use Rattle.unit_runs.specs.Runs.{entry_output, hour_cap}
 use Rattle.unit_runs.proofs.Costs.{least_between-at_most, least_between-reached}
-use Rattle.state_walk.specs.inside.CostToEnd.{Table, Thermal, cost_to_end, highest_end, hours_after, hours_from, is_between, lowest_end}
-use Rattle.state_walk.proofs.Represented.{same-least, through}
+use Rattle.state_walk.specs.inside.CostToEnd.{Table, Thermal, cost_to_end, highest_end, hours_after, is_between, lowest_end}
+use Rattle.hull_function.proofs.Represented.{same-least, through}
+use Rattle.hull_function.specs.Hours.{with_output}
 
 module _ (periods : ℕ) (table : Table) (unit : Thermal) where
   -- ---- one hour, between the output q before it and its own, p
   -- the hours behind it, one more, by the output before
   more-behind : (t : ℕ) (cap q p b : ℤ) (behind : ℤ → Option ℤ) → IsTrue (is_output unit cap p) → (p -ℤ unit.ru) ≤ℤ q → q ≤ℤ (p +ℤ unit.rd) → behind p ≡ Some b
-      → AtMost (hours_after table unit t cap (hours_from table unit t cap behind) q) (output_cost table unit t p +ℤ b +ℤ reserve_cost table unit t cap q)
+      → AtMost (hours_after table unit t cap (with_output table unit t cap behind) q) (output_cost table unit t p +ℤ b +ℤ reserve_cost table unit t cap q)
   more-behind t cap q p b behind fits low high is =
-      let hours = hours_from table unit t cap behind in
+      let hours = with_output table unit t cap behind in
       let here : hours p ≡ Some (output_cost table unit t p +ℤ b) =
       cond-true (is_output unit cap p) (total_of (Some (output_cost table unit t p)) (behind p)) None fits ∙ ap (total_of (Some (output_cost table unit t p))) is in
       let least = least_between-at_most (q -ℤ unit.rd) (q +ℤ unit.ru) hours p (output_cost table unit t p +ℤ b) (omega (arith, linear, high)) (omega (arith, linear, low))
@@ -89,9 +90,9 @@ module _ (periods : ℕ) (table : Table) (unit : Thermal) where
     is : behind p ≡ Some b
     total : v ≡ output_cost table unit t p +ℤ b +ℤ reserve_cost table unit t cap q
 
-  behind-of : (t : ℕ) (cap q v : ℤ) (behind : ℤ → Option ℤ) → hours_after table unit t cap (hours_from table unit t cap behind) q ≡ Some v → HasBehind t cap q v behind
+  behind-of : (t : ℕ) (cap q v : ℤ) (behind : ℤ → Option ℤ) → hours_after table unit t cap (with_output table unit t cap behind) q ≡ Some v → HasBehind t cap q v behind
   behind-of t cap q v behind e =
-      let hours = hours_from table unit t cap behind in
+      let hours = with_output table unit t cap behind in
       let parts = total_of-parts (least_between (q -ℤ unit.rd) (q +ℤ unit.ru) hours) (Some (reserve_cost table unit t cap q)) v e in
       let reached = least_between-reached (q -ℤ unit.rd) (q +ℤ unit.ru) hours parts.first parts.first_is in
       let found = through (is_output unit cap reached.at) (total_of (Some (output_cost table unit t reached.at)) (behind reached.at)) parts.first reached.is in
@@ -143,11 +144,11 @@ module _ (periods : ℕ) (table : Table) (unit : Thermal) where
     -- behind an output, with the hour's cap as forward
     behind-is : (n m : ℕ) (q : ℤ) → n + suc m ≡ hours
         → behind (suc m) n q
-        ≡ hours_after table unit (from + n) (hour_cap periods unit from hours n) (hours_from table unit (from + n) (hour_cap periods unit from hours n) (behind m (suc n))) q
+        ≡ hours_after table unit (from + n) (hour_cap periods unit from hours n) (with_output table unit (from + n) (hour_cap periods unit from hours n) (behind m (suc n))) q
     behind-is n m q e =
         let cap = cap-same n m e in
         let rest = next-period n m in
-        λ i. hours_after table unit (from + n) (cap i) (hours_from table unit (from + n) (cap i) (rest i)) q
+        λ i. hours_after table unit (from + n) (cap i) (with_output table unit (from + n) (cap i) (rest i)) q
 
     -- from any place between two hours back to the beginning
     to-beginning : (n m : ℕ) → n + m ≡ hours → (p a b : ℤ) → before n p ≡ Some a → behind m n p ≡ Some b → AtMost whole (a +ℤ b)

@@ -11,22 +11,18 @@ use Rattle.uc_model.proofs.Sizes.{abs_mul}
 use Rattle.uc_model.proofs.Tests.{int_le-true, int_min_right}
 use Rattle.uc_model.proofs.HullPoints.{abs_is}
 use Rattle.dual_model.specs.Prices.{mu_at, pi_at}
-use Rattle.dual_model.specs.CostToGo.{total_of}
 use Rattle.dual_model.specs.ExactValue.{greatest_output, floored_cost}
 use Rattle.dual_model.proofs.Optimum.{total_of-parts}
 use Rattle.hull_function.specs.Hulls.{MAX_HULL}
 use Rattle.hull_function.proofs.HullFunction.{hull-function}
-use Rattle.unit_runs.specs.CostThrough.{is_output, least_between, output_cost, reserve_cost, reserve_worth}
+use Rattle.unit_runs.specs.CostThrough.{least_between, output_cost, reserve_cost, reserve_worth}
 use Rattle.unit_runs.proofs.Costs.{least_between-reached}
-use Rattle.state_walk.specs.inside.CostToEnd.{cost_to_end, highest_end, hours_after, hours_from, is_between, lowest_end}
-use Rattle.state_walk.specs.inside.Problems.{IsLawful, Steps, Table, Thermal, MAX_HOUR, MAX_POWER, MAX_PRICE}
-use Rattle.state_walk.proofs.Represented.{output-within, through}
+use Rattle.state_walk.specs.inside.CostToEnd.{cost_to_end, highest_end, hours_after, is_between, lowest_end}
+use Rattle.state_walk.specs.inside.Problems.{IsLawful, Steps, Table, Thermal, MAX_POWER, MAX_PRICE}
+use Rattle.hull_function.proofs.Represented.{output-of, through}
+use Rattle.hull_function.specs.Hours.{with_output, MAX_HOUR, MAX_OUTPUT_COST}
 
--- what an output costs at most, with all that it is paid
-abbrev pub MAX_OUTPUT_COST : ℕ
-MAX_OUTPUT_COST = MAX_HULL + 5 * (MAX_PRICE * MAX_POWER)
-
--- and an hour's reserve
+-- an hour's reserve costs at most this
 abbrev pub MAX_RESERVE_COST : ℕ
 MAX_RESERVE_COST = MAX_PRICE * (4 * MAX_POWER)
 
@@ -34,7 +30,7 @@ module _ (periods : ℕ) (table : Table) (unit : Thermal) (hull : Steps) (lawful
   -- ---- numbers of the unit
   pub width-size : (pos 0 ≤ℤ greatest_output unit.points) × (greatest_output unit.points ≤ℤ pos (2 * MAX_POWER))
   width-size =
-      subst (λ z. (pos 0 ≤ℤ z) × (z ≤ℤ pos (2 * MAX_POWER))) lawful.hull_is.last (hull-function unit table.k hull lawful.unit_is lawful.hull_is).last
+      subst (λ z. (pos 0 ≤ℤ z) × (z ≤ℤ pos (2 * MAX_POWER))) lawful.hull_is.function.last (hull-function unit table.k hull lawful.problem.unit_is lawful.hull_is.function).last
 
   left_of : (full reduction : ℤ) (b : Bool) → unsigned_abs full ≤ MAX_POWER → unsigned_abs (full -ℤ reduction) ≤ MAX_POWER
       → unsigned_abs (full -ℤ reduction *ℤ bit b) ≤ MAX_POWER
@@ -47,8 +43,8 @@ module _ (periods : ℕ) (table : Table) (unit : Thermal) (hull : Steps) (lawful
   pub limit-size : (t : ℕ) (first last : Bool) → unsigned_abs (cell_cap periods unit t first last) ≤ MAX_POWER
   limit-size t first last =
       least (full -ℤ start_reduction unit *ℤ bit started) (full -ℤ stop_reduction unit *ℤ bit followed)
-      (left_of full (start_reduction unit) started range (limited unit.pmax unit.pmin unit.su lawful.unit_is.maximum lawful.unit_is.minimum lawful.unit_is.start_limit))
-      (left_of full (stop_reduction unit) followed range (limited unit.pmax unit.pmin unit.sd lawful.unit_is.maximum lawful.unit_is.minimum lawful.unit_is.stop_limit))
+      (left_of full (start_reduction unit) started range (limited unit.pmax unit.pmin unit.su lawful.problem.unit_is.maximum lawful.problem.unit_is.minimum lawful.problem.unit_is.start_limit))
+      (left_of full (stop_reduction unit) followed range (limited unit.pmax unit.pmin unit.sd lawful.problem.unit_is.maximum lawful.problem.unit_is.minimum lawful.problem.unit_is.stop_limit))
     where
       full : ℤ
       full = unit.pmax -ℤ unit.pmin
@@ -60,7 +56,7 @@ module _ (periods : ℕ) (table : Table) (unit : Thermal) (hull : Steps) (lawful
       followed = last && nat_lt (suc t) periods
 
       range : unsigned_abs full ≤ MAX_POWER
-      range = apart unit.pmax unit.pmin lawful.unit_is.maximum lawful.unit_is.minimum
+      range = apart unit.pmax unit.pmin lawful.problem.unit_is.maximum lawful.problem.unit_is.minimum
         where
           apart : (high low : ℤ) → IsLimit high → IsLimit low → unsigned_abs (high -ℤ low) ≤ MAX_POWER
           apart high low h l =
@@ -84,7 +80,7 @@ module _ (periods : ℕ) (table : Table) (unit : Thermal) (hull : Steps) (lawful
       least a b h k = omega (arith, ints, clamps)
 
   worth-size : (t : ℕ) → t < periods → unsigned_abs (reserve_worth table t) ≤ MAX_PRICE
-  worth-size t l = above (mu_at table t) (lawful.prices.reserve_price t l)
+  worth-size t l = above (mu_at table t) (lawful.problem.reserve_price t l)
     where
       above : (mu : ℤ) → unsigned_abs mu ≤ MAX_PRICE → unsigned_abs (int_max mu (pos 0)) ≤ MAX_PRICE
       above mu h = omega (arith, ints, clamps)
@@ -94,17 +90,17 @@ module _ (periods : ℕ) (table : Table) (unit : Thermal) (hull : Steps) (lawful
       → unsigned_abs (output_cost table unit t p) ≤ MAX_OUTPUT_COST
   output-size t p l low high =
       let size = abs_is p low in
-      let there = lawful.hull_is.value (unsigned_abs p) (omega (arith, linear, size, high)) in
-      let first = lawful.hull_is.first in
-      let last = lawful.hull_is.last in
-      let small = lawful.hull_is.size (pos (unsigned_abs p)) (record { low = omega (arith, linear, first); high = omega (arith, linear, size, last, high) }) in
+      let there = lawful.hull_is.function.value (unsigned_abs p) (omega (arith, linear, size, high)) in
+      let first = lawful.hull_is.function.first in
+      let last = lawful.hull_is.function.last in
+      let small = lawful.hull_is.function.size (pos (unsigned_abs p)) (record { low = omega (arith, linear, first); high = omega (arith, linear, size, last, high) }) in
       let floored : unsigned_abs (floored_cost unit.points table.k 1 (unsigned_abs p)) ≤ MAX_HULL = subst (λ z. unsigned_abs z ≤ MAX_HULL) there small in
-      let price = lawful.prices.demand_price t l in
+      let price = lawful.problem.demand_price t l in
       let worth = worth-size t l in
       let wide = width-size.1 in
       let paid = abs_mul (reserve_worth table t -ℤ pi_at table t) p (2 * MAX_PRICE) (2 * MAX_POWER) (apart (reserve_worth table t) (pi_at table t) worth price)
       (near p (greatest_output unit.points) low high wide) in
-      let least = abs_mul (pi_at table t) unit.pmin MAX_PRICE MAX_POWER price lawful.unit_is.minimum.power in
+      let least = abs_mul (pi_at table t) unit.pmin MAX_PRICE MAX_POWER price lawful.problem.unit_is.minimum.power in
       sum (floored_cost unit.points table.k 1 (unsigned_abs p)) ((reserve_worth table t -ℤ pi_at table t) *ℤ p) (pi_at table t *ℤ unit.pmin) floored paid least
     where
       apart : (a b : ℤ) → unsigned_abs a ≤ MAX_PRICE → unsigned_abs b ≤ MAX_PRICE → unsigned_abs (a -ℤ b) ≤ 2 * MAX_PRICE
@@ -120,7 +116,7 @@ module _ (periods : ℕ) (table : Table) (unit : Thermal) (hull : Steps) (lawful
   pub reserve-size : (t : ℕ) (cap q : ℤ) → t < periods → unsigned_abs cap ≤ MAX_POWER → unsigned_abs q ≤ 3 * MAX_POWER
       → unsigned_abs (reserve_cost table unit t cap q) ≤ MAX_RESERVE_COST
   reserve-size t cap q l small near =
-      let most = least cap q unit.ru small near lawful.unit_is.ramp_up.power in
+      let most = least cap q unit.ru small near lawful.problem.unit_is.ramp_up.power in
       let product = abs_mul (reserve_worth table t) (int_min cap (q +ℤ unit.ru)) MAX_PRICE (4 * MAX_POWER) (worth-size t l) most in
       turned (reserve_worth table t *ℤ int_min cap (q +ℤ unit.ru)) product
     where
@@ -139,7 +135,7 @@ module _ (periods : ℕ) (table : Table) (unit : Thermal) (hull : Steps) (lawful
       by : (b : Bool) → (unsigned_abs (if b then neg_ℤ unit.ru else pos 0) ≤ 2 * MAX_POWER)
           × (unsigned_abs (if b then unit.rd else greatest_output unit.points) ≤ 2 * MAX_POWER)
           × ((if b then neg_ℤ unit.ru else pos 0) ≤ℤ (if b then unit.rd else greatest_output unit.points))
-      by true = ramps unit.ru unit.rd lawful.unit_is.ramp_up lawful.unit_is.ramp_down
+      by true = ramps unit.ru unit.rd lawful.problem.unit_is.ramp_up lawful.problem.unit_is.ramp_down
         where
           ramps : (up down : ℤ) → IsLimit up → IsLimit down
               → (unsigned_abs (neg_ℤ up) ≤ 2 * MAX_POWER) × (unsigned_abs down ≤ 2 * MAX_POWER) × (neg_ℤ up ≤ℤ down)
@@ -165,19 +161,16 @@ module _ (periods : ℕ) (table : Table) (unit : Thermal) (hull : Steps) (lawful
     pub high : p ≤ℤ pos (2 * MAX_POWER)
 
   hours_small : (n t : ℕ) (cap : ℤ) (behind : ℤ → Option ℤ) → t < periods → ((q v : ℤ) → behind q ≡ Some v → IsSmallRest n q v)
-      → (p v : ℤ) → hours_from table unit t cap behind p ≡ Some v → AreSmallHours n p v
+      → (p v : ℤ) → with_output table unit t cap behind p ≡ Some v → AreSmallHours n p v
   hours_small n t cap behind l small p v e =
-      let found = through (is_output unit cap p) (total_of (Some (output_cost table unit t p)) (behind p)) v e in
-      let within = output-within unit cap p found.0 in
-      let parts = total_of-parts (Some (output_cost table unit t p)) (behind p) v found.1 in
-      let own : parts.first ≡ output_cost table unit t p = (let is = parts.first_is in cc) in
-      let low = within.0 in
-      let below = within.1 in
+      let own = output-of table unit t cap behind p v e in
+      let low = own.low in
+      let below = own.high in
       let right = int_min_right cap (greatest_output unit.points) in
       let high : p ≤ℤ greatest_output unit.points = omega (arith, linear, below, right) in
-      let first = subst (λ z. unsigned_abs z ≤ MAX_OUTPUT_COST) (sym own) (output-size t p l low high) in
-      let second = (small p parts.second parts.second_is).cost in
-      let total = parts.total in
+      let first = output-size t p l low high in
+      let second = (small p own.other own.is).cost in
+      let total = own.total in
       let wide = width-size.1 in
       record { cost = omega (arith, ints, first, second, total); low = low; high = omega (arith, linear, high, wide) }
 
@@ -188,7 +181,7 @@ module _ (periods : ℕ) (table : Table) (unit : Thermal) (hull : Steps) (lawful
       let reached = least_between-reached (q -ℤ unit.rd) (q +ℤ unit.ru) hours parts.first parts.first_is in
       let own : parts.second ≡ reserve_cost table unit t cap q = (let is = parts.second_is in cc) in
       let hour = small reached.at parts.first reached.is in
-      let near = before reached.at q unit.rd unit.ru hour.low hour.high lawful.unit_is.ramp_down lawful.unit_is.ramp_up reached.from reached.to in
+      let near = before reached.at q unit.rd unit.ru hour.low hour.high lawful.problem.unit_is.ramp_down lawful.problem.unit_is.ramp_up reached.from reached.to in
       let first = hour.cost in
       let second = subst (λ z. unsigned_abs z ≤ MAX_RESERVE_COST) (sym own) (reserve-size t cap q l limit near) in
       let total = parts.total in
@@ -222,7 +215,7 @@ module _ (periods : ℕ) (table : Table) (unit : Thermal) (hull : Steps) (lawful
       q v e
 
   pub hours-size : (n t : ℕ) (first : Bool) → t + n < periods → (p v : ℤ)
-      → hours_from table unit t (cell_cap periods unit t first (n == 0)) (cost_to_end periods table unit n (suc t) false) p ≡ Some v → AreSmallHours n p v
+      → with_output table unit t (cell_cap periods unit t first (n == 0)) (cost_to_end periods table unit n (suc t) false) p ≡ Some v → AreSmallHours n p v
   hours-size n t first l =
       hours_small n t (cell_cap periods unit t first (n == 0)) (cost_to_end periods table unit n (suc t) false) (omega (arith, l))
       (rest-size n (suc t) false (omega (arith, l)))

@@ -4,17 +4,16 @@ use Rattle.std.proofs.lemmas.Int.{ints}
 use Rattle.std.proofs.lemmas.Bool.{and_from, and_parts, cond-true}
 use Rattle.std.proofs.lemmas.Nat.{mul-le}
 use Rattle.uc_model.proofs.Tests.{int_le-true, le-int_le}
-use Rattle.dual_model.specs.CostToGo.{total_of}
 use Rattle.uc_model.specs.Commitment.{cell_cap}
 use Rattle.dual_model.proofs.Optimum.{total_of-parts}
 use Rattle.step_functions.specs.Functions.{IsPlace, last_place, value_at}
 use Rattle.hull_function.specs.Hulls.{IsBounded}
-use Rattle.unit_runs.specs.CostThrough.{is_output, least_between, output_cost, reserve_cost}
+use Rattle.unit_runs.specs.CostThrough.{least_between, reserve_cost}
 use Rattle.unit_runs.proofs.Costs.{least_between-reached}
-use Rattle.state_walk.specs.inside.CostToEnd.{cost_to_end, highest_end, hours_after, hours_from, is_between, lowest_end}
+use Rattle.state_walk.specs.inside.CostToEnd.{cost_to_end, highest_end, hours_after, is_between, lowest_end}
 use Rattle.state_walk.specs.inside.Problems.{IsLawful, Steps, Table, Thermal}
-use Rattle.state_walk.specs.inside.Rests.{IsCostsOf, IsNear, MAX_RUN}
-use Rattle.state_walk.proofs.Represented.{through}
+use Rattle.hull_function.proofs.Represented.{through}
+use Rattle.hull_function.specs.Hours.{with_output, IsCostsOf, IsNear, MAX_RUN}
 use Rattle.state_walk.proofs.RestSizes.{hours-size, rest-size}
 
 -- ---- no hours are left
@@ -32,17 +31,7 @@ ended periods table unit t f first last level = record {
       (refl, record { low = subst (λ z. z ≤ℤ p) (sym first) (int_le-true _ _ tests.0); high = subst (λ z. p ≤ℤ z) (sym last) (int_le-true _ _ tests.1) });
 }
 
--- ---- where there are no costs there are none behind or before them
-pub none-from-dead : (table : Table) (unit : Thermal) (t : ℕ) (cap : ℤ) (f : Steps) (behind : ℤ → Option ℤ) → IsCostsOf false f behind
-    → IsCostsOf false f (hours_from table unit t cap behind)
-none-from-dead table unit t cap f behind is = record {
-  inside = λ live. absurd (true≢false (sym live));
-  outside = λ p v e.
-      let found = through (is_output unit cap p) (total_of (Some (output_cost table unit t p)) (behind p)) v e in
-      let parts = total_of-parts (Some (output_cost table unit t p)) (behind p) v found.1 in
-      absurd (true≢false (sym (is.outside p parts.second parts.second_is).0));
-}
-
+-- ---- where there are no costs there are none before them
 pub none-after-dead : (table : Table) (unit : Thermal) (t : ℕ) (cap : ℤ) (f : Steps) (hours : ℤ → Option ℤ) → IsCostsOf false f hours
     → IsCostsOf false f (hours_after table unit t cap hours)
 none-after-dead table unit t cap f hours is = record {
@@ -57,7 +46,7 @@ none-after-dead table unit t cap f hours is = record {
 module _ (periods : ℕ) (table : Table) (unit : Thermal) (hull : Steps) (lawful : IsLawful periods table unit hull) (n t : ℕ) (within : t + n < periods)
     (alive : Bool) (f : Steps) (live : alive ≡ true) where
   few : n ≤ 168
-  few = let most = lawful.periods_are.1 in omega (arith, within, most)
+  few = let most = lawful.problem.periods_are.1 in omega (arith, within, most)
 
   pub rest-bounded : IsCostsOf alive f (cost_to_end periods table unit n (suc t) false) → IsBounded f MAX_RUN
   rest-bounded is p place =
@@ -65,14 +54,14 @@ module _ (periods : ℕ) (table : Table) (unit : Thermal) (hull : Steps) (lawful
       let short = few in
       omega (arith, small, short)
 
-  pub hours-bounded : IsCostsOf alive f (hours_from table unit t (cell_cap periods unit t false (n == 0)) (cost_to_end periods table unit n (suc t) false))
+  pub hours-bounded : IsCostsOf alive f (with_output table unit t (cell_cap periods unit t false (n == 0)) (cost_to_end periods table unit n (suc t) false))
       → IsBounded f MAX_RUN
   hours-bounded is p place =
       let small = (hours-size periods table unit hull lawful n t false within p (value_at f p) (is.inside live p place)).cost in
       let short = few in
       omega (arith, small, short)
 
-  pub hours-near : IsCostsOf alive f (hours_from table unit t (cell_cap periods unit t false (n == 0)) (cost_to_end periods table unit n (suc t) false))
+  pub hours-near : IsCostsOf alive f (with_output table unit t (cell_cap periods unit t false (n == 0)) (cost_to_end periods table unit n (suc t) false))
       → IsNear 3 f
   hours-near is p place =
       let small = hours-size periods table unit hull lawful n t false within p (value_at f p) (is.inside live p place) in

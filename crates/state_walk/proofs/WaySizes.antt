@@ -9,10 +9,11 @@ use Rattle.uc_model.proofs.StartCosts.{sigma-size}
 use Rattle.dual_model.specs.CostToGo.{IsWithin, MAX_COST_TO_GO}
 use Rattle.dual_model.specs.Moves.{stop_since}
 use Rattle.dual_model.proofs.CostSizes.{lesser_of-size, more_room, total_of-size}
+use Rattle.hull_function.specs.Hours.{MAX_HOUR}
 use Rattle.unit_runs.specs.Runs.{entry_output}
 use Rattle.unit_runs.specs.RunsToGo.{Fix, run_from, run_until, runs_to_go, switch_cost}
 use Rattle.state_walk.specs.inside.CostToEnd.{cost_to_end}
-use Rattle.state_walk.specs.inside.Problems.{IsLawful, Steps, Table, Thermal, MAX_HOUR}
+use Rattle.state_walk.specs.inside.Problems.{IsLawful, Steps, Table, Thermal}
 use Rattle.state_walk.proofs.Mirror.{run-same}
 use Rattle.state_walk.proofs.RestSizes.{rest-size}
 
@@ -33,10 +34,10 @@ module _ (periods : ℕ) (table : Table) (unit : Thermal) (hull : Steps) (lawful
 
   start-size : (since t : ℕ) → unsigned_abs (table.k *ℤ sigma unit (stop_since since) t) ≤ MAX_HOUR
   start-size since t =
-      let low = lawful.prices.scale.low in
-      let high = lawful.prices.scale.high in
+      let low = lawful.problem.scale.low in
+      let high = lawful.problem.scale.high in
       let scale : unsigned_abs table.k ≤ 10 ^ 9 = omega (arith, ints, low, high) in
-      let whole = abs_mul table.k (sigma unit (stop_since since) t) (10 ^ 9) MAX_COST scale (sigma-size unit lawful.unit_is (stop_since since) t) in
+      let whole = abs_mul table.k (sigma unit (stop_since since) t) (10 ^ 9) MAX_COST scale (sigma-size unit lawful.problem.unit_is (stop_since since) t) in
       omega (arith, whole)
 
   module _ (fix : Fix) where
@@ -67,11 +68,11 @@ module _ (periods : ℕ) (table : Table) (unit : Thermal) (hull : Steps) (lawful
     -- so each is within one limit
     pub switch-fits : (t : ℕ) (was : Bool) (since : ℕ) → run_from since ≤ t → t ≤ periods → IsWithin MAX_COST_TO_GO (switch_cost periods table unit fix t was since)
     switch-fits t was since order within =
-        more_room (MAX_HOUR * suc (t - run_from since)) MAX_COST_TO_GO _ (let few = lawful.periods_are.1 in omega (arith, within, few)) (switch-size t was since order within)
+        more_room (MAX_HOUR * suc (t - run_from since)) MAX_COST_TO_GO _ (let few = lawful.problem.periods_are.1 in omega (arith, within, few)) (switch-size t was since order within)
 
     pub to-go-fits : (n t : ℕ) (was : Bool) (since : ℕ) → run_from since ≤ t → t + n ≤ periods → IsWithin MAX_COST_TO_GO (runs_to_go periods table unit fix n t was since)
     to-go-fits n t was since order within =
-        more_room (2 * MAX_HOUR * n + MAX_HOUR * (t - run_from since)) MAX_COST_TO_GO _ (let few = lawful.periods_are.1 in omega (arith, within, few))
+        more_room (2 * MAX_HOUR * n + MAX_HOUR * (t - run_from since)) MAX_COST_TO_GO _ (let few = lawful.problem.periods_are.1 in omega (arith, within, few))
         (to-go-size n t was since order within)
 
 -- a state begins no later than it lasts since

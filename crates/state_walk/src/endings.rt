@@ -1,19 +1,19 @@
 //! The runs that end before one period, by the period in which they begin.
 
-ghost use Rattle.std.specs.Prelude.{◌≡◌, ℕ, ℤ, ◌+◌, ◌*◌, ◌<◌, ◌≤◌, ◌≤ℤ◌, suc, Bool, true, Option, IfOk, length, unsigned_abs};
+ghost use Rattle.std.specs.Prelude.{◌≡◌, ℕ, ℤ, ◌+◌, ◌*◌, ◌<◌, ◌≤◌, ◌≤ℤ◌, suc, true, Option, IfOk, length, unsigned_abs};
 ghost use Rattle.uc_model.specs.Limits.{IsLawfulThermal};
 ghost use Rattle.step_functions.specs.Functions.{run_count};
+ghost use Rattle.hull_function.specs.Hours.{IsCostsOf, IsHourAt, IsSizedHour, MAX_RUN, with_output};
 ghost use Rattle.hull_function.specs.Hulls.{IsBounded};
 ghost use Rattle.unit_runs.specs.Runs.{entry_output as output_at_entry};
 ghost use Rattle.unit_runs.specs.RunsToGo.{run_until};
-ghost use Rattle.state_walk.specs.inside.CostToEnd.{cost_to_end, hours_after, hours_from};
+ghost use Rattle.state_walk.specs.inside.CostToEnd.{cost_to_end, hours_after};
 ghost use Rattle.state_walk.specs.inside.ExactTable.{AreRunsTo, cost_at};
-ghost use Rattle.state_walk.specs.inside.Problems.{IsHourAt, IsLawful, IsSized, Table, MAX_POWER};
-ghost use Rattle.state_walk.specs.inside.Rests.{HasRoom, HaveRoom, IsCostsOf, IsRest, MAX_RUN};
+ghost use Rattle.state_walk.specs.inside.Problems.{IsLawful, Table, MAX_POWER};
+ghost use Rattle.state_walk.specs.inside.Rests.{HasRoom, HaveRoom, IsRest};
 
-use crate::hour::Hour;
-use crate::problem::Problem;
 use crate::rest::{Rest, may_end};
+use hull_function::{Hour, Problem};
 use std::alloc::Global;
 use step_functions::ConvexFunction;
 use uc_model::{NoMemory, Thermal};
@@ -88,14 +88,14 @@ fn begun(
     entry: i64,
 ) -> Option<i128>
     requires unit { IsLawfulThermal unit.now }
-    requires hour { IsSized hour.now }
+    requires hour { IsSizedHour hour.now }
     requires entry { unsigned_abs entry ≤ 2 * MAX_POWER }
     requires size { hours.now.alive ≡ true → IsBounded hours.now.function MAX_RUN }
     requires room { run_count hours.now.function < cut.old.room }
-    ensures cost { (periods : ℕ) (table : Table) (t : ℕ) (last : Bool) (cap : ℤ) (behind : ℤ → Option ℤ)
-        → IsHourAt periods table unit.now t true last hour.now → hour.now.cap ≤ℤ cap
-        → IsCostsOf hours.now.alive hours.now.function (hours_from table unit.now t cap behind)
-        → result ≡ hours_after table unit.now t hour.now.cap (hours_from table unit.now t hour.now.cap behind) entry }
+    ensures cost { (table : Table) (t : ℕ) (cap : ℤ) (behind : ℤ → Option ℤ)
+        → IsHourAt table unit.now t hour.now → hour.now.cap ≤ℤ cap
+        → IsCostsOf hours.now.alive hours.now.function (with_output table unit.now t cap behind)
+        → result ≡ hours_after table unit.now t hour.now.cap (with_output table unit.now t hour.now.cap behind) entry }
     ensures room { cut.new.room ≡ cut.old.room }
 {
     if !hours.alive {

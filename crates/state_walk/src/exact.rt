@@ -20,11 +20,11 @@ ghost use Rattle.state_walk.specs.inside.WalkTable.{entry_at};
 
 use crate::endings::Endings;
 use crate::moves::stop_since;
-use crate::problem::Problem;
 use crate::walk::{CostToGo, lesser, total};
 use cost_curves::Curve;
 use dual_model::moves::holds_initially;
 use dual_model::{Fix, Table};
+use hull_function::Problem;
 use start_costs::sigma;
 use std::alloc::Global;
 use std::marker::Model;

@@ -5,9 +5,7 @@
 
 mod endings;
 mod exact;
-mod hour;
 mod moves;
-mod problem;
 mod rest;
 pub mod walk;
 

@@ -1,19 +1,15 @@
 //! What is left of a run, by the output before it: the hours of the run are added from its end back.
 
-ghost use Rattle.std.specs.Prelude.{◌≡◌, ℕ, ℤ, pos, suc, ◌+◌, ◌*◌, ◌<◌, ◌≤◌, ◌+ℤ◌, ◌*ℤ◌, ◌≤ℤ◌, neg_ℤ, Bool, true, Option, IfOk, unsigned_abs};
-ghost use Rattle.std.specs.Int.{int_min};
-ghost use Rattle.uc_model.specs.Limits.{IsLawfulThermal, IsLimit};
+ghost use Rattle.std.specs.Prelude.{◌≡◌, ℤ, pos, suc, ◌+◌, ◌*◌, ◌<◌, ◌≤◌, ◌≤ℤ◌, IfOk, unsigned_abs};
 ghost use Rattle.step_functions.specs.Functions.{IsPlace, last_place, run_count, value_at};
-ghost use Rattle.hull_function.specs.Hulls.{IsBounded, IsHull, IsHullFunction};
-ghost use Rattle.state_walk.specs.inside.CostToEnd.{highest_end as highest_of, hours_after, hours_from, is_between, lowest_end as lowest_of};
-ghost use Rattle.state_walk.specs.inside.Problems.{IsHourAt, IsLawful, IsSized, Table, Thermal, MAX_POWER};
-ghost use Rattle.state_walk.specs.inside.Rests.{HasRoom, IsCostsOf, IsHoursFrom, IsNear, IsRest, MAX_RUN};
+ghost use Rattle.state_walk.specs.inside.CostToEnd.{highest_end as highest_of, is_between, lowest_end as lowest_of};
+ghost use Rattle.state_walk.specs.inside.Problems.{IsLawful, MAX_POWER};
+ghost use Rattle.state_walk.specs.inside.Rests.{HasRoom, IsHoursFrom, IsRest};
 
-use crate::hour::Hour;
-use crate::problem::Problem;
+use hull_function::{Hour, Problem, add_outputs, add_reserve, spread};
 use std::alloc::Global;
 use step_functions::ConvexFunction;
-use uc_model::{NoMemory, Thermal};
+use uc_model::NoMemory;
 
 /// The least costs of the last hours of a run by the output before them, as a convex function; where it isn't alive no
 /// output lets the run go on.
@@ -58,7 +54,7 @@ impl Rest {
     {
         if self.alive {
             let hour = Hour::at(problem, t, false, n == 0);
-            self.alive = add_hour_to(&mut self.function, problem.hull, &hour);
+            self.alive = add_outputs(&mut self.function, problem.hull, &hour);
         }
     }
 
@@ -71,7 +67,8 @@ impl Rest {
     {
         if self.alive {
             let hour = Hour::at(problem, t, false, n == 0);
-            ramp_back(&mut self.function, problem.unit, &hour);
+            spread(&mut self.function, problem.unit.rd, problem.unit.ru);
+            add_reserve(&mut self.function, problem.unit, &hour);
         }
     }
 }
@@ -124,80 +121,4 @@ fn set_level(function: &mut ConvexFunction, low: i64, high: i64)
     if low < high {
         function.extend((high - low) as u64, 0);
     }
-}
-
-// Makes costs by the output before hours those with an hour more, by its output, and answers whether there are any then.
-fn add_hour_to(function: &mut ConvexFunction, hull: &ConvexFunction, hour: &Hour) -> bool
-    requires hour { IsSized hour.now }
-    requires hull { IsHullFunction hull.now }
-    requires size { IsBounded function.old MAX_RUN }
-    requires room { run_count function.old + run_count hull.now < function.old.room }
-    ensures costs { (periods : ℕ) (table : Table) (unit : Thermal) (t : ℕ) (first last : Bool) (behind : ℤ → Option ℤ)
-        → IsHull unit.points table.k hull.now → IsHourAt periods table unit t first last hour.now → IsCostsOf true function.old behind
-        → IsCostsOf result function.new (hours_from table unit t hour.now.cap behind) }
-    ensures pieces { run_count function.new ≤ run_count function.old + run_count hull.now }
-    ensures room { function.new.room ≡ function.old.room }
-{
-    if !function.cut(0, hour.cap.min(hull.last())) {
-        return false;
-    }
-    add_output(function, hull, hour);
-    true
-}
-
-// Adds what output costs in an hour without what reserve earns beside it.
-fn add_output(function: &mut ConvexFunction, hull: &ConvexFunction, hour: &Hour)
-    requires hour { IsSized hour.now }
-    requires hull { IsHullFunction hull.now }
-    requires low { pos 0 ≤ℤ function.old.first }
-    requires high { last_place function.old ≤ℤ last_place hull.now }
-    requires size { IsBounded function.old MAX_RUN }
-    requires room { run_count function.old + run_count hull.now < function.old.room }
-    ensures first { function.new.first ≡ function.old.first }
-    ensures last { last_place function.new ≡ last_place function.old }
-    ensures value { (p : ℤ) → IsPlace function.new p
-        → value_at function.new p ≡ value_at function.old p +ℤ value_at hull.now p +ℤ hour.now.price *ℤ p +ℤ hour.now.fixed }
-    ensures pieces { run_count function.new ≤ run_count function.old + run_count hull.now }
-    ensures room { function.new.room ≡ function.old.room }
-{
-    function.add(hull);
-    function.add_slope(i128::from(hour.price));
-    function.add_constant(hour.fixed);
-}
-
-// Makes costs by the output in an hour those by the output before it: the least within the ramps, with what the most
-// reserve in the hour earns.
-fn ramp_back(function: &mut ConvexFunction, unit: &Thermal, hour: &Hour)
-    requires unit { IsLawfulThermal unit.now }
-    requires hour { IsSized hour.now }
-    requires near { IsNear 3 function.old }
-    requires size { IsBounded function.old MAX_RUN }
-    requires room { run_count function.old + 1 < function.old.room }
-    ensures costs { (periods : ℕ) (table : Table) (t : ℕ) (first last : Bool) (hours : ℤ → Option ℤ)
-        → IsHourAt periods table unit.now t first last hour.now → IsCostsOf true function.old hours
-        → IsCostsOf true function.new (hours_after table unit.now t hour.now.cap hours) }
-    ensures pieces { run_count function.new ≤ run_count function.old + 2 }
-    ensures room { function.new.room ≡ function.old.room }
-{
-    function.ramp(unit.rd, unit.ru);
-    add_reserve(function, unit.ru, hour);
-}
-
-// Adds what reserve costs, by the output before an hour: no less is earned than the most that both outputs leave room for.
-fn add_reserve(function: &mut ConvexFunction, up: i64, hour: &Hour)
-    requires up { IsLimit up }
-    requires hour { IsSized hour.now }
-    requires near { IsNear 4 function.old }
-    requires size { IsBounded function.old MAX_RUN }
-    requires room { run_count function.old < function.old.room }
-    ensures first { function.new.first ≡ function.old.first }
-    ensures last { last_place function.new ≡ last_place function.old }
-    ensures value { (p : ℤ) → IsPlace function.new p
-        → value_at function.new p ≡ value_at function.old p +ℤ neg_ℤ (hour.now.worth *ℤ int_min hour.now.cap (p +ℤ up)) }
-    ensures pieces { run_count function.new ≤ run_count function.old + 1 }
-    ensures room { function.new.room ≡ function.old.room }
-{
-    let worth = i128::from(hour.worth);
-    function.add_shortfall(hour.cap - up, worth);
-    function.add_constant(-(worth * i128::from(hour.cap)));
 }

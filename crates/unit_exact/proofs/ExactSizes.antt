@@ -18,9 +18,11 @@ use Rattle.unit_runs.specs.Runs.{IsLeastRunValue, IsTrajectory, Trajectory, hour
 use Rattle.unit_runs.proofs.Hours.{run-within}
 use Rattle.unit_runs.proofs.RunSums.{sum_of_runs, sum_over_runs-le}
 use Rattle.unit_exact.specs.Sizes.{MAX_EXACT}
-use Rattle.unit_exact.specs.inside.OutputCosts.{IsHull, MAX_HULL, MAX_POWER}
-use Rattle.unit_exact.specs.inside.Problems.{IsLawful, Table, Thermal, MAX_HOUR, MAX_PRICE}
+use Rattle.unit_exact.specs.inside.Problems.{Table, Thermal}
 use Rattle.hull_function.proofs.HullFunction.{hull-function}
+use Rattle.hull_function.specs.Hulls.{IsHull, MAX_HULL}
+use Rattle.hull_function.specs.Problems.{MAX_POWER, IsLawfulProblem, MAX_PRICE}
+use Rattle.hull_function.specs.Hours.{MAX_HOUR}
 
 -- no number is larger in size
 abbrev IsAtMost : ℕ → ℤ → Type 0
@@ -37,7 +39,7 @@ cap-most : (full reduction other : ℤ) (b : Bool) → pos 0 ≤ℤ reduction �
 cap-most full reduction other true h = let one = mul-one reduction in omega (arith, ints, clamps)
 cap-most full reduction other false h = let none = mul-zero reduction in omega (arith, ints, clamps)
 
-module _ (periods : ℕ) (table : Table) (unit : Thermal) (lawful : IsLawful periods table unit) (hull : Steps) (is_hull : IsHull unit.points table.k hull) where
+module _ (periods : ℕ) (table : Table) (unit : Thermal) (lawful : IsLawfulProblem periods table unit) (hull : Steps) (is_hull : IsHull unit.points table.k hull) where
   output-small : (p : ℕ) → pos p ≤ℤ greatest_output unit.points → p ≤ 2 * MAX_POWER
   output-small p h =
       let most = (hull-function unit table.k hull lawful.unit_is is_hull).last.1 in
@@ -118,7 +120,7 @@ module _ (periods : ℕ) (table : Table) (unit : Thermal) (lawful : IsLawful per
     where
       start : unsigned_abs (table.k *ℤ sigma unit (last_stop unit on t) t) ≤ MAX_HOUR
       start =
-          let scale : unsigned_abs table.k ≤ 10 ^ 9 = omega (arith, ints, lawful.scale.0, lawful.scale.1) in
+          let scale : unsigned_abs table.k ≤ 10 ^ 9 = omega (arith, ints, lawful.scale.low, lawful.scale.high) in
           let whole = abs_mul table.k (sigma unit (last_stop unit on t) t) (10 ^ 9) MAX_COST scale (sigma-size unit lawful.unit_is (last_stop unit on t) t) in
           omega (arith, whole)
 

@@ -1,18 +1,17 @@
 -- What the least way with its pattern says of the unit.
-use Rattle.std.proofs.Common.{◌≡◌, ℕ, ◌<◌, arith, List, length, get_or, pos, sym, ap, subst, ◌∙◌, ℤ, Option, Some, None, IfSome, MatchOption}
-use Rattle.std.proofs.lemmas.List.{get_or_read}
+use Rattle.std.proofs.Common.{◌≡◌, ℕ, ◌<◌, sym, subst, ◌∙◌, ℤ, Option, Some, None, IfSome, MatchOption}
 use Rattle.uc_model.specs.Limits.{IsLawfulInstance}
 use Rattle.uc_model.specs.PatternBits.{commitment_of}
-use Rattle.uc_model.specs.Schedule.{no_unit, thermal_count, thermal_unit}
+use Rattle.uc_model.specs.Schedule.{thermal_count, thermal_unit}
 use Rattle.dual_model.specs.ExactValue.{HasNoUnitSchedule, IsExactUnitValue}
 use Rattle.dual_model.specs.Fixings.{IsFixOf, IsPatternAt}
-use Rattle.dual_model.specs.Prices.{HasSizeOf, IsWithinLimits}
 use Rattle.unit_runs.specs.Patterns.{Instance, Node, IsValueByRuns}
 use Rattle.unit_runs.specs.RunsToGo.{Fix, HasNoRunsByFix, IsLeastByFix, least_runs, whole_way}
 use Rattle.unit_runs.proofs.ByFix.{least_by_fix_is_exact, no_runs_by_fix_means_unscheduled}
 use Rattle.unit_runs.proofs.RunWays.{runs_to_go_are_least, ways_are_values}
+pub use Rattle.hull_function.proofs.Units.{unit-read}
 use Rattle.unit_exact.specs.inside.Choices.{Pattern, value_of}
-use Rattle.unit_exact.specs.inside.Problems.{IsLawful, Table, Thermal}
+use Rattle.unit_exact.specs.inside.Problems.{Table, Thermal}
 
 -- a least value with a pattern whose way costs it
 pub record IsFound (periods : ℕ) (table : Table) (unit : Thermal) (fix : Fix) (result : Option (ℤ × Pattern)) : Type 0 where
@@ -63,22 +62,3 @@ module _ (instance : Instance) (table : Table) (g : ℕ) (fix : Fix) (result : O
 
   pub found-attained : IfSome result (λ best. IsValueByRuns instance.periods table unit (commitment_of best.1) best.0)
   found-attained = attained_by result found.way
-
--- a unit of a lawful instance at a table of its size within the limits
-pub lawful-problem : (instance : Instance) (table : Table) (g : ℕ) → IsLawfulInstance instance → g < thermal_count instance
-    → HasSizeOf instance table → IsWithinLimits table → IsLawful instance.periods table (thermal_unit instance g)
-lawful-problem instance table g lawful known size limits = record {
-  periods_are = lawful.periods;
-  unit_is = lawful.thermal g known;
-  scale = (size.form.scale, limits.scale);
-  demand = size.periods;
-  reserve = size.form.lengths ∙ size.periods;
-  demand_price = λ t l. limits.pi t (pos 0) (let count = size.periods in omega (arith, l, count));
-  reserve_price = λ t l. limits.mu t (pos 0) (let count = size.form.lengths ∙ size.periods in omega (arith, l, count));
-}
-
--- the unit that is read is that of the instance
-pub unit-read : (instance : Instance) (units : List Thermal) (g : ℕ) (unit : Thermal) → units ≡ instance.thermal → g < thermal_count instance
-    → unit ≡ get_or units g unit → unit ≡ thermal_unit instance g
-unit-read instance units g unit same h is =
-    get_or_read units g unit (subst (λ (xs : List Thermal). g < length xs) (sym same) h) is no_unit ∙ ap (λ (xs : List Thermal). get_or xs g no_unit) same

@@ -21,12 +21,15 @@ use Rattle.dual_model.specs.Term.{IsTerm, output_price, reserve_price}
 use Rattle.dual_model.specs.UnitValue.{period_value}
 use Rattle.dual_model.proofs.CellCaps.{cell_cap-cap}
 use Rattle.step_functions.specs.Functions.{value_at}
+use Rattle.hull_function.specs.Hours.{IsHourAt, IsSizedHour}
+use Rattle.hull_function.specs.Hulls.{IsHull, Steps}
+use Rattle.hull_function.specs.Problems.{MAX_POWER}
+use Rattle.hull_function.specs.declared.hour.Hour.{Hour}
 use Rattle.unit_runs.specs.Patterns.{Instance, Node}
 use Rattle.unit_runs.specs.Runs.{Table, Thermal, KeepsRamps, entry_output}
 use Rattle.unit_runs.proofs.Cells.{IsIdleOff, cap-start, cap-stop, off-at}
 use Rattle.unit_exact.specs.Hourly.{HasScheduleWithin}
 use Rattle.unit_exact.specs.inside.Hourly.{Given, IsBestIn, IsGivenAt, IsHourlyAt, IsHourlyTo, IsHourly, output_before}
-use Rattle.unit_exact.specs.inside.OutputCosts.{Hour, IsHourAt, IsHull, IsSizedHour, Steps, MAX_POWER}
 
 -- ---- hour by hour
 pub hourly-none : (periods : ℕ) (table : Table) (unit : Thermal) (terms : Terms) (on : Commitment) (before : ℤ) → before ≡ entry_output unit 0
@@ -135,7 +138,7 @@ best-given periods table unit terms on t hull hour term given here is_hull at si
           best.none best.all best.cost;
     }
   where
-    small_of : (taken limit : ℤ) → taken ≤ℤ limit → unsigned_abs limit ≤ 2 * MAX_POWER → taken ≤ℤ pos (2 * MAX_POWER)
+    small_of : (taken limit : ℤ) → taken ≤ℤ limit → unsigned_abs limit ≤ MAX_POWER → taken ≤ℤ pos (2 * MAX_POWER)
     small_of taken limit h k = omega (arith, ints)
 
     some_same : (m n : ℤ) → Some m ≡ Some n → m ≡ n

@@ -3,15 +3,11 @@ pub mod BestTo
 pub mod Sizes
 pub mod Since
 pub mod Traced
-pub mod Represented
-pub mod OutputSizes
 pub mod HourSteps
 pub mod RunSteps
 pub mod RunBounds
 pub mod Found
 pub mod StopSteps
-pub mod HourPrices
-pub mod OutputSums
 pub mod LeastLeft
 pub mod Tables
 pub mod HourlySteps

@@ -1,19 +1,22 @@
 -- What no run whose last hour is in a period costs less than.
-use Rattle.std.proofs.Common.{◌≡◌, ℕ, suc, ◌-◌, ◌≤◌, ◌==◌, Bool, true, false, refl, ap, ◌∙◌, arith, ℤ, pos, ◌+ℤ◌, ◌-ℤ◌, ◌*ℤ◌, ◌≤ℤ◌, neg_ℤ, int_le, nat_lt, Option, Some, if◌then◌else◌}
+use Rattle.std.proofs.Common.{◌≡◌, ℕ, suc, ◌-◌, ◌≤◌, ◌==◌, Bool, true, false, true≢false, refl, sym, ap, ◌∙◌, arith, ℤ, pos, ◌+ℤ◌, ◌-ℤ◌, ◌*ℤ◌, ◌≤ℤ◌, neg_ℤ, nat_lt, Option, Some, if◌then◌else◌}
 use Rattle.std.specs.Int.{int_min}
-use Rattle.std.proofs.lemmas.Bool.{and_parts}
 use Rattle.uc_model.proofs.Ring.{linear, mul-le-mul_left}
-use Rattle.uc_model.proofs.Tests.{int_le-true, int_min_left, int_min_right}
+use Rattle.uc_model.proofs.Tests.{int_min_left, int_min_right}
 use Rattle.dual_model.specs.CostToGo.{total_of}
 use Rattle.dual_model.specs.ExactValue.{greatest_output}
 use Rattle.uc_model.specs.Commitment.{cell_cap}
 use Rattle.dual_model.proofs.Optimum.{total_of-parts}
 use Rattle.step_functions.specs.Functions.{Steps, IsPlace, value_at}
-use Rattle.unit_runs.specs.CostThrough.{cost_through, hour_after, is_output, least_between, output_cost, reserve_cost, run_cost}
+use Rattle.unit_runs.specs.CostThrough.{cost_through, hour_after, least_between, output_cost, reserve_cost, run_cost}
 use Rattle.unit_runs.proofs.Costs.{least_between-reached}
-use Rattle.unit_exact.specs.inside.OutputCosts.{Hour, IsCostsOf, IsHourAt, IsHull, IsSizedHour, least_ending}
+use Rattle.unit_exact.specs.inside.Running.{least_ending}
 use Rattle.unit_exact.specs.inside.Problems.{Table, Thermal}
-use Rattle.unit_exact.proofs.Represented.{output-is, through}
+use Rattle.hull_function.proofs.Represented.{output-is, output-of}
+use Rattle.hull_function.specs.Hours.{IsCostsOf, IsHourAt, IsSizedHour}
+use Rattle.hull_function.specs.Hulls.{IsHull}
+use Rattle.hull_function.specs.declared.hour.Hour.{Hour}
+use Rattle.unit_exact.proofs.HourSteps.{none-after}
 use Rattle.unit_exact.proofs.RunSteps.{run-ends, through-last}
 
 -- the least at the end is one of the costs
@@ -65,18 +68,13 @@ module _ (table : Table) (unit : Thermal) (t : ℕ) (hull f : Steps) (hour : Hou
   hour-bound : (p v : ℤ) → hour_after table unit t hour.cap before p ≡ Some v
       → (least +ℤ (value_at hull output +ℤ hour.price *ℤ output -ℤ hour.worth *ℤ hour.cap +ℤ hour.fixed)) ≤ℤ v
   hour-bound p v e =
-      let behind : Option ℤ = least_between (p -ℤ unit.ru) (p +ℤ unit.rd) (λ q. total_of (before q) (Some (reserve_cost table unit t hour.cap q))) in
-      let found = through (is_output unit hour.cap p) (total_of (Some (output_cost table unit t p)) behind) v e in
-      let tests = and_parts (int_le (pos 0) p) (int_le p (int_min hour.cap (greatest_output unit.points))) found.0 in
-      let from = int_le-true (pos 0) p tests.0 in
-      let high = int_le-true p (int_min hour.cap (greatest_output unit.points)) tests.1 in
+      let own = output-of table unit t hour.cap (λ z. least_between (z -ℤ unit.ru) (z +ℤ unit.rd) (λ q. total_of (before q) (Some (reserve_cost table unit t hour.cap q)))) p v e in
+      let high = own.high in
       let wide = int_min_right hour.cap (greatest_output unit.points) in
-      let parts = total_of-parts (Some (output_cost table unit t p)) behind v found.1 in
-      let own : parts.first ≡ output_cost table unit t p = (let first = parts.first_is in cc) in
-      let less = output-bound p from (omega (arith, linear, high, wide)) in
-      let rest = behind-bound (p -ℤ unit.ru) (p +ℤ unit.rd) parts.second parts.second_is in
-      let total = parts.total in
-      omega (arith, linear, own, less, rest, total)
+      let less = output-bound p own.low (omega (arith, linear, high, wide)) in
+      let rest = behind-bound (p -ℤ unit.ru) (p +ℤ unit.rd) own.other own.is in
+      let total = own.total in
+      omega (arith, linear, less, rest, total)
 
   pub run-bound : (periods from : ℕ) (v : ℤ) → from ≤ t → hour.cap ≡ cell_cap periods unit t (t == from) true
       → before ≡ cost_through periods table unit from (suc (t - from)) (t - from)
@@ -98,12 +96,4 @@ run-none-alive periods table unit from t cap f v order is costs e =
     let before : ℤ → Option ℤ = cost_through periods table unit from (suc (t - from)) (t - from) in
     let ends = ap (least_ending periods unit (suc t)) (through-last periods table unit from t cap order is) ∙ run-ends periods table unit from t order ∙ e in
     let found = ending-reached periods (suc t) unit (hour_after table unit t cap before) v ends in
-    let p = found.0 in
-    let behind : Option ℤ = least_between (p -ℤ unit.ru) (p +ℤ unit.rd) (λ q. total_of (before q) (Some (reserve_cost table unit t cap q))) in
-    let inside = through (is_output unit cap p) (total_of (Some (output_cost table unit t p)) behind) v found.1 in
-    let parts = total_of-parts (Some (output_cost table unit t p)) behind v inside.1 in
-    let reached = least_between-reached (p -ℤ unit.ru) (p +ℤ unit.rd) (λ q. total_of (before q) (Some (reserve_cost table unit t cap q))) parts.second parts.second_is in
-    let q = reached.at in
-    let own = total_of-parts (before q) (Some (reserve_cost table unit t cap q)) parts.second reached.is in
-    let live = (costs.outside q own.first own.first_is).0 in
-    cc
+    absurd (true≢false (sym ((none-after f f before table unit t cap costs).outside found.0 v found.1).0))

@@ -1,13 +1,16 @@
 -- A run that goes on, hour by hour.
-use Rattle.std.proofs.Common.{◌≡◌, ℕ, zero, suc, ◌+◌, ◌-◌, ◌*◌, ◌<◌, ◌≤◌, ◌==◌, Bool, true, false, refl, sym, ap, subst, ◌∙◌, arith, ℤ, unsigned_abs, Option, Some}
+use Rattle.std.proofs.Common.{◌≡◌, ℕ, zero, suc, ◌+◌, ◌-◌, ◌*◌, ◌<◌, ◌≤◌, ◌==◌, Bool, true, false, refl, sym, ap, subst, ◌∙◌, arith, ℤ, Option}
 use Rattle.std.proofs.lemmas.Bool.{eq-eqb, eqb-true, eqb-false, ne_eqb}
 use Rattle.std.proofs.lemmas.Nat.{mul-le}
 use Rattle.uc_model.specs.Commitment.{cell_cap}
-use Rattle.step_functions.specs.Functions.{Steps, run_count, value_at}
+use Rattle.step_functions.specs.Functions.{Steps, run_count}
+use Rattle.hull_function.specs.Hulls.{IsBounded}
+use Rattle.hull_function.proofs.Represented.{copied, copy-bounded}
+use Rattle.hull_function.specs.Hours.{IsCostsOf, IsNear, MAX_HOUR}
 use Rattle.unit_runs.specs.CostThrough.{cost_through, hour_after, run_cost}
 use Rattle.unit_runs.specs.Runs.{hour_cap}
-use Rattle.unit_exact.specs.inside.OutputCosts.{IsBounded, IsCostsOf, IsNear, least_ending}
-use Rattle.unit_exact.specs.inside.Problems.{Table, Thermal, MAX_HOUR, MAX_SWITCH}
+use Rattle.unit_exact.specs.inside.Running.{least_ending}
+use Rattle.unit_exact.specs.inside.Problems.{Table, Thermal, MAX_SWITCH}
 
 -- the last hour alone is told from the others
 module _ (periods : ℕ) (table : Table) (unit : Thermal) (from : ℕ) where
@@ -91,38 +94,23 @@ spare-room n periods x count room l pieces enough =
     let spare : (periods + 2) * (x + 2) ≡ periods * (x + 2) + 2 * (x + 2) = omega arith in
     omega (arith, order, spare, pieces, enough)
 
--- ---- the same function in another room
-room-value : (f : Steps) (room : ℕ) (p : ℤ) → value_at (record f { room = room }) p ≡ value_at f p
-unfolding value_at
-room-value f room p = refl
-
--- a copy of costs in its own room
-pub record IsCopyOf (alive : Bool) (f : Steps) (copied : Bool) (g : Steps) : Type 0 where
+-- ---- a copy of costs in its own room
+pub record IsCopyOf (alive : Bool) (f : Steps) (same : Bool) (g : Steps) : Type 0 where
   pub room : ℕ
-  pub alive_is : copied ≡ alive
+  pub alive_is : same ≡ alive
   pub function_is : g ≡ record f { room = room }
 
-module _ (alive : Bool) (f : Steps) (copied : Bool) (g : Steps) (copy : IsCopyOf alive f copied g) where
-  pub copy-costs : (cost : ℤ → Option ℤ) → IsCostsOf alive f cost → IsCostsOf copied g cost
-  copy-costs cost is =
-      subst (λ b. IsCostsOf b g cost) (sym copy.alive_is) (subst (λ (h : Steps). IsCostsOf alive h cost) (sym copy.function_is) (record {
-        inside = λ live p place. is.inside live p (record { low = place.low; high = place.high }) ∙ ap Some (sym (room-value f copy.room p));
-        outside = λ p v e.
-            let own = is.outside p v e in
-            let place = own.1 in
-            (own.0, record { low = place.low; high = place.high });
-      }))
+module _ (alive : Bool) (f : Steps) (same : Bool) (g : Steps) (copy : IsCopyOf alive f same g) where
+  pub copy-costs : (cost : ℤ → Option ℤ) → IsCostsOf alive f cost → IsCostsOf same g cost
+  copy-costs cost is = subst (λ b. IsCostsOf b g cost) (sym copy.alive_is) (copied f g copy.room copy.function_is alive cost is)
 
-  pub copy-size : (size : ℕ) → (alive ≡ true → IsBounded f size) → copied ≡ true → IsBounded g size
-  copy-size size small live =
-      subst (λ (h : Steps). IsBounded h size) (sym copy.function_is)
-      (λ p place. subst (λ z. unsigned_abs z ≤ size) (sym (room-value f copy.room p))
-      (small (sym copy.alive_is ∙ live) p (record { low = place.low; high = place.high })))
+  pub copy-size : (size : ℕ) → (alive ≡ true → IsBounded f size) → same ≡ true → IsBounded g size
+  copy-size size small live = copy-bounded f g copy.room copy.function_is size (small (sym copy.alive_is ∙ live))
 
-  pub copy-near : (alive ≡ true → IsNear f) → copied ≡ true → IsNear g
+  pub copy-near : (alive ≡ true → IsNear 2 f) → same ≡ true → IsNear 2 g
   copy-near near live =
-      subst (λ (h : Steps). IsNear h) (sym copy.function_is)
-      (let own = near (sym copy.alive_is ∙ live) in record { first = own.first; last = own.last })
+      subst (λ (h : Steps). IsNear 2 h) (sym copy.function_is)
+      (λ p place. near (sym copy.alive_is ∙ live) p (record { low = place.low; high = place.high }))
 
   pub copy-pieces : run_count g ≡ run_count f
   copy-pieces = ap (λ (h : Steps). run_count h) copy.function_is

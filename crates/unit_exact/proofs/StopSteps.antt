@@ -19,7 +19,7 @@ use Rattle.unit_exact.specs.inside.Choices.{choice_cost, IsCostBelow, IsReached}
 use Rattle.unit_exact.specs.inside.Problems.{Table, Thermal}
 use Rattle.unit_exact.specs.inside.Switches.{AreSwitches, Switches, switch_total}
 use Rattle.unit_exact.proofs.HourSteps.{begun-costs}
-use Rattle.unit_exact.proofs.Represented.{least-is, through}
+use Rattle.hull_function.proofs.Represented.{least-is, through}
 use Rattle.unit_exact.proofs.Steps.{total-before}
 
 -- ---- a cost at one output alone

@@ -12,24 +12,25 @@ ghost use Rattle.dual_model.specs.Moves.{may_be_on};
 ghost use Rattle.dual_model.specs.Prices.{HasSizeOf, IsWithinLimits};
 ghost use Rattle.dual_model.specs.TableValue.{AreTermsOf};
 ghost use Rattle.dual_model.specs.UnitTerms.{AreSizedTerms};
+ghost use Rattle.hull_function.specs.Problems.{IsLawfulProblem, HasHull};
 ghost use Rattle.unit_runs.specs.Patterns.{IsValueByRuns};
 ghost use Rattle.unit_runs.specs.RunsToGo.{least_runs, whole_way};
 ghost use Rattle.unit_exact.specs.Hourly.{HasScheduleWithin};
 ghost use Rattle.unit_exact.specs.Sizes.{MAX_EXACT};
 ghost use Rattle.unit_exact.specs.inside.Choices.{value_of};
-ghost use Rattle.unit_exact.specs.inside.Problems.{IsLawful, MAX_WAY};
-ghost use Rattle.unit_exact.specs.inside.Running.{HasHull, HasRoom};
+ghost use Rattle.unit_exact.specs.inside.Problems.{MAX_WAY};
+ghost use Rattle.unit_exact.specs.inside.Running.{HasRoom};
 ghost use Rattle.unit_exact.specs.inside.Switches.{AreSwitches, IsLeastSwitch, IsTableFrom};
 
 use crate::choices::{Choice, Switches, UNKNOWN};
 use crate::hourly::{Plain, is_hourly};
-use crate::problem::Problem;
 use crate::runs::Runs;
 use crate::starts::next_start;
 use crate::stops::{after_start, first_stop};
 use crate::trace::pattern_of;
 use cost_curves::Curve;
 use dual_model::{Fix, Table};
+use hull_function::Problem;
 use std::alloc::Global;
 use std::marker::Model;
 use step_functions::ConvexFunction;
@@ -158,7 +159,7 @@ fn least_way(
     entries: &mut [Switches],
     problem: &Problem,
 ) -> Option<(i128, Pattern)>
-    requires lawful { IsLawful problem.now.periods problem.now.table.now problem.now.unit.now }
+    requires lawful { IsLawfulProblem problem.now.periods problem.now.table.now problem.now.unit.now }
     requires hull { HasHull problem.now.table.now problem.now.unit.now problem.now.hull.now }
     requires room { HasRoom problem.now.periods problem.now.hull.now runs.old }
     requires count { length entries.old ≡ problem.now.periods }
@@ -177,7 +178,7 @@ fn least_way(
 
 // Fills the table, from the last period to the first.
 fn fill(runs: &mut Runs, entries: &mut [Switches], problem: &Problem)
-    requires lawful { IsLawful problem.now.periods problem.now.table.now problem.now.unit.now }
+    requires lawful { IsLawfulProblem problem.now.periods problem.now.table.now problem.now.unit.now }
     requires hull { HasHull problem.now.table.now problem.now.unit.now problem.now.hull.now }
     requires room { HasRoom problem.now.periods problem.now.hull.now runs.old }
     requires count { length entries.old ≡ problem.now.periods }
@@ -193,7 +194,7 @@ fn fill(runs: &mut Runs, entries: &mut [Switches], problem: &Problem)
 
 // The least ways from a switch in period `t` on, from those in the later ones.
 fn switches(runs: &mut Runs, entries: &[Switches], problem: &Problem, t: usize) -> Switches
-    requires lawful { IsLawful problem.now.periods problem.now.table.now problem.now.unit.now }
+    requires lawful { IsLawfulProblem problem.now.periods problem.now.table.now problem.now.unit.now }
     requires hull { HasHull problem.now.table.now problem.now.unit.now problem.now.hull.now }
     requires room { HasRoom problem.now.periods problem.now.hull.now runs.old }
     requires period { t < problem.now.periods }
@@ -208,7 +209,7 @@ fn switches(runs: &mut Runs, entries: &[Switches], problem: &Problem, t: usize) 
 
 // The least way from a start in period `t` on, where the unit may be on in it.
 fn start_in(runs: &mut Runs, entries: &[Switches], problem: &Problem, t: usize) -> Option<Choice>
-    requires lawful { IsLawful problem.now.periods problem.now.table.now problem.now.unit.now }
+    requires lawful { IsLawfulProblem problem.now.periods problem.now.table.now problem.now.unit.now }
     requires hull { HasHull problem.now.table.now problem.now.unit.now problem.now.hull.now }
     requires room { HasRoom problem.now.periods problem.now.hull.now runs.old }
     requires period { t < problem.now.periods }
@@ -226,7 +227,7 @@ fn start_in(runs: &mut Runs, entries: &[Switches], problem: &Problem, t: usize) 
 
 // The least way from the initial state on, and where the unit is switched first on it.
 fn first_switch(runs: &mut Runs, entries: &[Switches], problem: &Problem) -> Option<Choice>
-    requires lawful { IsLawful problem.now.periods problem.now.table.now problem.now.unit.now }
+    requires lawful { IsLawfulProblem problem.now.periods problem.now.table.now problem.now.unit.now }
     requires hull { HasHull problem.now.table.now problem.now.unit.now problem.now.hull.now }
     requires room { HasRoom problem.now.periods problem.now.hull.now runs.old }
     requires table { IsTableFrom problem.now.periods problem.now.table.now problem.now.unit.now problem.now.fix.now 0 entries.now }

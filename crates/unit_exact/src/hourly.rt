@@ -7,16 +7,15 @@ ghost use Rattle.uc_model.specs.PatternBits.{commitment_of};
 ghost use Rattle.uc_model.specs.Terms.{period_count, term_at as term_of};
 ghost use Rattle.dual_model.specs.PatternValue.{is_followed as followed};
 ghost use Rattle.dual_model.specs.UnitTerms.{AreSizedTerms, MAX_TERM};
+ghost use Rattle.hull_function.specs.Hulls.{IsHullFunction};
+ghost use Rattle.hull_function.specs.Hours.{IsSizedHour};
+ghost use Rattle.hull_function.specs.Problems.{MAX_POWER, IsLawfulProblem, HasHull};
 ghost use Rattle.unit_runs.specs.Runs.{KeepsRamps};
 ghost use Rattle.unit_exact.specs.inside.Hourly.{IsBestIn, IsGivenAt, IsHourly};
-ghost use Rattle.unit_exact.specs.inside.OutputCosts.{IsHullFunction, IsSizedHour, MAX_POWER};
-ghost use Rattle.unit_exact.specs.inside.Problems.{IsLawful};
-ghost use Rattle.unit_exact.specs.inside.Running.{HasHull};
 
-use crate::hour::Hour;
 use crate::output_costs::cost;
-use crate::problem::Problem;
 use dual_model::Fix;
+use hull_function::{Hour, Problem};
 use step_functions::ConvexFunction;
 use uc_model::limits::MAX_PERIODS;
 use uc_model::terms::place;
@@ -40,7 +39,7 @@ pub(crate) struct Given {
 
 /// Whether what is best in each hour of the pattern by itself keeps the ramps, for no more than the hour's term.
 pub(crate) fn is_hourly(problem: &Problem, plain: &Plain) -> bool
-    requires lawful { IsLawful problem.now.periods problem.now.table.now problem.now.unit.now }
+    requires lawful { IsLawfulProblem problem.now.periods problem.now.table.now problem.now.unit.now }
     requires hull { HasHull problem.now.table.now problem.now.unit.now problem.now.hull.now }
     requires terms { period_count plain.now.terms.now ≡ problem.now.periods }
     requires sized { AreSizedTerms problem.now.unit.now plain.now.terms.now }
@@ -63,7 +62,7 @@ pub(crate) fn is_hourly(problem: &Problem, plain: &Plain) -> bool
 
 // What is best in period t; `None` where that costs more than the hour's term. An off period gives nothing.
 fn given_in(problem: &Problem, plain: &Plain, t: usize) -> Option<Given>
-    requires lawful { IsLawful problem.now.periods problem.now.table.now problem.now.unit.now }
+    requires lawful { IsLawfulProblem problem.now.periods problem.now.table.now problem.now.unit.now }
     requires hull { HasHull problem.now.table.now problem.now.unit.now problem.now.hull.now }
     requires terms { period_count plain.now.terms.now ≡ problem.now.periods }
     requires sized { AreSizedTerms problem.now.unit.now plain.now.terms.now }

@@ -3,10 +3,9 @@
 
 mod choices;
 mod exact;
-mod hour;
 mod hourly;
+mod moves;
 mod output_costs;
-mod problem;
 mod runs;
 mod starts;
 mod stops;

@@ -2,15 +2,16 @@
 
 ghost use Rattle.std.specs.Prelude.{◌≡◌, ℕ, ℤ, ◌-◌, ◌<◌, ◌≤◌, ◌≤ℤ◌, suc, true, Option, Some, IfOk, IfSome, unsigned_abs};
 ghost use Rattle.step_functions.specs.Functions.{run_count};
+ghost use Rattle.hull_function.specs.Hulls.{IsBounded};
+ghost use Rattle.hull_function.specs.Hours.{IsCostsOf};
+ghost use Rattle.hull_function.specs.Problems.{IsLawfulProblem, HasHull};
 ghost use Rattle.unit_runs.specs.CostThrough.{run_cost};
 ghost use Rattle.unit_exact.specs.inside.Choices.{IsCostBelow, IsReached};
-ghost use Rattle.unit_exact.specs.inside.OutputCosts.{IsBounded, IsCostsOf, least_ending};
-ghost use Rattle.unit_exact.specs.inside.Problems.{IsLawful, MAX_SWITCH};
-ghost use Rattle.unit_exact.specs.inside.Running.{HasHull, HasRoom, IsRunning};
+ghost use Rattle.unit_exact.specs.inside.Problems.{MAX_SWITCH};
+ghost use Rattle.unit_exact.specs.inside.Running.{HasRoom, IsRunning, least_ending};
 
-use crate::hour::Hour;
 use crate::output_costs::{OutputCosts, cost};
-use crate::problem::Problem;
+use hull_function::{Hour, Problem};
 use std::alloc::Global;
 use uc_model::NoMemory;
 use unit_runs::entry_output;
@@ -34,7 +35,7 @@ impl Runs {
 
     /// Begins a run in period `from`, without an hour yet.
     pub(crate) fn begin(&mut self, problem: &Problem, from: usize)
-        requires lawful { IsLawful problem.now.periods problem.now.table.now problem.now.unit.now }
+        requires lawful { IsLawfulProblem problem.now.periods problem.now.table.now problem.now.unit.now }
         requires room { HasRoom problem.now.periods problem.now.hull.now self.old }
         ensures { IsRunning problem.now.periods problem.now.table.now problem.now.unit.now problem.now.hull.now from 0 self.new }
     {
@@ -43,7 +44,7 @@ impl Runs {
 
     /// Adds the hour in period `t` to a run that goes on behind it.
     pub(crate) fn go_on(&mut self, problem: &Problem, from: usize, t: usize)
-        requires lawful { IsLawful problem.now.periods problem.now.table.now problem.now.unit.now }
+        requires lawful { IsLawfulProblem problem.now.periods problem.now.table.now problem.now.unit.now }
         requires hull { HasHull problem.now.table.now problem.now.unit.now problem.now.hull.now }
         requires order { from ≤ t }
         requires period { t < problem.now.periods }
@@ -51,12 +52,12 @@ impl Runs {
         ensures { IsRunning problem.now.periods problem.now.table.now problem.now.unit.now problem.now.hull.now from (suc (t - from)) self.new }
     {
         let hour = Hour::at(problem, t, t == from, false);
-        self.living.add_hour(problem.hull, &hour);
+        self.living.add_hour(problem, &hour);
     }
 
     /// The least cost of the run whose last hour is in period `t`; the run may go on as before.
     pub(crate) fn cost_to(&mut self, problem: &Problem, from: usize, t: usize) -> Option<i128>
-        requires lawful { IsLawful problem.now.periods problem.now.table.now problem.now.unit.now }
+        requires lawful { IsLawfulProblem problem.now.periods problem.now.table.now problem.now.unit.now }
         requires hull { HasHull problem.now.table.now problem.now.unit.now problem.now.hull.now }
         requires order { from ≤ t }
         requires period { t < problem.now.periods }
@@ -67,7 +68,7 @@ impl Runs {
     {
         let hour = Hour::at(problem, t, t == from, true);
         self.ending.copy_from(&self.living);
-        self.ending.add_hour(problem.hull, &hour);
+        self.ending.add_hour(problem, &hour);
         least_at_end(&mut self.ending, problem, t)
     }
 
@@ -79,7 +80,7 @@ impl Runs {
         t: usize,
         limit: &Option<i128>,
     ) -> Option<i128>
-        requires lawful { IsLawful problem.now.periods problem.now.table.now problem.now.unit.now }
+        requires lawful { IsLawfulProblem problem.now.periods problem.now.table.now problem.now.unit.now }
         requires hull { HasHull problem.now.table.now problem.now.unit.now problem.now.hull.now }
         requires order { from ≤ t }
         requires period { t < problem.now.periods }
@@ -97,7 +98,7 @@ impl Runs {
 
     // Whether it is plain that no run whose last hour is in period `t` costs less than the limit.
     fn reaches(&self, problem: &Problem, from: usize, t: usize, limit: &Option<i128>) -> bool
-        requires lawful { IsLawful problem.now.periods problem.now.table.now problem.now.unit.now }
+        requires lawful { IsLawfulProblem problem.now.periods problem.now.table.now problem.now.unit.now }
         requires hull { HasHull problem.now.table.now problem.now.unit.now problem.now.hull.now }
         requires order { from ≤ t }
         requires period { t < problem.now.periods }
@@ -112,7 +113,7 @@ impl Runs {
 
     // The same of a limit that is there.
     fn costs_at_least(&self, problem: &Problem, from: usize, t: usize, limit: i128) -> bool
-        requires lawful { IsLawful problem.now.periods problem.now.table.now problem.now.unit.now }
+        requires lawful { IsLawfulProblem problem.now.periods problem.now.table.now problem.now.unit.now }
         requires hull { HasHull problem.now.table.now problem.now.unit.now problem.now.hull.now }
         requires order { from ≤ t }
         requires period { t < problem.now.periods }
@@ -128,7 +129,7 @@ impl Runs {
     // A cost that no run whose last hour is in period `t` is below: the hours before at their least, and that hour at its own
     // least, with all the room that is left as reserve.
     fn bound_to(&self, problem: &Problem, from: usize, t: usize) -> i128
-        requires lawful { IsLawful problem.now.periods problem.now.table.now problem.now.unit.now }
+        requires lawful { IsLawfulProblem problem.now.periods problem.now.table.now problem.now.unit.now }
         requires hull { HasHull problem.now.table.now problem.now.unit.now problem.now.hull.now }
         requires order { from ≤ t }
         requires period { t < problem.now.periods }
@@ -146,7 +147,7 @@ impl Runs {
 // The least of the costs of a run whose last hour is in period `t`: before a stop in the horizon the output can fall to
 // nothing.
 fn least_at_end(costs: &mut OutputCosts, problem: &Problem, t: usize) -> Option<i128>
-    requires lawful { IsLawful problem.now.periods problem.now.table.now problem.now.unit.now }
+    requires lawful { IsLawfulProblem problem.now.periods problem.now.table.now problem.now.unit.now }
     requires hull { HasHull problem.now.table.now problem.now.unit.now problem.now.hull.now }
     requires period { t < problem.now.periods }
     requires room { run_count costs.old.function < costs.old.function.room }

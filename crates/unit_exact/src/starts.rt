@@ -3,17 +3,19 @@
 ghost use Rattle.std.specs.Prelude.{◌≡◌, ◌-◌, ◌≤◌, ◌<◌, ◌*ℤ◌, false, IfSome, unsigned_abs};
 ghost use Rattle.uc_model.specs.StartCategory.{sigma as least_cost};
 ghost use Rattle.dual_model.specs.Moves.{stop_since};
-ghost use Rattle.unit_exact.specs.inside.Problems.{IsLawful, MAX_SWITCH};
+ghost use Rattle.hull_function.specs.Problems.{IsLawfulProblem};
+ghost use Rattle.unit_exact.specs.inside.Problems.{MAX_SWITCH};
 ghost use Rattle.unit_exact.specs.inside.Switches.{AreSwitches, IsLeastSwitch, IsTableFrom, IsWithinSwitches, switch_total};
 
 use crate::choices::{Choice, Switches, better, with_choice};
-use crate::problem::Problem;
+use crate::moves::{may_start, may_stay_off};
+use hull_function::Problem;
 use start_costs::sigma;
 use uc_model::scaled;
 
 /// The least way of a unit that is off since `since`, before period `since`: in which period it starts next.
 pub(crate) fn next_start(entries: &[Switches], problem: &Problem, since: usize) -> Option<Choice>
-    requires lawful { IsLawful problem.now.periods problem.now.table.now problem.now.unit.now }
+    requires lawful { IsLawfulProblem problem.now.periods problem.now.table.now problem.now.unit.now }
     requires past { since ≤ problem.now.periods }
     requires later { IsTableFrom problem.now.periods problem.now.table.now problem.now.unit.now problem.now.fix.now since entries.now }
     ensures { IsLeastSwitch problem.now.periods problem.now.table.now problem.now.unit.now problem.now.fix.now since false since result }
@@ -22,7 +24,7 @@ pub(crate) fn next_start(entries: &[Switches], problem: &Problem, since: usize) 
     let mut best = None;
     for t in since..problem.periods {
         best = better(best, start_total(&entries[t], problem, since, t), t);
-        if !problem.may_stay_off(t) {
+        if !may_stay_off(problem, t) {
             return best;
         }
     }
@@ -31,14 +33,14 @@ pub(crate) fn next_start(entries: &[Switches], problem: &Problem, since: usize) 
 
 // What a start in period t costs with all that follows, of a unit that is off since `since`.
 fn start_total(entry: &Switches, problem: &Problem, since: usize, t: usize) -> Option<i128>
-    requires lawful { IsLawful problem.now.periods problem.now.table.now problem.now.unit.now }
+    requires lawful { IsLawfulProblem problem.now.periods problem.now.table.now problem.now.unit.now }
     requires past { since ≤ t }
     requires period { t < problem.now.periods }
     requires entry { AreSwitches problem.now.periods problem.now.table.now problem.now.unit.now problem.now.fix.now t entry.now }
     ensures total { result ≡ switch_total problem.now.periods problem.now.table.now problem.now.unit.now problem.now.fix.now t false since }
     ensures size { IfSome result (IsWithinSwitches (problem.now.periods - t)) }
 {
-    if !problem.may_start(since, t) {
+    if !may_start(problem, since, t) {
         return None;
     }
     with_choice(start_cost(problem, since, t), &entry.start)
@@ -46,7 +48,7 @@ fn start_total(entry: &Switches, problem: &Problem, since: usize, t: usize) -> O
 
 // K times the least cost of a start in period t, of a unit that is off since `since`.
 fn start_cost(problem: &Problem, since: usize, t: usize) -> i128
-    requires lawful { IsLawful problem.now.periods problem.now.table.now problem.now.unit.now }
+    requires lawful { IsLawfulProblem problem.now.periods problem.now.table.now problem.now.unit.now }
     requires period { t < problem.now.periods }
     ensures value { result ≡ problem.now.table.now.k *ℤ least_cost problem.now.unit.now (stop_since since) t }
     ensures size { unsigned_abs result ≤ MAX_SWITCH }

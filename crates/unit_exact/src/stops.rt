@@ -1,15 +1,16 @@
 //! The least way of a unit that is on: the run of on hours, extended hour by hour, and where it ends.
 
 ghost use Rattle.std.specs.Prelude.{◌≡◌, ◌-◌, ◌<◌, ◌≤◌, suc, true, IfSome};
+ghost use Rattle.hull_function.specs.Problems.{IsLawfulProblem, HasHull};
 ghost use Rattle.unit_runs.specs.RunsToGo.{run_from};
 ghost use Rattle.unit_exact.specs.inside.Choices.{choice_cost, IsCostBelow};
-ghost use Rattle.unit_exact.specs.inside.Problems.{IsLawful};
-ghost use Rattle.unit_exact.specs.inside.Running.{HasHull, HasRoom, IsRunning};
+ghost use Rattle.unit_exact.specs.inside.Running.{HasRoom, IsRunning};
 ghost use Rattle.unit_exact.specs.inside.Switches.{AreSwitches, IsBestTo, IsLeastSwitch, IsTableFrom, IsWithinSwitches, switch_total};
 
 use crate::choices::{Choice, Switches, better, cost_of, limit_before, with_choice};
-use crate::problem::Problem;
+use crate::moves::{may_stay_on, may_stop};
 use crate::runs::Runs;
+use hull_function::Problem;
 use unit_runs::entry_output;
 
 /// The least way of a unit that starts in period `from`: in which period it stops next.
@@ -19,7 +20,7 @@ pub(crate) fn after_start(
     problem: &Problem,
     from: usize,
 ) -> Option<Choice>
-    requires lawful { IsLawful problem.now.periods problem.now.table.now problem.now.unit.now }
+    requires lawful { IsLawfulProblem problem.now.periods problem.now.table.now problem.now.unit.now }
     requires hull { HasHull problem.now.table.now problem.now.unit.now problem.now.hull.now }
     requires room { HasRoom problem.now.periods problem.now.hull.now runs.old }
     requires period { from < problem.now.periods }
@@ -33,7 +34,7 @@ pub(crate) fn after_start(
 
 /// The least way of a unit that is on before the first period: in which period it stops first.
 pub(crate) fn first_stop(runs: &mut Runs, entries: &[Switches], problem: &Problem) -> Option<Choice>
-    requires lawful { IsLawful problem.now.periods problem.now.table.now problem.now.unit.now }
+    requires lawful { IsLawfulProblem problem.now.periods problem.now.table.now problem.now.unit.now }
     requires hull { HasHull problem.now.table.now problem.now.unit.now problem.now.hull.now }
     requires room { HasRoom problem.now.periods problem.now.hull.now runs.old }
     requires table { IsTableFrom problem.now.periods problem.now.table.now problem.now.unit.now problem.now.fix.now 0 entries.now }
@@ -41,7 +42,7 @@ pub(crate) fn first_stop(runs: &mut Runs, entries: &[Switches], problem: &Proble
     ensures least { IsLeastSwitch problem.now.periods problem.now.table.now problem.now.unit.now problem.now.fix.now 0 true 0 result }
 {
     let known = better(None, stop_at_once(entries, problem), 0);
-    if !problem.may_stay_on(0) {
+    if !may_stay_on(problem, 0) {
         return known;
     }
     runs.begin(problem, 0);
@@ -50,13 +51,13 @@ pub(crate) fn first_stop(runs: &mut Runs, entries: &[Switches], problem: &Proble
 
 // What a stop in the first period costs with all that follows.
 fn stop_at_once(entries: &[Switches], problem: &Problem) -> Option<i128>
-    requires lawful { IsLawful problem.now.periods problem.now.table.now problem.now.unit.now }
+    requires lawful { IsLawfulProblem problem.now.periods problem.now.table.now problem.now.unit.now }
     requires table { IsTableFrom problem.now.periods problem.now.table.now problem.now.unit.now problem.now.fix.now 0 entries.now }
     ensures total { result ≡ switch_total problem.now.periods problem.now.table.now problem.now.unit.now problem.now.fix.now 0 true 0 }
     ensures size { IfSome result (IsWithinSwitches problem.now.periods) }
 {
     let before = entry_output(problem.unit, 0);
-    if !problem.may_stop(0, 0) || before < -problem.unit.ru || before > problem.unit.rd {
+    if !may_stop(problem, 0, 0) || before < -problem.unit.ru || before > problem.unit.rd {
         return None;
     }
     with_choice(0, &entries[0].stop)
@@ -70,7 +71,7 @@ fn later_stop(
     since: usize,
     known: Option<Choice>,
 ) -> Option<Choice>
-    requires lawful { IsLawful problem.now.periods problem.now.table.now problem.now.unit.now }
+    requires lawful { IsLawfulProblem problem.now.periods problem.now.table.now problem.now.unit.now }
     requires hull { HasHull problem.now.table.now problem.now.unit.now problem.now.hull.now }
     requires past { run_from since < problem.now.periods }
     requires running { IsRunning problem.now.periods problem.now.table.now problem.now.unit.now problem.now.hull.now (run_from since) 0 runs.old }
@@ -86,7 +87,7 @@ fn later_stop(
     for t in from..last {
         let total = stop_total(runs, &entries[t + 1], problem, &best, since, t);
         best = better(best, total, t + 1);
-        if !problem.may_stay_on(t + 1) {
+        if !may_stay_on(problem, t + 1) {
             return best;
         }
         runs.go_on(problem, from, t);
@@ -112,7 +113,7 @@ fn stop_total(
     since: usize,
     t: usize,
 ) -> Option<i128>
-    requires lawful { IsLawful problem.now.periods problem.now.table.now problem.now.unit.now }
+    requires lawful { IsLawfulProblem problem.now.periods problem.now.table.now problem.now.unit.now }
     requires hull { HasHull problem.now.table.now problem.now.unit.now problem.now.hull.now }
     requires past { since ≤ suc t }
     requires order { run_from since ≤ t }
@@ -125,7 +126,7 @@ fn stop_total(
         (switch_total problem.now.periods problem.now.table.now problem.now.unit.now problem.now.fix.now (suc t) true since) result }
     ensures size { IfSome result (IsWithinSwitches (problem.now.periods - suc t)) }
 {
-    if !problem.may_stop(since, t + 1) {
+    if !may_stop(problem, since, t + 1) {
         return None;
     }
     match runs.cost_below(

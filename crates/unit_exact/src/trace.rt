@@ -2,18 +2,18 @@
 
 ghost use Rattle.std.specs.Prelude.{◌≡◌, ◌≢◌, ℕ, ◌<◌, ◌≤◌, Some, false, not, if◌then◌else◌};
 ghost use Rattle.uc_model.specs.PatternBits.{commitment_of};
+ghost use Rattle.hull_function.specs.Problems.{IsLawfulProblem};
 ghost use Rattle.unit_runs.specs.RunsToGo.{whole_way};
-ghost use Rattle.unit_exact.specs.inside.Problems.{IsLawful};
 ghost use Rattle.unit_exact.specs.inside.Switches.{IsPlan, IsTableFrom, next_after};
 
 use crate::choices::{Choice, Switches};
-use crate::problem::Problem;
+use hull_function::Problem;
 use uc_model::Pattern;
 use uc_model::limits::MAX_PERIODS;
 
 /// The pattern of the way on which the unit is switched first as `first` says, from its initial state on.
 pub(crate) fn pattern_of(entries: &[Switches], problem: &Problem, first: &Choice) -> Pattern
-    requires lawful { IsLawful problem.now.periods problem.now.table.now problem.now.unit.now }
+    requires lawful { IsLawfulProblem problem.now.periods problem.now.table.now problem.now.unit.now }
     requires table { IsTableFrom problem.now.periods problem.now.table.now problem.now.unit.now problem.now.fix.now 0 entries.now }
     requires first { IsPlan problem.now.periods problem.now.table.now problem.now.unit.now problem.now.fix.now 0 problem.now.unit.now.on0 0 first.now }
     ensures way { whole_way problem.now.periods problem.now.table.now problem.now.unit.now problem.now.fix.now (commitment_of result) ≡ Some first.now.cost }

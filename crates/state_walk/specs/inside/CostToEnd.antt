@@ -8,7 +8,8 @@ use Rattle.std.specs.Prelude.{ℕ, zero, suc, Bool, false, ◌&&◌, ◌==◌, n
 use Rattle.dual_model.specs.CostToGo.{total_of}
 use Rattle.dual_model.specs.ExactValue.{greatest_output}
 use Rattle.uc_model.specs.Commitment.{cell_cap}
-use Rattle.unit_runs.specs.CostThrough.{is_output, least_between, output_cost, reserve_cost}
+use Rattle.unit_runs.specs.CostThrough.{least_between, reserve_cost}
+use Rattle.hull_function.specs.Hours.{with_output}
 pub use Rattle.unit_runs.specs.Runs.{Table, Thermal}
 
 -- an output from one to another
@@ -22,11 +23,8 @@ lowest_end periods unit t = if nat_lt t periods then neg_ℤ unit.ru else pos 0
 abbrev pub highest_end : ℕ → Thermal → ℕ → ℤ
 highest_end periods unit t = if nat_lt t periods then unit.rd else greatest_output unit.points
 
--- what hours cost that begin with one in period t, of this cap, by the output in it; `behind` is what the later ones cost
-abbrev pub hours_from : Table → Thermal → ℕ → ℤ → (ℤ → Option ℤ) → ℤ → Option ℤ
-hours_from table unit t cap behind p = if is_output unit cap p then total_of (Some (output_cost table unit t p)) (behind p) else None
-
--- and by the output before them: the least within the ramps, with what the most reserve earns in the first of them
+-- what hours cost by the output before them, of which the first is in period t and has this cap: the least within the ramps,
+-- with what the most reserve earns in that hour; `hours` is what they cost by its output
 abbrev pub hours_after : Table → Thermal → ℕ → ℤ → (ℤ → Option ℤ) → ℤ → Option ℤ
 hours_after table unit t cap hours q =
     total_of (least_between (q -ℤ unit.rd) (q +ℤ unit.ru) hours) (Some (reserve_cost table unit t cap q))
@@ -37,4 +35,4 @@ cost_to_end periods table unit zero t first q =
     if is_between (lowest_end periods unit t) (highest_end periods unit t) q then Some (pos 0) else None
 cost_to_end periods table unit (suc n) t first q =
     hours_after table unit t (cell_cap periods unit t first (n == 0))
-    (hours_from table unit t (cell_cap periods unit t first (n == 0)) (cost_to_end periods table unit n (suc t) false)) q
+    (with_output table unit t (cell_cap periods unit t first (n == 0)) (cost_to_end periods table unit n (suc t) false)) q

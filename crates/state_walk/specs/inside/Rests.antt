@@ -1,24 +1,12 @@
 -- What is left of a run, by the output before it, as a convex function.
-use Rattle.std.specs.Prelude.{◌≡◌, ℕ, suc, ◌+◌, ◌*◌, ◌^◌, ◌≤◌, Bool, true, false, ◌==◌, ℤ, unsigned_abs, Option, Some}
+use Rattle.std.specs.Prelude.{ℕ, suc, ◌+◌, ◌*◌, ◌≤◌, false, ◌==◌}
 use Rattle.uc_model.specs.Commitment.{cell_cap}
-use Rattle.step_functions.specs.Functions.{IsPlace, run_count, value_at}
-use Rattle.state_walk.specs.inside.CostToEnd.{cost_to_end, hours_from}
-use Rattle.state_walk.specs.inside.Problems.{Steps, Table, Thermal, MAX_POWER}
+use Rattle.step_functions.specs.Functions.{run_count}
+use Rattle.hull_function.specs.Hours.{IsCostsOf, with_output}
+use Rattle.state_walk.specs.inside.CostToEnd.{cost_to_end}
+use Rattle.state_walk.specs.inside.Problems.{Steps, Table, Thermal}
 pub use Rattle.state_walk.specs.declared.rest.Rest.{Rest}
 pub use Rattle.state_walk.specs.declared.endings.Endings.{Endings}
-
--- the function gives these costs where it is defined, and there are none elsewhere; where it isn't alive there is none at all
-pub record IsCostsOf (alive : Bool) (f : Steps) (cost : ℤ → Option ℤ) : Type 0 where
-  pub inside : alive ≡ true → (p : ℤ) → IsPlace f p → cost p ≡ Some (value_at f p)
-  pub outside : (p v : ℤ) → cost p ≡ Some v → (alive ≡ true) × IsPlace f p
-
--- its places are at most so many times the greatest power
-abbrev pub IsNear : ℕ → Steps → Type 0
-IsNear times f = (p : ℤ) → IsPlace f p → unsigned_abs p ≤ times * MAX_POWER
-
--- the hours of a run cost at most this in size
-abbrev pub MAX_RUN : ℕ
-MAX_RUN = 169 * 10 ^ 29
 
 -- room for a function over as many hours as there are periods, of a unit with this hull
 abbrev pub HasRoom : ℕ → Steps → Steps → Type 0
@@ -37,6 +25,6 @@ pub record IsRest (periods : ℕ) (table : Table) (unit : Thermal) (hull : Steps
 -- and those of the hour in period t and the n behind it, by the output in it
 pub record IsHoursFrom (periods : ℕ) (table : Table) (unit : Thermal) (hull : Steps) (n t : ℕ) (rest : Rest) : Type 0 where
   pub costs : IsCostsOf rest.alive rest.function
-      (hours_from table unit t (cell_cap periods unit t false (n == 0)) (cost_to_end periods table unit n (suc t) false))
+      (with_output table unit t (cell_cap periods unit t false (n == 0)) (cost_to_end periods table unit n (suc t) false))
   pub pieces : run_count rest.function ≤ suc n * (hull.room + 2) + hull.room
   pub room : HasRoom periods hull rest.function

@@ -9,7 +9,9 @@ use Rattle.dual_model.specs.PatternValue.{is_followed}
 use Rattle.dual_model.specs.Prices.{pi_at, mu_at}
 use Rattle.step_functions.specs.Functions.{IsPlace, value_at}
 use Rattle.unit_runs.specs.Runs.{KeepsRamps}
-use Rattle.unit_exact.specs.inside.OutputCosts.{Hour, Steps, MAX_POWER}
+use Rattle.hull_function.specs.Hulls.{Steps}
+use Rattle.hull_function.specs.Problems.{MAX_POWER}
+use Rattle.hull_function.specs.declared.hour.Hour.{Hour}
 use Rattle.unit_exact.specs.inside.Problems.{Table, Thermal}
 pub use Rattle.unit_exact.specs.declared.hourly.Given.{Given}
 

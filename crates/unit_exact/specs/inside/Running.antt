@@ -1,15 +1,18 @@
 -- The state of a run that goes on: its function gives the costs of its hours so far by the last output.
-use Rattle.std.specs.Prelude.{◌≡◌, ℕ, suc, ◌+◌, ◌*◌, ◌≤◌, true}
+use Rattle.std.specs.Prelude.{◌≡◌, ℕ, suc, ◌+◌, ◌*◌, ◌≤◌, true, ℤ, pos, neg_ℤ, nat_lt, Option, if◌then◌else◌}
+use Rattle.dual_model.specs.ExactValue.{greatest_output}
 use Rattle.step_functions.specs.Functions.{run_count}
-use Rattle.unit_runs.specs.CostThrough.{cost_through}
-use Rattle.unit_exact.specs.inside.OutputCosts.{Steps, IsBounded, IsCostsOf, IsHull, IsNear}
-use Rattle.unit_exact.specs.inside.Problems.{Table, Thermal, MAX_HOUR}
+use Rattle.hull_function.specs.Hours.{IsCostsOf, IsNear, MAX_HOUR}
+use Rattle.hull_function.specs.Hulls.{Steps, IsBounded}
+use Rattle.unit_runs.specs.CostThrough.{cost_through, least_between}
+use Rattle.unit_exact.specs.inside.Problems.{Table, Thermal}
 pub use Rattle.unit_exact.specs.declared.runs.Runs.{Runs}
 
--- L on the unit's points, of no more runs than there is room for
-pub record HasHull (table : Table) (unit : Thermal) (hull : Steps) : Type 0 where
-  pub function : IsHull unit.points table.k hull
-  pub pieces : run_count hull ≤ hull.room
+-- the least of the costs by the output before period t of a run that ends there: before a stop in the horizon the output can
+-- fall to nothing
+abbrev pub least_ending : ℕ → Thermal → ℕ → (ℤ → Option ℤ) → Option ℤ
+least_ending periods unit t cost =
+    if nat_lt t periods then least_between (neg_ℤ unit.ru) unit.rd cost else least_between (pos 0) (greatest_output unit.points) cost
 
 -- room for as many hours as there are periods, of a unit of this hull
 pub record HasRoom (periods : ℕ) (hull : Steps) (runs : Runs) : Type 0 where
@@ -21,5 +24,5 @@ pub record IsRunning (periods : ℕ) (table : Table) (unit : Thermal) (hull : St
   pub room : HasRoom periods hull runs
   pub costs : IsCostsOf runs.living.alive runs.living.function (cost_through periods table unit from (suc n) n)
   pub size : runs.living.alive ≡ true → IsBounded runs.living.function (MAX_HOUR * n)
-  pub near : runs.living.alive ≡ true → IsNear runs.living.function
+  pub near : runs.living.alive ≡ true → IsNear 2 runs.living.function
   pub pieces : run_count runs.living.function ≤ n * (hull.room + 2)

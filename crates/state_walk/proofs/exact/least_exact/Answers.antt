@@ -5,14 +5,17 @@ use Rattle.std.proofs.lemmas.Int.{ints}
 use Rattle.cost_curves.specs.LowerHull.{IsLowerHull}
 use Rattle.step_functions.specs.Functions.{run_count}
 use Rattle.hull_function.specs.Hulls.{IsHull, IsScale, Point}
-use Rattle.uc_model.specs.Limits.{IsLawfulInstance, IsLawfulThermal}
+use Rattle.uc_model.specs.Limits.{IsLawfulInstance}
 use Rattle.uc_model.specs.Schedule.{thermal_count, thermal_unit}
 use Rattle.dual_model.specs.Prices.{HasSizeOf, IsWithinLimits}
+use Rattle.hull_function.proofs.Units.{lawful-problem, scale-of, unit-read}
+use Rattle.hull_function.specs.Problems.{IsLawfulProblem}
 use Rattle.unit_runs.specs.Patterns.{Instance}
 use Rattle.state_walk.specs.Sizes.{Size}
 use Rattle.state_walk.specs.inside.Problems.{IsLawful, Steps, Table, Thermal}
-use Rattle.state_walk.proofs.ExactValues.{exact-size, exact-value, prices-of, scale-of, unit-read}
+use Rattle.state_walk.proofs.ExactValues.{exact-size, exact-value}
 use Rattle.state_walk.proofs.exact.least_exact.Goals as goal
+use Rattle.state_walk.proofs.exact.least_exact.Goals.{After-fill}
 
 -- the scale as its bits
 scale-is : (k r : ℤ) → IsScale k → r ≡ k → to_z w64 (of_z w64 r) ≡ k
@@ -29,11 +32,11 @@ problem-of : (instance : Instance) (table : Table) (g : ℕ) (unit : Thermal) (p
 problem-of instance table g unit points k hull room lawful known size limits unit_is points_is scale is pieces room_is enough =
     let count = ap (λ (xs : List Point). length xs) (points_is ∙ ap (λ (u : Thermal). u.points) unit_is) in
     record {
-      periods_are = lawful.periods;
-      unit_is = subst (λ (u : Thermal). IsLawfulThermal u) (sym unit_is) (lawful.thermal g known);
-      prices = prices-of instance table size limits;
-      hull_is = subst (λ (xs : List Point). IsHull xs table.k hull) points_is (subst (λ z. IsHull points z hull) scale is);
-      pieces = omega (arith, count, pieces, room_is, enough);
+      problem = subst (λ (u : Thermal). IsLawfulProblem instance.periods table u) (sym unit_is) (lawful-problem instance table g lawful known size limits);
+      hull_is = record {
+        function = subst (λ (xs : List Point). IsHull xs table.k hull) points_is (subst (λ z. IsHull points z hull) scale is);
+        pieces = omega (arith, count, pieces, room_is, enough);
+      };
     }
 
 pub fill-requires-clause-scale : goal.fill-requires-clause-scale
@@ -47,8 +50,9 @@ fill-requires-clause-curve c =
     let unit = unit-read instance c.as_slice.result.now c.args.g c.index-as_slice-g.result c.as_slice.ensures c.requires.unit c.index-as_slice-g.is in
     subst (λ (points : List Point). IsLowerHull points c.args.curve.now) (sym (c.as_slice-2.ensures ∙ ap (λ (u : Thermal). u.points) unit)) c.requires.curve
 
-pub least_cost-requires-clause-lawful : goal.least_cost-requires-clause-lawful
-least_cost-requires-clause-lawful c =
+-- as it is after L was made
+made : (c : After-fill) → IsLawful c.args.instance.now.periods c.args.table.now c.index-as_slice-g.result c.fill.new.function
+made c =
     let instance = c.args.instance.now in
     let table = c.args.table.now in
     let unit = unit-read instance c.as_slice.result.now c.args.g c.index-as_slice-g.result c.as_slice.ensures c.requires.unit c.index-as_slice-g.is in
@@ -57,26 +61,17 @@ least_cost-requires-clause-lawful c =
     c.requires.lawful c.requires.unit c.requires.table c.requires.limits unit c.as_slice-2.ensures scale c.fill.ensures.hull c.fill.ensures.pieces
     (c.fill.ensures.room ∙ ap (λ (s : Size). s.points) c.walk.view_is) c.requires.points
 
+pub least_cost-requires-clause-lawful : goal.least_cost-requires-clause-lawful
+least_cost-requires-clause-lawful c = made (goal.at.least_cost-requires-clause-lawful c).After-fill
+
 pub returns-clause-value : goal.returns-clause-value
 returns-clause-value c =
-    let instance = c.args.instance.now in
-    let table = c.args.table.now in
-    let unit = unit-read instance c.as_slice.result.now c.args.g c.index-as_slice-g.result c.as_slice.ensures c.requires.unit c.index-as_slice-g.is in
-    let scale = scale-is table.k c.k.result (scale-of instance table c.requires.table c.requires.limits) c.k.ensures in
-    exact-value instance table c.args.g c.args.fix.now c.index-as_slice-g.result c.fill.new.function c.requires.lawful c.requires.unit unit
-    (problem-of instance table c.args.g c.index-as_slice-g.result c.as_slice-2.result.now (to_z w64 (of_z w64 c.k.result)) c.fill.new.function c.args.walk.now.points
-    c.requires.lawful c.requires.unit c.requires.table c.requires.limits unit c.as_slice-2.ensures scale c.fill.ensures.hull c.fill.ensures.pieces
-    (c.fill.ensures.room ∙ ap (λ (s : Size). s.points) c.walk.view_is) c.requires.points)
-    c.least_cost.result c.least_cost.ensures.least
+    exact-value c.args.instance.now c.args.table.now c.args.g c.args.fix.now c.index-as_slice-g.result c.fill.new.function c.requires.lawful c.requires.unit
+    (unit-read c.args.instance.now c.as_slice.result.now c.args.g c.index-as_slice-g.result c.as_slice.ensures c.requires.unit c.index-as_slice-g.is)
+    (made (goal.at.returns-clause-value c).After-fill) c.least_cost.result c.least_cost.ensures.least
 
 pub returns-clause-size : goal.returns-clause-size
 returns-clause-size c =
-    let instance = c.args.instance.now in
-    let table = c.args.table.now in
-    let unit = unit-read instance c.as_slice.result.now c.args.g c.index-as_slice-g.result c.as_slice.ensures c.requires.unit c.index-as_slice-g.is in
-    let scale = scale-is table.k c.k.result (scale-of instance table c.requires.table c.requires.limits) c.k.ensures in
-    exact-size instance table c.args.g c.args.fix.now c.index-as_slice-g.result c.fill.new.function c.requires.lawful c.requires.unit unit
-    (problem-of instance table c.args.g c.index-as_slice-g.result c.as_slice-2.result.now (to_z w64 (of_z w64 c.k.result)) c.fill.new.function c.args.walk.now.points
-    c.requires.lawful c.requires.unit c.requires.table c.requires.limits unit c.as_slice-2.ensures scale c.fill.ensures.hull c.fill.ensures.pieces
-    (c.fill.ensures.room ∙ ap (λ (s : Size). s.points) c.walk.view_is) c.requires.points)
-    c.least_cost.result c.least_cost.ensures.least
+    exact-size c.args.instance.now c.args.table.now c.args.g c.args.fix.now c.index-as_slice-g.result c.fill.new.function c.requires.lawful c.requires.unit
+    (unit-read c.args.instance.now c.as_slice.result.now c.args.g c.index-as_slice-g.result c.as_slice.ensures c.requires.unit c.index-as_slice-g.is)
+    (made (goal.at.returns-clause-size c).After-fill) c.least_cost.result c.least_cost.ensures.least

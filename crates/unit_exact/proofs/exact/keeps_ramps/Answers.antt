@@ -2,10 +2,11 @@
 use Rattle.std.proofs.Common.{sym, subst}
 use Rattle.uc_model.specs.PatternBits.{commitment_of}
 use Rattle.uc_model.specs.Schedule.{thermal_unit}
+use Rattle.hull_function.specs.Problems.{IsLawfulProblem}
+use Rattle.hull_function.proofs.Units.{lawful-problem, unit-read}
 use Rattle.unit_runs.proofs.Joined.{greatest_nonneg}
 use Rattle.unit_exact.specs.inside.Hourly.{IsHourly}
-use Rattle.unit_exact.specs.inside.Problems.{IsLawful, Thermal}
-use Rattle.unit_exact.proofs.Found.{lawful-problem, unit-read}
+use Rattle.unit_exact.specs.inside.Problems.{Thermal}
 use Rattle.unit_exact.proofs.HourlySteps.{hourly-within}
 use Rattle.unit_exact.proofs.exact.keeps_ramps.Goals as goal
 
@@ -14,7 +15,7 @@ is_hourly-requires-clause-lawful c =
     let instance = c.args.instance.now in
     let table = c.args.table.now in
     let unit = unit-read instance c.as_slice.result.now c.args.g c.index-as_slice-g.result c.as_slice.ensures c.requires.unit c.index-as_slice-g.is in
-    subst (λ (u : Thermal). IsLawful instance.periods table u) (sym unit) (lawful-problem instance table c.args.g c.requires.lawful c.requires.unit c.requires.table c.requires.limits)
+    subst (λ (u : Thermal). IsLawfulProblem instance.periods table u) (sym unit) (lawful-problem instance table c.args.g c.requires.lawful c.requires.unit c.requires.table c.requires.limits)
 
 pub returns-clause-within : goal.returns-clause-within
 returns-clause-within c = λ node pattern kept.

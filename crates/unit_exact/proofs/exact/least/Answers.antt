@@ -5,62 +5,55 @@ use Rattle.std.proofs.lemmas.Int.{ints}
 use Rattle.std.proofs.lemmas.Option.{IfSome_then}
 use Rattle.uc_model.specs.PatternBits.{commitment_of}
 use Rattle.uc_model.specs.Schedule.{thermal_unit}
-use Rattle.unit_exact.specs.inside.OutputCosts.{IsHull}
-use Rattle.unit_exact.specs.inside.Problems.{IsLawful, Thermal}
+use Rattle.hull_function.specs.Hulls.{IsHull}
+use Rattle.hull_function.specs.Problems.{IsLawfulProblem}
+use Rattle.hull_function.proofs.Units.{lawful-problem, unit-read}
+use Rattle.unit_exact.specs.inside.Problems.{Thermal}
 use Rattle.unit_exact.proofs.ExactSizes.{value-small}
-use Rattle.unit_exact.proofs.Found.{IsFound, found-attained, found-none, found-pattern, found-value, lawful-problem, unit-read}
+use Rattle.unit_exact.proofs.Found.{IsFound, found-attained, found-none, found-pattern, found-value}
 use Rattle.unit_exact.proofs.exact.least.Goals as goal
+use Rattle.unit_exact.proofs.exact.least.Goals.{After-least_way}
 
 pub least_way-requires-clause-lawful : goal.least_way-requires-clause-lawful
 least_way-requires-clause-lawful c =
     let instance = c.args.instance.now in
     let table = c.args.table.now in
     let unit = unit-read instance c.as_slice.result.now c.args.g c.index-as_slice-g.result c.as_slice.ensures c.requires.unit c.index-as_slice-g.is in
-    subst (λ (u : Thermal). IsLawful instance.periods table u) (sym unit) (lawful-problem instance table c.args.g c.requires.lawful c.requires.unit c.requires.table c.requires.limits)
+    subst (λ (u : Thermal). IsLawfulProblem instance.periods table u) (sym unit) (lawful-problem instance table c.args.g c.requires.lawful c.requires.unit c.requires.table c.requires.limits)
+
+found_is : (c : After-least_way)
+    → IsFound c.args.instance.now.periods c.args.table.now (thermal_unit c.args.instance.now c.args.g) c.args.fix.now c.least_way.result
+found_is c =
+    subst (λ (u : Thermal). IsFound c.args.instance.now.periods c.args.table.now u c.args.fix.now c.least_way.result)
+    (unit-read c.args.instance.now c.as_slice.result.now c.args.g c.index-as_slice-g.result c.as_slice.ensures c.requires.unit c.index-as_slice-g.is)
+    (record { least = c.least_way.ensures.least; way = c.least_way.ensures.way })
 
 pub returns-clause-value : goal.returns-clause-value
 returns-clause-value c =
-    let instance = c.args.instance.now in
-    let table = c.args.table.now in
-    let unit = unit-read instance c.as_slice.result.now c.args.g c.index-as_slice-g.result c.as_slice.ensures c.requires.unit c.index-as_slice-g.is in
-    let found = subst (λ (u : Thermal). IsFound instance.periods table u c.args.fix.now c.least_way.result) unit
-    (record { least = c.least_way.ensures.least; way = c.least_way.ensures.way }) in
-    found-value instance table c.args.g c.args.fix.now c.least_way.result c.requires.lawful c.requires.unit found
+    found-value c.args.instance.now c.args.table.now c.args.g c.args.fix.now c.least_way.result c.requires.lawful c.requires.unit
+    (found_is (goal.at.returns-clause-value c).After-least_way)
 
 pub returns-clause-pattern : goal.returns-clause-pattern
 returns-clause-pattern c =
-    let instance = c.args.instance.now in
-    let table = c.args.table.now in
-    let unit = unit-read instance c.as_slice.result.now c.args.g c.index-as_slice-g.result c.as_slice.ensures c.requires.unit c.index-as_slice-g.is in
-    let found = subst (λ (u : Thermal). IsFound instance.periods table u c.args.fix.now c.least_way.result) unit
-    (record { least = c.least_way.ensures.least; way = c.least_way.ensures.way }) in
-    found-pattern instance table c.args.g c.args.fix.now c.least_way.result c.requires.lawful c.requires.unit found
+    found-pattern c.args.instance.now c.args.table.now c.args.g c.args.fix.now c.least_way.result c.requires.lawful c.requires.unit
+    (found_is (goal.at.returns-clause-pattern c).After-least_way)
 
 pub returns-clause-attained : goal.returns-clause-attained
 returns-clause-attained c =
-    let instance = c.args.instance.now in
-    let table = c.args.table.now in
-    let unit = unit-read instance c.as_slice.result.now c.args.g c.index-as_slice-g.result c.as_slice.ensures c.requires.unit c.index-as_slice-g.is in
-    let found = subst (λ (u : Thermal). IsFound instance.periods table u c.args.fix.now c.least_way.result) unit
-    (record { least = c.least_way.ensures.least; way = c.least_way.ensures.way }) in
-    found-attained instance table c.args.g c.args.fix.now c.least_way.result c.requires.lawful c.requires.unit found
+    found-attained c.args.instance.now c.args.table.now c.args.g c.args.fix.now c.least_way.result c.requires.lawful c.requires.unit
+    (found_is (goal.at.returns-clause-attained c).After-least_way)
 
 pub returns-clause-none : goal.returns-clause-none
 returns-clause-none c =
-    let instance = c.args.instance.now in
-    let table = c.args.table.now in
-    let unit = unit-read instance c.as_slice.result.now c.args.g c.index-as_slice-g.result c.as_slice.ensures c.requires.unit c.index-as_slice-g.is in
-    let found = subst (λ (u : Thermal). IsFound instance.periods table u c.args.fix.now c.least_way.result) unit
-    (record { least = c.least_way.ensures.least; way = c.least_way.ensures.way }) in
-    found-none instance table c.args.g c.args.fix.now c.least_way.result c.requires.lawful c.requires.unit found
+    found-none c.args.instance.now c.args.table.now c.args.g c.args.fix.now c.least_way.result c.requires.lawful c.requires.unit
+    (found_is (goal.at.returns-clause-none c).After-least_way)
 
 pub returns-clause-size : goal.returns-clause-size
 returns-clause-size c =
     let instance = c.args.instance.now in
     let table = c.args.table.now in
     let unit = unit-read instance c.as_slice.result.now c.args.g c.index-as_slice-g.result c.as_slice.ensures c.requires.unit c.index-as_slice-g.is in
-    let found = subst (λ (u : Thermal). IsFound instance.periods table u c.args.fix.now c.least_way.result) unit
-    (record { least = c.least_way.ensures.least; way = c.least_way.ensures.way }) in
+    let found = found_is (goal.at.returns-clause-size c).After-least_way in
     let attained = found-attained instance table c.args.g c.args.fix.now c.least_way.result c.requires.lawful c.requires.unit found in
     let scale : to_z w64 (of_z w64 c.k.result) ≡ table.k = (let fits = c.k.type_inv in let is = c.k.ensures in omega (arith, ints)) in
     let points : c.as_slice-2.result.now ≡ (thermal_unit instance c.args.g).points = c.as_slice-2.ensures ∙ ap (λ (u : Thermal). u.points) unit in

@@ -3,7 +3,7 @@ use Rattle.std.proofs.Common.{◌≡◌, ◌*◌, ◌≤◌, true, arith, ℤ, p
 use Rattle.std.specs.Int.{w64}
 use Rattle.std.specs.Int.Signed.{le_z}
 use Rattle.std.proofs.lemmas.Int.{ints}
-use Rattle.unit_exact.specs.inside.OutputCosts.{MAX_POWER}
+use Rattle.hull_function.specs.Problems.{MAX_POWER}
 use Rattle.unit_exact.proofs.hourly.follows.Goals as goal
 
 -- a difference of small numbers that is at most a limit by its bits

@@ -4,8 +4,8 @@ use Rattle.std.specs.Int.{w64}
 use Rattle.std.proofs.lemmas.Int.{ints}
 use Rattle.uc_model.specs.PatternBits.{commitment_of}
 use Rattle.uc_model.proofs.Sizes.{narrow}
+use Rattle.hull_function.specs.Problems.{MAX_POWER}
 use Rattle.unit_exact.specs.inside.Hourly.{IsHourlyTo}
-use Rattle.unit_exact.specs.inside.OutputCosts.{MAX_POWER}
 use Rattle.unit_exact.proofs.HourlySteps.{hourly-all, hourly-more, hourly-none}
 use Rattle.unit_exact.proofs.hourly.is_hourly.Goals as goal
 

@@ -5,8 +5,10 @@ use Rattle.std.specs.Int.{w64, w128}
 use Rattle.std.proofs.lemmas.Int.{ints}
 use Rattle.uc_model.proofs.Sizes.{abs_mul, narrow}
 use Rattle.step_functions.specs.Functions.{Steps, IsPlace, last_place, value_at}
-use Rattle.unit_exact.specs.inside.OutputCosts.{Hour, IsHullFunction, IsSizedHour, MAX_HULL, MAX_POWER}
-use Rattle.unit_exact.specs.inside.Problems.{MAX_HOUR, MAX_PRICE}
+use Rattle.hull_function.specs.Hours.{IsSizedHour, MAX_HOUR}
+use Rattle.hull_function.specs.Hulls.{IsHullFunction, MAX_HULL}
+use Rattle.hull_function.specs.Problems.{MAX_POWER, MAX_PRICE}
+use Rattle.hull_function.specs.declared.hour.Hour.{Hour}
 use Rattle.unit_exact.proofs.output_costs.cost.Goals as goal
 
 -- what is read is what there is, and all of it is small
@@ -16,7 +18,7 @@ record AreRead (hull : Steps) (hour : Hour) (output value price place worth limi
   earned_is : to_z w128 (of_z w128 worth) *ℤ to_z w128 (of_z w128 limit) ≡ hour.worth *ℤ hour.cap
   value_small : unsigned_abs (value_at hull output) ≤ MAX_HULL
   paid_small : unsigned_abs (hour.price *ℤ output) ≤ (2 * MAX_PRICE) * (2 * MAX_POWER)
-  earned_small : unsigned_abs (hour.worth *ℤ hour.cap) ≤ MAX_PRICE * (2 * MAX_POWER)
+  earned_small : unsigned_abs (hour.worth *ℤ hour.cap) ≤ MAX_PRICE * MAX_POWER
 
 read : (hull : Steps) (hour : Hour) (output value price place worth limit : ℤ) → IsHullFunction hull → IsSizedHour hour → IsPlace hull output
     → value ≡ value_at hull (to_z w64 (of_z w64 output)) → price ≡ to_z w64 (of_z w64 hour.price) → place ≡ to_z w64 (of_z w64 output)
@@ -28,10 +30,10 @@ read hull hour output value price place worth limit is sized at e f g h k =
     record {
       value_is = e ∙ ap (value_at hull) own;
       paid_is = λ i. wide_is hour.price price (2 * MAX_PRICE) sized.price (lit< tt) f i *ℤ wide_is output place (2 * MAX_POWER) near (lit< tt) g i;
-      earned_is = λ i. wide_is hour.worth worth MAX_PRICE worth_small (lit< tt) h i *ℤ wide_is hour.cap limit (2 * MAX_POWER) sized.cap (lit< tt) k i;
+      earned_is = λ i. wide_is hour.worth worth MAX_PRICE worth_small (lit< tt) h i *ℤ wide_is hour.cap limit MAX_POWER sized.cap (lit< tt) k i;
       value_small = is.size output at;
       paid_small = abs_mul hour.price output (2 * MAX_PRICE) (2 * MAX_POWER) sized.price near;
-      earned_small = abs_mul hour.worth hour.cap MAX_PRICE (2 * MAX_POWER) worth_small sized.cap;
+      earned_small = abs_mul hour.worth hour.cap MAX_PRICE MAX_POWER worth_small sized.cap;
     }
   where
     near_zero : (first last z : ℤ) → first ≡ pos 0 → last ≤ℤ pos (2 * MAX_POWER) → first ≤ℤ z → z ≤ℤ last → unsigned_abs z ≤ 2 * MAX_POWER
@@ -53,12 +55,12 @@ sum_fits : (a b x y : ℤ) → a ≡ x → b ≡ y → unsigned_abs x ≤ MAX_HU
 sum_fits a b x y e f h k = omega (arith, ints)
 
 rest_fits : (a b d x y z : ℤ) → a ≡ x → b ≡ y → d ≡ z → unsigned_abs x ≤ MAX_HULL → unsigned_abs y ≤ (2 * MAX_PRICE) * (2 * MAX_POWER)
-    → unsigned_abs z ≤ MAX_PRICE * (2 * MAX_POWER)
+    → unsigned_abs z ≤ MAX_PRICE * MAX_POWER
     → SFits w128 (to_z w128 (of_z w128 (to_z w128 (of_z w128 a) +ℤ to_z w128 (of_z w128 b))) -ℤ to_z w128 (of_z w128 d))
 rest_fits a b d x y z e f g h k l = omega (arith, ints)
 
 rest_is : (a b d x y z : ℤ) → a ≡ x → b ≡ y → d ≡ z → unsigned_abs x ≤ MAX_HULL → unsigned_abs y ≤ (2 * MAX_PRICE) * (2 * MAX_POWER)
-    → unsigned_abs z ≤ MAX_PRICE * (2 * MAX_POWER)
+    → unsigned_abs z ≤ MAX_PRICE * MAX_POWER
     → to_z w128 (of_z w128 (to_z w128 (of_z w128 (to_z w128 (of_z w128 a) +ℤ to_z w128 (of_z w128 b))) -ℤ to_z w128 (of_z w128 d))) ≡ x +ℤ y -ℤ z
 rest_is a b d x y z e f g h k l = omega (arith, ints)
 
@@ -69,7 +71,7 @@ pub overflow_sub-result : goal.overflow_sub-result
 overflow_sub-result c = let is = all c in rest_fits _ _ _ _ _ _ is.value_is is.paid_is is.earned_is is.value_small is.paid_small is.earned_small
 
 rest_small : (a b d x y z : ℤ) → a ≡ x → b ≡ y → d ≡ z → unsigned_abs x ≤ MAX_HULL → unsigned_abs y ≤ (2 * MAX_PRICE) * (2 * MAX_POWER)
-    → unsigned_abs z ≤ MAX_PRICE * (2 * MAX_POWER)
+    → unsigned_abs z ≤ MAX_PRICE * MAX_POWER
     → unsigned_abs (to_z w128 (of_z w128 (to_z w128 (of_z w128 (to_z w128 (of_z w128 a) +ℤ to_z w128 (of_z w128 b))) -ℤ to_z w128 (of_z w128 d)))) ≤ MAX_HOUR
 rest_small a b d x y z e f g h k l = omega (arith, ints)
 

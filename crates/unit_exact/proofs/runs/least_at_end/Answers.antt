@@ -5,8 +5,8 @@ use Rattle.std.proofs.lemmas.Int.{ints}
 use Rattle.std.proofs.lemmas.Bool.{cond-true, cond-false, lt-ltb, le-ltb}
 use Rattle.uc_model.proofs.Sizes.{narrow}
 use Rattle.dual_model.specs.ExactValue.{greatest_output}
+use Rattle.hull_function.specs.Problems.{MAX_POWER}
 use Rattle.unit_runs.specs.CostThrough.{least_between}
-use Rattle.unit_exact.specs.inside.OutputCosts.{MAX_POWER}
 use Rattle.unit_exact.proofs.runs.least_at_end.Goals as goal
 
 pub returns-then-t-problem-clause-least : goal.returns-then-t-problem-clause-least

@@ -9,8 +9,8 @@ use Rattle.unit_exact.proofs.starts.start_cost.Goals as goal
 pub returns-clause-size : goal.returns-clause-size
 returns-clause-size c =
     let unit = c.args.problem.now.unit.now in
-    let low = c.requires.lawful.scale.0 in
-    let high = c.requires.lawful.scale.1 in
+    let low = c.requires.lawful.scale.low in
+    let high = c.requires.lawful.scale.high in
     let is = c.k.ensures in
     let scale : unsigned_abs c.k.result ≤ 10 ^ 9 = omega (arith, ints, low, high, is) in
     let start : unsigned_abs c.sigma.result ≤ MAX_COST =

@@ -4,9 +4,9 @@ use Rattle.std.specs.Int.{w64}
 use Rattle.std.specs.Int.Signed.{lt_z}
 use Rattle.std.proofs.lemmas.Int.{ints}
 use Rattle.dual_model.specs.CostToGo.{total_of}
+use Rattle.hull_function.specs.Problems.{MAX_POWER}
 use Rattle.unit_runs.specs.Runs.{entry_output}
 use Rattle.unit_exact.specs.inside.Choices.{choice_cost}
-use Rattle.unit_exact.specs.inside.OutputCosts.{MAX_POWER}
 use Rattle.unit_exact.specs.inside.Switches.{IsWithinSwitches, entry_in}
 use Rattle.unit_exact.proofs.Sizes.{some-map, total-size}
 use Rattle.unit_exact.proofs.StopSteps.{run-none, run-stuck, stop-none, stop-off, stop-some, stop-stuck}

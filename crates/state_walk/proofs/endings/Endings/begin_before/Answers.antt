@@ -3,7 +3,8 @@ use Rattle.std.proofs.Common.{lit<, suc, ◌*◌, false, ◌==◌, sym, subst, �
 use Rattle.uc_model.proofs.Sizes.{narrow}
 use Rattle.uc_model.specs.Commitment.{cell_cap}
 use Rattle.step_functions.specs.Functions.{run_count}
-use Rattle.state_walk.specs.inside.CostToEnd.{cost_to_end, hours_after, hours_from}
+use Rattle.hull_function.specs.Hours.{with_output}
+use Rattle.state_walk.specs.inside.CostToEnd.{cost_to_end, hours_after}
 use Rattle.state_walk.specs.inside.Problems.{MAX_POWER}
 use Rattle.state_walk.proofs.FirstHours.{first-cap}
 use Rattle.state_walk.proofs.Rests.{hours-bounded, spare-room}
@@ -30,8 +31,8 @@ returns-clause-cost c =
     let n = c.args.n in
     let t = c.args.t in
     let behind = cost_to_end p.periods table unit n (suc t) false in
-    let at = c.at-hour.ensures.at in
+    let cap = c.at-hour.ensures.cap in
     let own = narrow c.entry_output.result (2 * MAX_POWER) c.entry_output.ensures.size (lit< tt) ∙ c.entry_output.ensures.value in
-    let order = subst (λ z. z ≤ℤ cell_cap p.periods unit t false (n == 0)) (sym at.cap) (first-cap p.periods unit t (n == 0)) in
-    c.begun-cost.ensures.cost p.periods table t (n == 0) (cell_cap p.periods unit t false (n == 0)) behind at order c.add_hour.ensures.costs
-    ∙ (λ i. hours_after table unit t (at.cap i) (hours_from table unit t (at.cap i) behind) (own i))
+    let order = subst (λ z. z ≤ℤ cell_cap p.periods unit t false (n == 0)) (sym cap) (first-cap p.periods unit t (n == 0)) in
+    c.begun-cost.ensures.cost table t (cell_cap p.periods unit t false (n == 0)) behind c.at-hour.ensures.at order c.add_hour.ensures.costs
+    ∙ (λ i. hours_after table unit t (cap i) (with_output table unit t (cap i) behind) (own i))

@@ -4,9 +4,10 @@ use mir.Val.{SFits}
 use Rattle.std.specs.Int.{w64, w128}
 use Rattle.std.proofs.lemmas.Int.{to_z-of_z}
 use Rattle.uc_model.proofs.Sizes.{narrow}
-use Rattle.unit_exact.specs.inside.OutputCosts.{IsCostsOf, MAX_POWER}
-use Rattle.unit_exact.proofs.LeastLeft.{least-dead, least-none, least-size, least-some}
-use Rattle.unit_exact.proofs.Represented.{cut-between}
+use Rattle.unit_exact.proofs.LeastLeft.{none-alive, none-left, least-size, least-some}
+use Rattle.hull_function.proofs.Represented.{cut-between}
+use Rattle.hull_function.specs.Hours.{IsCostsOf}
+use Rattle.hull_function.specs.Problems.{MAX_POWER}
 use Rattle.unit_exact.proofs.output_costs.OutputCosts.least_between.Goals as goal
 use Rattle.unit_exact.proofs.output_costs.OutputCosts.least_between.Goals.{else-self-via-then-self+else-cut, else-self-via-else-self}
 
@@ -45,7 +46,7 @@ returns-else-self-clause-least c = elim c.else-self.branch [
       let high = narrow c.args.high (2 * MAX_POWER) c.requires.high (lit< tt) in
       let cut = cut-between f g (to_z w64 (of_z w64 c.args.low)) (to_z w64 (of_z w64 c.args.high)) c.args.low c.args.high w.cut.result low high
       (record { there = w.cut.ensures.some; first = w.cut.ensures.first; last = w.cut.ensures.last; value = w.cut.ensures.value }) in
-      λ cost is. least-none f g c.args.low c.args.high w.cut.result cut cost (subst (λ b. IsCostsOf b f cost) w.if-self.true is) w.if-cut.false
+      λ cost is. none-left f g c.args.low c.args.high w.cut.result cut cost (subst (λ b. IsCostsOf b f cost) w.if-self.true is) w.if-cut.false
   | else-self-via-else-self w ↦
-      λ cost is. least-dead c.args.self.now.function c.args.low c.args.high cost (subst (λ b. IsCostsOf b c.args.self.now.function cost) w.if-self.false is)
+      λ cost is. none-alive c.args.self.now.function c.args.low c.args.high cost (subst (λ b. IsCostsOf b c.args.self.now.function cost) w.if-self.false is)
 ]

@@ -2,7 +2,8 @@
 use Rattle.std.proofs.Common.{lit<, ◌+◌, ◌*◌, ◌≤◌, sym, subst, ◌∙◌, arith, ℤ, pos, Some, None, if◌then◌else◌}
 use Rattle.std.specs.Ordering.{int_eq}
 use Rattle.uc_model.proofs.Sizes.{narrow}
-use Rattle.unit_exact.specs.inside.OutputCosts.{IsCostsOf, MAX_POWER}
+use Rattle.hull_function.specs.Hours.{IsCostsOf}
+use Rattle.hull_function.specs.Problems.{MAX_POWER}
 use Rattle.unit_exact.proofs.runs.Runs.begin.Goals as goal
 
 pub returns : goal.returns

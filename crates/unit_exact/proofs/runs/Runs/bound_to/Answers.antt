@@ -5,9 +5,11 @@ use Rattle.std.proofs.lemmas.Int.{ints}
 use Rattle.uc_model.proofs.Ring.{linear}
 use Rattle.step_functions.specs.Functions.{Steps, IsPlace, last_place, value_at}
 use Rattle.unit_runs.specs.CostThrough.{cost_through}
-use Rattle.unit_exact.specs.inside.OutputCosts.{IsBounded, IsCostsOf, IsHullFunction, MAX_POWER}
-use Rattle.unit_exact.specs.inside.Problems.{MAX_HOUR, MAX_PRICE, MAX_SWITCH}
+use Rattle.unit_exact.specs.inside.Problems.{MAX_SWITCH}
 use Rattle.hull_function.proofs.HullFunction.{hull-function}
+use Rattle.hull_function.specs.Hulls.{IsBounded, IsHullFunction}
+use Rattle.hull_function.specs.Hours.{IsCostsOf, MAX_HOUR}
+use Rattle.hull_function.specs.Problems.{MAX_POWER, MAX_PRICE}
 use Rattle.unit_exact.proofs.RunBounds.{run-bound}
 use Rattle.unit_exact.proofs.RunSteps.{hours-size}
 use Rattle.unit_exact.proofs.runs.Runs.bound_to.Goals as goal

@@ -5,8 +5,8 @@ use Rattle.std.specs.Int.{w128}
 use Rattle.std.specs.Int.Signed.{le_z}
 use Rattle.std.proofs.lemmas.Int.{ints, to_z-of_z}
 use Rattle.uc_model.specs.Commitment.{cell_cap}
+use Rattle.hull_function.specs.Hours.{IsCostsOf}
 use Rattle.unit_runs.specs.CostThrough.{cost_through}
-use Rattle.unit_exact.specs.inside.OutputCosts.{IsCostsOf}
 use Rattle.unit_exact.proofs.RunBounds.{run-none-alive}
 use Rattle.unit_exact.proofs.runs.Runs.costs_at_least.Goals as goal
 

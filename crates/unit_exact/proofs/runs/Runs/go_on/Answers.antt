@@ -1,9 +1,9 @@
 -- The costs with the hour in period t.
 use Rattle.std.proofs.Common.{suc, ◌+◌, ◌-◌, ◌*◌, ◌≤◌, sym, subst, arith}
 use Rattle.step_functions.specs.Functions.{run_count}
-use Rattle.unit_exact.specs.inside.OutputCosts.{IsCostsOf}
-use Rattle.unit_exact.specs.inside.Problems.{MAX_HOUR, MAX_SWITCH}
+use Rattle.unit_exact.specs.inside.Problems.{MAX_SWITCH}
 use Rattle.hull_function.proofs.HullFunction.{hull-function}
+use Rattle.hull_function.specs.Hours.{IsCostsOf, MAX_HOUR}
 use Rattle.unit_exact.proofs.RunSteps.{bounded-more, hours-size, pieces-more, room-more, through-more}
 use Rattle.unit_exact.proofs.runs.Runs.go_on.Goals as goal
 
@@ -39,7 +39,7 @@ returns c =
       };
       costs =
           subst (IsCostsOf new.alive new.function) (through-more p.periods p.table.now p.unit.now c.args.from c.args.t c.at-hour.result.cap c.requires.order c.at-hour.ensures.cap)
-          (c.add_hour.ensures.costs p.table.now p.unit.now c.args.t _ c.requires.hull.function c.at-hour.ensures.at running.costs);
+          (c.add_hour.ensures.costs p.table.now c.args.t _ c.requires.hull.function c.at-hour.ensures.at running.costs);
       size = λ live. bounded-more new.function (MAX_HOUR * n + MAX_HOUR) (MAX_HOUR * suc n) (omega arith)
           (c.add_hour.ensures.size (MAX_HOUR * n) running.size live);
       near = c.add_hour.ensures.near;

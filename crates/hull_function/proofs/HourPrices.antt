@@ -2,11 +2,10 @@
 use Rattle.std.proofs.Common.{◌≡◌, ℕ, ◌*◌, ◌<◌, ◌≤◌, lit<, ap, subst, sym, ◌∙◌, arith, List, ℤ, pos, ◌-ℤ◌, ◌*ℤ◌, neg_ℤ, ◌≤ℤ◌, to_z, of_z, unsigned_abs, slice_index_or, FitsSigned}
 use Rattle.std.specs.Int.{w64, w128, int_max}
 use Rattle.std.proofs.lemmas.Int.{ints, clamps}
-use Rattle.uc_model.specs.Limits.{IsLimit}
 use Rattle.uc_model.proofs.Sizes.{narrow, scaled-size}
 use Rattle.dual_model.specs.Prices.{pi_at, mu_at}
 use Rattle.unit_runs.specs.CostThrough.{reserve_worth}
-use Rattle.state_walk.specs.inside.Problems.{ArePrices, Table, MAX_POWER, MAX_PRICE}
+use Rattle.hull_function.specs.Problems.{IsLawfulProblem, Table, Thermal, MAX_POWER, MAX_PRICE}
 
 -- what is made of a price of demand, of what reserve is worth, and of the minimum output: each is as in the definition, and fits
 pub record IsPricedAt (table : Table) (low : ℤ) (t : ℕ) (pi worth fixed : ℤ) : Type 0 where
@@ -19,11 +18,13 @@ pub record IsPricedAt (table : Table) (low : ℤ) (t : ℕ) (pi worth fixed : �
   pub price_size : unsigned_abs (to_z w64 (of_z w64 (to_z w64 (of_z w64 worth) -ℤ to_z w64 (of_z w64 pi)))) ≤ 2 * MAX_PRICE
   pub fixed_size : unsigned_abs (to_z w128 (of_z w128 (pos 0 -ℤ to_z w128 (of_z w128 fixed)))) ≤ MAX_PRICE * MAX_POWER
 
-pub priced-at : (periods : ℕ) (table : Table) (low : ℤ) (t : ℕ) → ArePrices periods table → IsLimit low → t < periods → (pi mu : List ℤ) (worth fixed : ℤ)
+pub priced-at : (periods : ℕ) (table : Table) (unit : Thermal) (t : ℕ) → IsLawfulProblem periods table unit → t < periods → (pi mu : List ℤ) (worth fixed : ℤ)
     → pi ≡ table.pi → mu ≡ table.mu → worth ≡ int_max (to_z w64 (of_z w64 (slice_index_or mu t (pos 0)))) (pos 0)
-    → fixed ≡ to_z w64 (of_z w64 (slice_index_or pi t (pos 0))) *ℤ to_z w64 (of_z w64 low)
-    → IsPricedAt table low t (slice_index_or pi t (pos 0)) worth fixed
-priced-at periods table low t are minimum l pi mu worth fixed pi_is mu_is worth_is fixed_is =
+    → fixed ≡ to_z w64 (of_z w64 (slice_index_or pi t (pos 0))) *ℤ to_z w64 (of_z w64 unit.pmin)
+    → IsPricedAt table unit.pmin t (slice_index_or pi t (pos 0)) worth fixed
+priced-at periods table unit t are l pi mu worth fixed pi_is mu_is worth_is fixed_is =
+    let low = unit.pmin in
+    let minimum = are.unit_is.minimum in
     let pi_at_is : slice_index_or pi t (pos 0) ≡ pi_at table t = ap (λ (xs : List ℤ). slice_index_or xs t (pos 0)) pi_is in
     let mu_at_is : slice_index_or mu t (pos 0) ≡ mu_at table t = ap (λ (xs : List ℤ). slice_index_or xs t (pos 0)) mu_is in
     let small : unsigned_abs (slice_index_or pi t (pos 0)) ≤ MAX_PRICE = subst (λ z. unsigned_abs z ≤ MAX_PRICE) (sym pi_at_is) (are.demand_price t l) in
@@ -35,8 +36,8 @@ priced-at periods table low t are minimum l pi mu worth fixed pi_is mu_is worth_
     (are.reserve_price t l) worth_is pi_at_is (are.demand_price t l) product size
   where
     made : (read worth own fixed : ℤ) → read ≡ mu_at table t → unsigned_abs (mu_at table t) ≤ MAX_PRICE → worth ≡ int_max (to_z w64 (of_z w64 read)) (pos 0)
-        → own ≡ pi_at table t → unsigned_abs (pi_at table t) ≤ MAX_PRICE → fixed ≡ pi_at table t *ℤ low → unsigned_abs fixed ≤ MAX_PRICE * MAX_POWER
-        → IsPricedAt table low t own worth fixed
+        → own ≡ pi_at table t → unsigned_abs (pi_at table t) ≤ MAX_PRICE → fixed ≡ pi_at table t *ℤ unit.pmin → unsigned_abs fixed ≤ MAX_PRICE * MAX_POWER
+        → IsPricedAt table unit.pmin t own worth fixed
     made read worth own fixed read_is mu_small e own_is pi_small product_is size =
         let own_small : unsigned_abs own ≤ MAX_PRICE = subst (λ z. unsigned_abs z ≤ MAX_PRICE) (sym own_is) pi_small in
         let most = worth_of read (mu_at table t) worth read_is mu_small e in

@@ -1,30 +1,33 @@
 //! The prices and the cap of an hour.
 
-ghost use Rattle.std.specs.Prelude.{◌<◌};
-ghost use Rattle.state_walk.specs.inside.Problems.{IsHourAt, IsLawful, IsSized};
+ghost use Rattle.std.specs.Prelude.{◌≡◌, ◌<◌};
+ghost use Rattle.uc_model.specs.Commitment.{cell_cap};
+ghost use Rattle.hull_function.specs.Hours.{IsHourAt, IsSizedHour};
+ghost use Rattle.hull_function.specs.Problems.{IsLawfulProblem};
 
 use crate::problem::Problem;
 use uc_model::scaled;
 
 /// An hour of a run by its prices: what it costs by its output, and what its reserve earns.
 #[derive(Clone, Copy)]
-pub(crate) struct Hour {
+pub struct Hour {
     /// The most output above the minimum and reserve together.
-    pub(crate) cap: i64,
+    pub cap: i64,
     /// What a watt of reserve earns.
-    pub(crate) worth: i64,
+    pub worth: i64,
     /// What a watt of output costs beside L, and what the minimum output costs.
-    pub(crate) price: i64,
-    pub(crate) fixed: i128,
+    pub price: i64,
+    pub fixed: i128,
 }
 
 impl Hour {
     /// The hour of a run in period `t`, by whether the run begins with it, and whether it ends with it.
-    pub(crate) fn at(problem: &Problem, t: usize, first: bool, last: bool) -> Hour
-        requires lawful { IsLawful problem.now.periods problem.now.table.now problem.now.unit.now problem.now.hull.now }
+    pub fn at(problem: &Problem, t: usize, first: bool, last: bool) -> Hour
+        requires lawful { IsLawfulProblem problem.now.periods problem.now.table.now problem.now.unit.now }
         requires period { t < problem.now.periods }
-        ensures at { IsHourAt problem.now.periods problem.now.table.now problem.now.unit.now t first last result }
-        ensures sized { IsSized result }
+        ensures at { IsHourAt problem.now.table.now problem.now.unit.now t result }
+        ensures cap { result.cap ≡ cell_cap problem.now.periods problem.now.unit.now t first last }
+        ensures sized { IsSizedHour result }
     {
         let unit = problem.unit;
         let pi = problem.table.pi()[t];

@@ -1,24 +1,21 @@
 -- What an hour adds to costs by output, as its steps are taken: each is within the limits of values.
-use Rattle.std.proofs.Common.{◌≡◌, ℕ, ◌*◌, ◌≤◌, ap, ◌∙◌, arith, ℤ, pos, ◌+ℤ◌, ◌-ℤ◌, ◌*ℤ◌, neg_ℤ, ◌≤ℤ◌, to_z, of_z, unsigned_abs}
+use Rattle.std.proofs.Common.{◌≡◌, ℕ, lit<, ◌+◌, ◌*◌, ◌≤◌, sym, ap, subst, ◌∙◌, arith, ℤ, pos, ◌+ℤ◌, ◌-ℤ◌, ◌*ℤ◌, neg_ℤ, ◌≤ℤ◌, to_z, of_z, unsigned_abs}
 use Rattle.std.specs.Int.{w64, w128, int_max, int_min}
 use Rattle.std.proofs.lemmas.Int.{ints, clamps}
 use Rattle.uc_model.specs.Limits.{IsLimit}
 use Rattle.uc_model.proofs.Ring.{linear, mul-sub}
-use Rattle.uc_model.proofs.Sizes.{abs_mul}
+use Rattle.uc_model.proofs.Sizes.{abs_mul, narrow}
 use Rattle.step_functions.specs.Functions.{Steps, IsPlace, IsSmall, last_place, shortfall, value_at}
 use Rattle.hull_function.specs.Hulls.{IsBounded, IsHullFunction}
-use Rattle.state_walk.specs.inside.Problems.{Hour, IsSized, MAX_POWER, MAX_PRICE}
-use Rattle.state_walk.specs.inside.Rests.{IsNear, MAX_RUN}
-use Rattle.state_walk.proofs.Represented.{SamePlaces, place_from}
+use Rattle.hull_function.specs.Hours.{Hour, IsNear, IsSizedHour, MAX_OUTPUT_COST, MAX_RESERVE, MAX_RUN}
+use Rattle.hull_function.specs.Problems.{MAX_POWER, MAX_PRICE}
+use Rattle.hull_function.proofs.Represented.{SamePlaces, place_from}
 
--- what reserve costs at most, and what output costs beside L
-abbrev pub MAX_RESERVE : ℕ
-MAX_RESERVE = MAX_PRICE * (6 * MAX_POWER)
-
-abbrev pub MAX_OUTPUT : ℕ
+-- what output costs at most beside L
+abbrev MAX_OUTPUT : ℕ
 MAX_OUTPUT = 2 * MAX_PRICE * (2 * MAX_POWER)
 
-module _ (hour : Hour) (sized : IsSized hour) where
+module _ (hour : Hour) (sized : IsSizedHour hour) where
   worth-size : unsigned_abs hour.worth ≤ MAX_PRICE
   worth-size =
       let low = sized.worth.0 in
@@ -30,7 +27,7 @@ module _ (hour : Hour) (sized : IsSized hour) where
       let product = abs_mul hour.worth hour.cap MAX_PRICE MAX_POWER worth-size sized.cap in
       omega (arith, product)
 
-  pub output-size : (p : ℤ) → unsigned_abs p ≤ 2 * MAX_POWER → unsigned_abs (hour.price *ℤ p) ≤ MAX_OUTPUT
+  output-size : (p : ℤ) → unsigned_abs p ≤ 2 * MAX_POWER → unsigned_abs (hour.price *ℤ p) ≤ MAX_OUTPUT
   output-size p h = abs_mul hour.price p (2 * MAX_PRICE) (2 * MAX_POWER) sized.price h
 
   module _ (up : ℤ) (limit : IsLimit up) where
@@ -80,10 +77,29 @@ module _ (hour : Hour) (sized : IsSized hour) where
             let sum = reserve-is hour.worth hour.cap p in
             omega (arith, linear, first, second, sum)
 
+    reserve-size : (p : ℤ) → unsigned_abs p ≤ 4 * MAX_POWER → unsigned_abs (neg_ℤ (hour.worth *ℤ int_min hour.cap (p +ℤ up))) ≤ MAX_RESERVE
+    reserve-size p h =
+        let least = min_size hour.cap up p sized.cap limit.power h in
+        let product = abs_mul hour.worth (int_min hour.cap (p +ℤ up)) MAX_PRICE (6 * MAX_POWER) worth-size least in
+        omega (arith, ints, product)
+      where
+        min_size : (most up p : ℤ) → unsigned_abs most ≤ MAX_POWER → unsigned_abs up ≤ MAX_POWER → unsigned_abs p ≤ 4 * MAX_POWER
+            → unsigned_abs (int_min most (p +ℤ up)) ≤ 6 * MAX_POWER
+        min_size most up p a b c = omega (arith, ints, clamps)
+
+    pub reserve-bounded : (f g : Steps) (size : ℕ) → IsNear 4 f → SamePlaces f g
+        → ((p : ℤ) → IsPlace g p → value_at g p ≡ value_at f p +ℤ neg_ℤ (hour.worth *ℤ int_min hour.cap (p +ℤ up)))
+        → IsBounded f size → IsBounded g (size + MAX_RESERVE)
+    reserve-bounded f g size near same value small p place =
+        let own = place_from f g p same place in
+        let is = value p place in
+        let old = small p own in
+        let more = reserve-size p (near p own) in
+        omega (arith, ints, is, old, more)
+
   -- ---- output
-  -- a function on places of the hull, with the hull's values added, and then a slope
-  module _ (f hull sum : Steps) (is_hull : IsHullFunction hull) (low : pos 0 ≤ℤ f.first) (high : last_place f ≤ℤ last_place hull) (small : IsBounded f MAX_RUN)
-      (places : SamePlaces f sum) (value : (p : ℤ) → IsPlace sum p → value_at sum p ≡ value_at f p +ℤ value_at hull p) where
+  -- a function on places of the hull
+  module _ (f hull : Steps) (is_hull : IsHullFunction hull) (low : pos 0 ≤ℤ f.first) (high : last_place f ≤ℤ last_place hull) where
     hull-place : (p : ℤ) → IsPlace f p → IsPlace hull p
     hull-place p place =
         let begins = place.low in
@@ -91,7 +107,7 @@ module _ (hour : Hour) (sized : IsSized hour) where
         let first = is_hull.first in
         record { low = omega (arith, linear, first, low, begins); high = omega (arith, linear, ends, high) }
 
-    near-hull : (p : ℤ) → IsPlace f p → unsigned_abs p ≤ 2 * MAX_POWER
+    pub near-hull : IsNear 2 f
     near-hull p place =
         let begins = place.low in
         let ends = place.high in
@@ -101,39 +117,60 @@ module _ (hour : Hour) (sized : IsSized hour) where
         between : (a p b w : ℤ) → pos 0 ≤ℤ a → a ≤ℤ p → p ≤ℤ b → b ≤ℤ w → w ≤ℤ pos (2 * MAX_POWER) → unsigned_abs p ≤ 2 * MAX_POWER
         between a p b w zero low high most wide = omega (arith, ints)
 
-    pub slope-small : (p : ℤ) → IsPlace sum p → IsSmall (value_at sum p +ℤ hour.price *ℤ p)
-    slope-small p place =
-        let own = place_from f sum p places place in
+    -- with the hull's values added, and then a slope and a constant
+    pub output-bounded : (g : Steps) (size : ℕ) → SamePlaces f g
+        → ((p : ℤ) → IsPlace g p → value_at g p ≡ value_at f p +ℤ value_at hull p +ℤ hour.price *ℤ p +ℤ hour.fixed)
+        → IsBounded f size → IsBounded g (size + MAX_OUTPUT_COST)
+    output-bounded g size same value small p place =
+        let own = place_from f g p same place in
         let is = value p place in
         let old = small p own in
         let at_hull = is_hull.size p (hull-place p own) in
         let more = output-size p (near-hull p own) in
-        omega (arith, ints, is, old, at_hull, more)
+        let fixed = sized.fixed in
+        omega (arith, ints, is, old, at_hull, more, fixed)
 
-    module _ (sloped : Steps) (same : SamePlaces sum sloped)
-        (slope : (p : ℤ) → IsPlace sloped p → value_at sloped p ≡ value_at sum p +ℤ hour.price *ℤ p) where
-      pub fixed-small : (p : ℤ) → IsPlace sloped p → IsSmall (value_at sloped p +ℤ hour.fixed)
-      fixed-small p place =
-          let there = place_from sum sloped p same place in
-          let own = place_from f sum p places there in
-          let first = value p there in
-          let second = slope p place in
+    module _ (small : IsBounded f MAX_RUN) (sum : Steps) (places : SamePlaces f sum)
+        (value : (p : ℤ) → IsPlace sum p → value_at sum p ≡ value_at f p +ℤ value_at hull p) where
+      pub slope-small : (p : ℤ) → IsPlace sum p → IsSmall (value_at sum p +ℤ hour.price *ℤ p)
+      slope-small p place =
+          let own = place_from f sum p places place in
+          let is = value p place in
           let old = small p own in
           let at_hull = is_hull.size p (hull-place p own) in
           let more = output-size p (near-hull p own) in
-          let fixed = sized.fixed in
-          omega (arith, ints, first, second, old, at_hull, more, fixed)
+          omega (arith, ints, is, old, at_hull, more)
 
-      pub output-value : (g : Steps) → SamePlaces sloped g → ((p : ℤ) → IsPlace g p → value_at g p ≡ value_at sloped p +ℤ hour.fixed)
-          → (p : ℤ) → IsPlace g p → value_at g p ≡ value_at f p +ℤ value_at hull p +ℤ hour.price *ℤ p +ℤ hour.fixed
-      output-value g again more p place =
-          let there = place_from sloped g p again place in
-          let first = more p place in
-          let second = slope p there in
-          let third = value p (place_from sum sloped p same there) in
-          omega (arith, linear, first, second, third)
+      module _ (sloped : Steps) (same : SamePlaces sum sloped)
+          (slope : (p : ℤ) → IsPlace sloped p → value_at sloped p ≡ value_at sum p +ℤ hour.price *ℤ p) where
+        pub fixed-small : (p : ℤ) → IsPlace sloped p → IsSmall (value_at sloped p +ℤ hour.fixed)
+        fixed-small p place =
+            let there = place_from sum sloped p same place in
+            let own = place_from f sum p places there in
+            let first = value p there in
+            let second = slope p place in
+            let old = small p own in
+            let at_hull = is_hull.size p (hull-place p own) in
+            let more = output-size p (near-hull p own) in
+            let fixed = sized.fixed in
+            omega (arith, ints, first, second, old, at_hull, more, fixed)
+
+        pub output-value : (g : Steps) → SamePlaces sloped g → ((p : ℤ) → IsPlace g p → value_at g p ≡ value_at sloped p +ℤ hour.fixed)
+            → (p : ℤ) → IsPlace g p → value_at g p ≡ value_at f p +ℤ value_at hull p +ℤ hour.price *ℤ p +ℤ hour.fixed
+        output-value g again more p place =
+            let there = place_from sloped g p again place in
+            let first = more p place in
+            let second = slope p there in
+            let third = value p (place_from sum sloped p same there) in
+            omega (arith, linear, first, second, third)
 
 -- ---- numbers as their bits
+pub limit-is : (z : ℤ) → IsLimit z → to_z w64 (of_z w64 z) ≡ z
+limit-is z limit = narrow z MAX_POWER limit.power (lit< tt)
+
+pub limit-bits : (z : ℤ) → IsLimit z → IsLimit (to_z w64 (of_z w64 z))
+limit-bits z limit = subst IsLimit (sym (limit-is z limit)) limit
+
 -- the places of the sum with a function that reaches further
 pub sum-places : (f hull g : Steps) → hull.first ≡ pos 0 → pos 0 ≤ℤ f.first → last_place f ≤ℤ last_place hull
     → g.first ≡ int_max f.first hull.first → last_place g ≡ int_min (last_place f) (last_place hull) → SamePlaces f g
@@ -151,7 +188,7 @@ sum-places f hull g zero low high first last = record {
 wide_is : (z r : ℤ) → unsigned_abs z ≤ 2 * MAX_PRICE → r ≡ to_z w64 (of_z w64 z) → to_z w128 (of_z w128 r) ≡ z
 wide_is z r h e = omega (arith, ints)
 
-module _ (hour : Hour) (sized : IsSized hour) where
+module _ (hour : Hour) (sized : IsSizedHour hour) where
   worth-small : unsigned_abs hour.worth ≤ 2 * MAX_PRICE
   worth-small =
       let low = sized.worth.0 in

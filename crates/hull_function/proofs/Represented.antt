@@ -1,5 +1,5 @@
 -- Costs by output as functions: what a cut, a ramp and a cost more make of them.
-use Rattle.std.proofs.Common.{◌≡◌, ℕ, ◌↔◌, Bool, true, false, true≢false, refl, sym, ap, subst, ◌∙◌, arith, ℤ, pos, ◌+ℤ◌, ◌-ℤ◌, ◌*ℤ◌, neg_ℤ, ◌≤ℤ◌, IsTrue, int_le, unsigned_abs, Option, Some, None, if◌then◌else◌}
+use Rattle.std.proofs.Common.{◌≡◌, ℕ, ◌≤◌, ◌↔◌, Bool, true, false, true≢false, refl, sym, ap, subst, ◌∙◌, arith, ℤ, pos, ◌+ℤ◌, ◌-ℤ◌, ◌*ℤ◌, ◌≤ℤ◌, IsTrue, int_le, unsigned_abs, Option, Some, None, if◌then◌else◌}
 use Rattle.std.specs.Int.{int_max, int_min}
 use Rattle.std.proofs.lemmas.Int.{ints, clamps}
 use Rattle.std.proofs.lemmas.Bool.{cond-true, and_parts, and_from}
@@ -10,12 +10,11 @@ use Rattle.dual_model.specs.CostToGo.{total_of}
 use Rattle.dual_model.specs.ExactValue.{greatest_output}
 use Rattle.dual_model.proofs.Optimum.{AtMost, total_of-parts}
 use Rattle.step_functions.specs.Functions.{Steps, IsLeastBetween, IsPlace, last_place, value_at}
-use Rattle.hull_function.specs.Hulls.{IsHull}
-use Rattle.unit_runs.specs.CostThrough.{is_output, least_between, output_cost, reserve_cost}
+use Rattle.hull_function.specs.Hulls.{IsBounded, IsHull}
+use Rattle.unit_runs.specs.CostThrough.{is_output, least_between, output_cost}
 use Rattle.unit_runs.proofs.Costs.{least_between-at_most, least_between-reached}
-use Rattle.state_walk.specs.inside.CostToEnd.{hours_after, hours_from}
-use Rattle.state_walk.specs.inside.Problems.{Hour, IsHourAt, Table, Thermal}
-use Rattle.state_walk.specs.inside.Rests.{IsCostsOf}
+use Rattle.hull_function.specs.Hours.{Hour, IsCostsOf, IsHourAt, with_output}
+use Rattle.hull_function.specs.Problems.{Table, Thermal}
 
 -- ---- tests
 pub through : (b : Bool) (o : Option ℤ) (v : ℤ) → (if b then o else None) ≡ Some v → IsTrue b × (o ≡ Some v)
@@ -192,15 +191,36 @@ module _ (f g : Steps) (low high : ℤ) (some : Bool) (cut : IsCut f g low high 
       }
 
 -- between ends that are written otherwise
-pub cut-between : (f g : Steps) (low a b : ℤ) (some : Bool) → a ≡ b → IsCut f g low a some → IsCut f g low b some
-cut-between f g low a b some e cut = subst (λ z. IsCut f g low z some) e cut
+pub cut-between : (f g : Steps) (a b low high : ℤ) (some : Bool) → a ≡ low → b ≡ high → IsCut f g a b some → IsCut f g low high some
+cut-between f g a b low high some e d cut = subst (λ z. IsCut f g z high some) e (subst (λ z. IsCut f g a z some) d cut)
 
--- ---- an hour more, by its output
+-- ---- a copy in its own room
+room-value : (f : Steps) (room : ℕ) (p : ℤ) → value_at (record f { room = room }) p ≡ value_at f p
+unfolding value_at
+room-value f room p = refl
+
+module _ (f g : Steps) (room : ℕ) (e : g ≡ record f { room = room }) where
+  pub copied : (alive : Bool) (cost : ℤ → Option ℤ) → IsCostsOf alive f cost → IsCostsOf alive g cost
+  copied alive cost is =
+      subst (λ (h : Steps). IsCostsOf alive h cost) (sym e) (record {
+        inside = λ live p place. is.inside live p (record { low = place.low; high = place.high }) ∙ ap Some (sym (room-value f room p));
+        outside = λ p v given.
+            let own = is.outside p v given in
+            let place = own.1 in
+            (own.0, record { low = place.low; high = place.high });
+      })
+
+  pub copy-bounded : (size : ℕ) → IsBounded f size → IsBounded g size
+  copy-bounded size small =
+      subst (λ (h : Steps). IsBounded h size) (sym e)
+      (λ p place. subst (λ z. unsigned_abs z ≤ size) (sym (room-value f room p)) (small p (record { low = place.low; high = place.high })))
+
+-- ---- an hour's output
 -- what an output costs by the hull's function and an hour's prices
-output-is : (periods : ℕ) (table : Table) (unit : Thermal) (t : ℕ) (first last : Bool) (hull : Steps) (hour : Hour) (p : ℤ)
-    → IsHull unit.points table.k hull → IsHourAt periods table unit t first last hour → pos 0 ≤ℤ p → p ≤ℤ greatest_output unit.points
+pub output-is : (table : Table) (unit : Thermal) (t : ℕ) (hull : Steps) (hour : Hour) (p : ℤ) → IsHull unit.points table.k hull
+    → IsHourAt table unit t hour → pos 0 ≤ℤ p → p ≤ℤ greatest_output unit.points
     → value_at hull p +ℤ hour.price *ℤ p +ℤ hour.fixed ≡ output_cost table unit t p
-output-is periods table unit t first last hull hour p is at low high =
+output-is table unit t hull hour p is at low high =
     let size = abs_is p low in
     let there = is.value (unsigned_abs p) (omega (arith, linear, size, high)) in
     let here = ap (value_at hull) size in
@@ -208,55 +228,64 @@ output-is periods table unit t first last hull hour p is at low high =
     let fixed = at.fixed in
     omega (arith, linear, there, here, price, fixed)
 
-module _ (periods : ℕ) (table : Table) (unit : Thermal) (t : ℕ) (first last : Bool) (hull : Steps) (hour : Hour) (is_hull : IsHull unit.points table.k hull)
-    (at : IsHourAt periods table unit t first last hour) (f cut : Steps) (some : Bool) (behind : ℤ → Option ℤ) (is : IsCostsOf true f behind)
-    (outputs : IsCut f cut (pos 0) (int_min hour.cap (last_place hull)) some) where
-  abbrev from_hour : ℤ → Option ℤ
-  from_hour = hours_from table unit t hour.cap behind
+module _ (table : Table) (unit : Thermal) (t : ℕ) where
+  -- the output of a cost is one that the hour may have, at which the others have a cost
+  pub record HasOutput (cap : ℤ) (others : ℤ → Option ℤ) (p v : ℤ) : Type 0 where
+    pub low : pos 0 ≤ℤ p
+    pub high : p ≤ℤ int_min cap (greatest_output unit.points)
+    pub other : ℤ
+    pub is : others p ≡ Some other
+    pub total : v ≡ output_cost table unit t p +ℤ other
 
-  limit : int_min hour.cap (last_place hull) ≡ int_min hour.cap (greatest_output unit.points)
-  limit = ap (int_min hour.cap) is_hull.last
+  pub output-of : (cap : ℤ) (others : ℤ → Option ℤ) (p v : ℤ) → with_output table unit t cap others p ≡ Some v → HasOutput cap others p v
+  output-of cap others p v e =
+      let found = through (is_output unit cap p) (total_of (Some (output_cost table unit t p)) (others p)) v e in
+      let within = output-within unit cap p found.0 in
+      let parts = total_of-parts (Some (output_cost table unit t p)) (others p) v found.1 in
+      let own : parts.first ≡ output_cost table unit t p = (let is = parts.first_is in cc) in
+      record { low = within.0; high = within.1; other = parts.second; is = parts.second_is; total = parts.total ∙ ap (λ z. z +ℤ parts.second) own }
 
-  output-place : (p v : ℤ) → from_hour p ≡ Some v → IsTrue some × IsPlace cut p
-  output-place p v e =
-      let found = through (is_output unit hour.cap p) _ v e in
-      let within = output-within unit hour.cap p found.0 in
-      let parts = total_of-parts (Some (output_cost table unit t p)) (behind p) v found.1 in
-      let high = within.1 in
-      let same = limit in
-      cut-place f cut (pos 0) (int_min hour.cap (last_place hull)) some outputs p (is.outside p parts.second parts.second_is).1 within.0
-      (subst (λ z. p ≤ℤ z) (sym same) high)
-
-  pub none-from : some ≡ false → (g : Steps) → IsCostsOf false g from_hour
-  none-from dead g = record {
+  -- where there are no costs there are none with an output
+  pub none-with-output : (cap : ℤ) (f g : Steps) (others : ℤ → Option ℤ) → IsCostsOf false f others → IsCostsOf false g (with_output table unit t cap others)
+  none-with-output cap f g others is = record {
     inside = λ live. absurd (true≢false (sym live));
-    outside = λ p v e. absurd (true≢false (sym (output-place p v e).0 ∙ dead));
+    outside = λ p v e.
+        let own = output-of cap others p v e in
+        absurd (true≢false (sym (is.outside p own.other own.is).0));
   }
 
-  pub hours-from : some ≡ true → (g : Steps) → SamePlaces cut g
-      → ((p : ℤ) → IsPlace g p → value_at g p ≡ value_at cut p +ℤ value_at hull p +ℤ hour.price *ℤ p +ℤ hour.fixed) → IsCostsOf true g from_hour
-  hours-from live g same value = record {
-    inside = λ alive p place.
-        let there = place_from cut g p same place in
-        let left = uncut-place f cut (pos 0) (int_min hour.cap (last_place hull)) some outputs p live there in
-        let high : p ≤ℤ int_min hour.cap (greatest_output unit.points) = subst (λ z. p ≤ℤ z) limit left.to in
-        let wide = int_min_right hour.cap (greatest_output unit.points) in
-        let own = is.inside refl p left.place ∙ ap Some (sym (outputs.value live p there)) in
-        let output = output-is periods table unit t first last hull hour p is_hull at left.from (omega (arith, linear, high, wide)) in
-        let sum = value p place in
-        cond-true (is_output unit hour.cap p) _ None (output-there unit hour.cap p left.from high)
-        ∙ ap (total_of (Some (output_cost table unit t p))) own
-        ∙ ap Some (omega (arith, linear, output, sum));
-    outside = λ p v e. (refl, place_to cut g p same (output-place p v e).1);
-  }
+  -- where there are some, those that are left are cut to outputs
+  module _ (hull : Steps) (hour : Hour) (is_hull : IsHull unit.points table.k hull) (at : IsHourAt table unit t hour) (f cut : Steps) (some : Bool)
+      (others : ℤ → Option ℤ) (is : IsCostsOf true f others) (outputs : IsCut f cut (pos 0) (int_min hour.cap (last_place hull)) some) where
+    limit : int_min hour.cap (last_place hull) ≡ int_min hour.cap (greatest_output unit.points)
+    limit = ap (int_min hour.cap) is_hull.last
 
--- ---- back to the output before
-pub hours-after : (periods : ℕ) (table : Table) (unit : Thermal) (t : ℕ) (first last : Bool) (hour : Hour) (f ramp g : Steps) (hours : ℤ → Option ℤ)
-    → IsHourAt periods table unit t first last hour → IsCostsOf true f hours → ramp.first ≡ f.first -ℤ unit.ru → last_place ramp ≡ last_place f +ℤ unit.rd
-    → ((p : ℤ) → IsPlace ramp p → IsLeastBetween f (p -ℤ unit.rd) (p +ℤ unit.ru) (value_at ramp p)) → SamePlaces ramp g
-    → ((p : ℤ) → IsPlace g p → value_at g p ≡ value_at ramp p +ℤ neg_ℤ (hour.worth *ℤ int_min hour.cap (p +ℤ unit.ru)))
-    → IsCostsOf true g (hours_after table unit t hour.cap hours)
-hours-after periods table unit t first last hour f ramp g hours at is begins ends least same value =
-    with-more ramp g (λ q. least_between (q -ℤ unit.rd) (q +ℤ unit.ru) hours) (reserve_cost table unit t hour.cap)
-    (ramped f ramp hours unit.rd unit.ru is begins ends least) same
-    (λ p place. value p place ∙ (λ i. value_at ramp p +ℤ neg_ℤ (at.worth i *ℤ int_min hour.cap (p +ℤ unit.ru))))
+    output-place : (p v : ℤ) → with_output table unit t hour.cap others p ≡ Some v → IsTrue some × IsPlace cut p
+    output-place p v e =
+        let own = output-of hour.cap others p v e in
+        cut-place f cut (pos 0) (int_min hour.cap (last_place hull)) some outputs p (is.outside p own.other own.is).1 own.low
+        (subst (λ z. p ≤ℤ z) (sym limit) own.high)
+
+    pub none-left : some ≡ false → (g : Steps) → IsCostsOf false g (with_output table unit t hour.cap others)
+    none-left dead g = record {
+      inside = λ live. absurd (true≢false (sym live));
+      outside = λ p v e. absurd (true≢false (sym (output-place p v e).0 ∙ dead));
+    }
+
+    pub outputs-left : some ≡ true → (g : Steps) → SamePlaces cut g
+        → ((p : ℤ) → IsPlace g p → value_at g p ≡ value_at cut p +ℤ value_at hull p +ℤ hour.price *ℤ p +ℤ hour.fixed)
+        → IsCostsOf true g (with_output table unit t hour.cap others)
+    outputs-left live g same value = record {
+      inside = λ alive p place.
+          let there = place_from cut g p same place in
+          let left = uncut-place f cut (pos 0) (int_min hour.cap (last_place hull)) some outputs p live there in
+          let high : p ≤ℤ int_min hour.cap (greatest_output unit.points) = subst (λ z. p ≤ℤ z) limit left.to in
+          let wide = int_min_right hour.cap (greatest_output unit.points) in
+          let own = is.inside refl p left.place ∙ ap Some (sym (outputs.value live p there)) in
+          let output = output-is table unit t hull hour p is_hull at left.from (omega (arith, linear, high, wide)) in
+          let sum = value p place in
+          cond-true (is_output unit hour.cap p) _ None (output-there unit hour.cap p left.from high)
+          ∙ ap (total_of (Some (output_cost table unit t p))) own
+          ∙ ap Some (omega (arith, linear, output, sum));
+      outside = λ p v e. (refl, place_to cut g p same (output-place p v e).1);
+    }

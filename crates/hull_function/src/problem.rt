@@ -6,10 +6,10 @@ use uc_model::Thermal;
 
 /// One unit over so many periods, the prices, what is decided of the unit, and L on its points.
 #[derive(Clone, Copy)]
-pub(crate) struct Problem<'a> {
-    pub(crate) periods: usize,
-    pub(crate) table: &'a Table,
-    pub(crate) unit: &'a Thermal,
-    pub(crate) fix: &'a Fix,
-    pub(crate) hull: &'a ConvexFunction,
+pub struct Problem<'a> {
+    pub periods: usize,
+    pub table: &'a Table,
+    pub unit: &'a Thermal,
+    pub fix: &'a Fix,
+    pub hull: &'a ConvexFunction,
 }
