@@ -1,14 +1,13 @@
 -- What a list keeps of its tables stays when one is added.
-use Rattle.std.proofs.Common.{◌≡◌, ℕ, zero, suc, ◌-◌, ◌<◌, ◌≤◌, ◌⊎◌, inl, inr, List, [], ◌∷◌, ◌++◌, length, map, take, drop, get_or, slice_get, ℤ, refl, sym, ap, subst, ◌∙◌, append-nil, length-append, length-drop, arith, All}
+use Rattle.std.proofs.Common.{◌≡◌, ℕ, zero, suc, ◌-◌, ◌<◌, ◌≤◌, ◌⊎◌, inl, inr, List, [], ◌∷◌, ◌++◌, length, map, take, drop, get_or, slice_get, ℤ, refl, sym, ap, subst, ◌∙◌, length-append, length-drop, arith, All}
 use Rattle.std.specs.List.{AllByRecursion as Each}
 use Rattle.std.proofs.Math.ListN.{get_or-append}
-use Rattle.std.proofs.Math.Seq.{drop-append_seam}
 use Rattle.std.proofs.lemmas.Bool.{cases_order}
-use Rattle.std.proofs.lemmas.List.{map-append, length-map, drop-append-le, take-append-le, take_all, drop_all, get_or_at}
+use Rattle.std.proofs.lemmas.List.{map-append, length-map, drop-append-le, take-append-le, take_all, get_or_at}
 use Rattle.std.proofs.lemmas.List.Elements.{All-append, recursion_from_All}
 use Rattle.dual_model.specs.Prices.{IsWellFormed}
 use Rattle.table_list.specs.Changes.{Table, Change, OfDemand, OfReserve, OfRamps, changed, all_changed, table_changes}
-use Rattle.table_list.specs.inside.Kept.{Entry, no_table, with_scale, stretch, rebuilt, own_changes, tables_of, IsWithin, AreSteps, AreKept, IsLastOf}
+use Rattle.table_list.specs.inside.Kept.{Entry, no_table, with_scale, stretch, rebuilt, own_changes, tables_of, IsWithin, AreSteps, AreKept}
 
 -- ---- the scale of a table that is changed
 change_scaled : (table : Table) (k : ℤ) (change : Change) → changed (with_scale table k) change ≡ with_scale (changed table change) k

@@ -1,12 +1,11 @@
 -- A list with one more table, kept whole or by its changes.
-use Rattle.std.proofs.Common.{◌≡◌, ℕ, ℤ, ◌-◌, ◌<◌, ◌≤◌, List, [], ◌∷◌, ◌++◌, length, take, drop, get_or, slice_get, Some, None, refl, sym, ap, subst, ◌∙◌, append-nil, length-append, arith}
-use Rattle.std.proofs.Math.ListN.{get_or-append}
+use Rattle.std.proofs.Common.{◌≡◌, ℕ, ℤ, ◌-◌, ◌<◌, List, [], ◌∷◌, ◌++◌, length, take, drop, get_or, slice_get, Some, refl, sym, ap, subst, ◌∙◌, append-nil, length-append, arith}
 use Rattle.std.proofs.Math.Seq.{drop-append_seam}
 use Rattle.std.proofs.lemmas.List.{length-map, drop-append-le, drop_all, get_or_at}
 use Rattle.dual_model.specs.Prices.{IsWellFormed}
 use Rattle.table_list.specs.Changes.{Table, Change, all_changed, table_changes}
 use Rattle.table_list.specs.TableChanges.{change_of, changes_of, AreAlike}
-use Rattle.table_list.specs.inside.Kept.{Entry, Kept, no_table, with_scale, stretch, rebuilt, tables_of, AreKept, IsLastOf, IsListed, IsWholeAdded, IsToldAdded, told_in, tables_in}
+use Rattle.table_list.specs.inside.Kept.{Entry, Kept, no_table, with_scale, rebuilt, tables_of, AreKept, IsLastOf, IsListed, IsWholeAdded, IsToldAdded, told_in, tables_in}
 use Rattle.table_list.proofs.TableChanges.{changes_make_table}
 use Rattle.table_list.proofs.Lists.{IsAdded, tables_added, kept_added, last_added, changes_scaled, changes_behind, stretch_end}
 

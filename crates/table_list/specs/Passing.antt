@@ -1,5 +1,5 @@
 -- Going along two tables, number by number: what is told of each.
-use Rattle.std.specs.Prelude.{◌≡◌, ℕ, ℤ, ◌+◌, ◌<◌, List, [], ◌∷◌, ◌++◌, Option, MatchOption, option_to_list, length}
+use Rattle.std.specs.Prelude.{◌≡◌, ℕ, ℤ, ◌+◌, ◌<◌, List, [], ◌++◌, Option, MatchOption, option_to_list, length}
 use Rattle.table_list.specs.Changes.{RampRow, Change, OfDemand, OfReserve, row_changes}
 pub use Rattle.table_list.specs.declared.passing.Passed.{Passed}
 pub use Rattle.table_list.specs.declared.passing.Prices.{Prices}

@@ -1,8 +1,8 @@
 //! What a list keeps of its tables.
 
-ghost use Rattle.std.specs.Prelude.{◌≡◌, ◌<◌, ◌∷◌, [], ◌++◌, length, OnOk, None, Some};
+ghost use Rattle.std.specs.Prelude.{◌≡◌, ◌<◌, ◌∷◌, [], ◌++◌, length, IfSome, OnOk, None, Some};
 ghost use Rattle.dual_model.specs.Prices.{IsWellFormed};
-ghost use Rattle.table_list.specs.TableChanges.{AreAlike};
+ghost use Rattle.table_list.specs.TableChanges.{AreAlike, last_table};
 ghost use Rattle.table_list.specs.inside.Kept.{IsListed, IsWholeAdded, IsToldAdded, tables_in};
 
 use crate::change::Change;
@@ -78,13 +78,27 @@ impl Kept {
         self.changes.len().saturating_sub(self.from) >= self.room
     }
 
-    /// Adds the first table, of so many numbers.
-    pub(crate) fn push_first(
+    /// Adds a table behind the last one, where there is one.
+    pub(crate) fn push_behind(
         &mut self,
         alloc: Global,
+        last: &Option<Table>,
         table: &Table,
-        numbers: usize,
     ) -> Result<(), NoMemory>
+        requires listed { IsListed self.old last.now }
+        requires alike { IfSome (last_table (tables_in self.old)) (λ last. AreAlike last table.now) }
+        ensures listed { OnOk result (IsListed self.new (Some table.now)) }
+        ensures tables { OnOk result (tables_in self.new ≡ tables_in self.old ++ table.now ∷ []) }
+    {
+        let numbers = number_count(table);
+        match last {
+            None => self.push_first(alloc, table, numbers),
+            Some(last) => self.push_next(alloc, last, table, numbers),
+        }
+    }
+
+    // Adds the first table, of so many numbers.
+    fn push_first(&mut self, alloc: Global, table: &Table, numbers: usize) -> Result<(), NoMemory>
         requires listed { IsListed self.old None }
         requires formed { IsWellFormed table.now }
         ensures listed { OnOk result (IsListed self.new (Some table.now)) }
@@ -94,8 +108,8 @@ impl Kept {
         self.push_whole(alloc, table, numbers, start)
     }
 
-    /// Adds a table of so many numbers behind the last one.
-    pub(crate) fn push_next(
+    // Adds a table of so many numbers behind the last one.
+    fn push_next(
         &mut self,
         alloc: Global,
         last: &Table,
@@ -118,8 +132,8 @@ impl Kept {
     }
 }
 
-/// How many numbers a table keeps, its units among them.
-pub(crate) fn number_count(table: &Table) -> usize
+// How many numbers a table keeps, its units among them.
+fn number_count(table: &Table) -> usize
     ensures { IsWellFormed table.now }
 {
     (table.units() as usize)

@@ -3,7 +3,7 @@
 ghost use Rattle.std.specs.Prelude.{◌≡◌, ◌<◌, ◌∷◌, [], ◌++◌, ◌-◌, suc, length, IfOk, IfSome, option_copied, slice_get, slice_index_or};
 
 use crate::change::Change;
-use crate::kept::{Kept, number_count};
+use crate::kept::Kept;
 use crate::numbers::Numbers;
 use dual_model::Table;
 use std::alloc::Global;
@@ -83,12 +83,8 @@ impl TableList {
         requires { IfSome (last_table self) (λ last. AreAlike last table) }
         ensures { IfOk result (λ list. list ≡ self ++ table ∷ []) }
     {
-        let numbers = number_count(&table);
-        let mut kept = self.kept;
-        match &self.last {
-            None => kept.push_first(alloc, &table, numbers)?,
-            Some(last) => kept.push_next(alloc, last, &table, numbers)?,
-        }
+        let TableList { mut kept, last } = self;
+        kept.push_behind(alloc, &last, &table)?;
         Ok(TableList {
             kept,
             last: Some(table),

@@ -1,5 +1,5 @@
 -- Rows that rise are before the row up to its place.
-use Rattle.std.proofs.Common.{rules, arith, of_calls}
+use Rattle.std.proofs.Common.{rules, arith}
 use Rattle.std.proofs.lemmas.List.Sorted.{IsPartitionPoint-from_clause}
 use Rattle.table_list.specs.Changes.{is_before}
 use Rattle.table_list.proofs.Places.{parted, behind_place}

@@ -1,5 +1,5 @@
 -- They are those that the entry of the number tells.
-use Rattle.std.proofs.Common.{List, ◌-◌, take, drop, sym, ap, ◌∙◌, rules}
+use Rattle.std.proofs.Common.{List, ◌-◌, take, drop, sym, ap, ◌∙◌}
 use Rattle.table_list.specs.TableChanges.{KeptChange, changes_of}
 use Rattle.table_list.proofs.Rebuilding.{own_in}
 use Rattle.table_list.proofs.list.TableList.changes.Goals as goal
