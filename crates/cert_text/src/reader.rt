@@ -1,11 +1,14 @@
 //! Reading certificates.
 
-ghost use Rattle.std.specs.Prelude.{◌≡◌, IfOk, IfErr, MatchResult};
+ghost use Rattle.std.specs.Prelude.{◌≡◌, ◌≢◌, ◌≤◌, [], length, IfOk, IfErr, MatchResult};
 ghost use Rattle.dual_model.specs.Certificate.{Certificate};
 ghost use Rattle.cert_text.specs.CertificateText.{Version, listing_of, certificate_text};
 ghost use Rattle.cert_text.specs.TextConditions.{HasText};
 ghost use Rattle.cert_text.specs.Reading.{listing_read, IsTextOf};
 ghost use Rattle.cert_text.specs.Grammar.{IsFaultOf};
+ghost use Rattle.cert_text.specs.declared.cert.CertFault.TheVariants as faults;
+ghost use Rattle.cert_text.specs.declared.cert.CertKind.TheVariants as kinds;
+ghost use Rattle.cert_text.specs.inside.LineCount.{line_number};
 
 mod changes;
 mod draft;
@@ -22,9 +25,8 @@ mod whole;
 mod words;
 
 use crate::cert::{Cert, CertFault};
-use fault::{stop_fault, tail_fault};
+use fault::{fault_of, tail_fault};
 use std::alloc::Global;
-use stop::Stop;
 use whole::take_certificate;
 
 /// Reads a certificate's text in any version of the format, which is all of the bytes.
@@ -41,14 +43,20 @@ pub fn read(alloc: Global, bytes: &[u8]) -> Result<Cert, CertFault>
     ensures fault { IfErr result (IsFaultOf bytes.now) }
 {
     match take_certificate(alloc, bytes) {
-        Ok((_, cert, rest)) => {
-            if rest.is_empty() {
-                Ok(cert)
-            } else {
-                Err(tail_fault(bytes, rest))
-            }
-        }
-        Err(Stop::At(rest)) => Err(stop_fault(bytes, rest)),
-        Err(Stop::NoMemory) => Err(CertFault::NoMemory),
+        Ok((_, cert, rest)) => ended(bytes, cert, rest),
+        Err(stop) => Err(fault_of(bytes, stop)),
+    }
+}
+
+// The certificate, where no byte is left behind it.
+fn ended(bytes: &[u8], cert: Cert, rest: &[u8]) -> Result<Cert, CertFault>
+    requires { length rest.now ≤ length bytes.now }
+    ensures ok { IfOk result (λ read. (rest.now ≡ []) × (read ≡ cert)) }
+    ensures tail { IfErr result (λ fault. (rest.now ≢ []) × (fault ≡ faults.At (line_number bytes.now rest.now) kinds.Tail)) }
+{
+    if rest.is_empty() {
+        Ok(cert)
+    } else {
+        Err(tail_fault(bytes, rest))
     }
 }

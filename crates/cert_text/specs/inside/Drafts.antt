@@ -1,11 +1,14 @@
 -- What contracts see of a table that is read, and of the changes that make it of the one before it.
-use Rattle.std.specs.Prelude.{◌≡◌, ℕ, ◌<◌, Bool, true, false, not, ◌&&◌, ◌||◌, List, [], ◌∷◌, ◌++◌, Option, Some, length, pos}
+use Rattle.std.specs.Prelude.{◌≡◌, ℕ, ◌<◌, Bool, true, false, not, ◌&&◌, ◌||◌, List, [], ◌∷◌, ◌++◌, Option, Some, Ok, length, pos}
 use Rattle.std.specs.Ordering.{int_eq}
 use Rattle.dual_model.specs.Prices.{row_of, AreRising}
 use Rattle.table_list.specs.Changes.{Table, RampRow, Change, OfDemand, OfReserve, OfRamps, is_before, with_row, changed}
+use Rattle.table_list.specs.TableChanges.{last_table}
+use Rattle.cert_text.specs.CertificateText.{told_from}
 use Rattle.cert_text.specs.Grammar.{Sizes}
 use Rattle.cert_text.specs.TextConditions.{IsTableText}
 use Rattle.cert_text.specs.inside.Forms.{comes_behind, is_other}
+use Rattle.cert_text.specs.inside.Parts.{told_part}
 use Rattle.cert_text.specs.declared.reader.draft.Draft.{Draft}
 
 -- ---- tables
@@ -21,6 +24,13 @@ so_far draft left = drafted draft (draft.ramps.items ++ left)
 pub record IsDrafted (size : Sizes) (draft : Draft) (table : Table) : Type 0 where
   pub numbers : table ≡ drafted draft draft.ramps.items
   pub text : IsTableText size.periods size.thermal table
+
+-- a table that is told at the front of bytes went behind the others, and its numbers are the draft's
+pub record IsToldBehind (size : Sizes) (tables : List Table) (bytes : List ℕ) (draft : Draft) (grown : List Table) (rest : List ℕ) : Type 0 where
+  pub table : Table
+  pub told : told_part size (told_from size.version (last_table tables)) bytes ≡ Ok (table, rest)
+  pub all : grown ≡ tables ++ table ∷ []
+  pub drafted : IsDrafted size draft table
 
 -- ---- ramp rows
 -- each of the rows comes before that one

@@ -58,9 +58,12 @@ powers_part word size = line_of (row_at word size.periods (signed_at 15))
 abbrev pub nothing : ℕ → List ℤ
 nothing periods = replicate periods (pos 0)
 
+abbrev pub missing_part : List ℕ → Sizes → Bool → Part (List ℤ)
+missing_part word size false bytes = Ok (nothing size.periods, bytes)
+missing_part word size true bytes = powers_part word size bytes
+
 unfoldable pub shortages_part : Sizes → Bool → Part (List ℤ × List ℤ)
-shortages_part size false bytes = Ok ((nothing size.periods, nothing size.periods), bytes)
-shortages_part size true bytes = then (powers_part (codes "d") size) (λ _. powers_part (codes "e") size) bytes
+shortages_part size priced bytes = then (missing_part (codes "d") size priced) (λ _. missing_part (codes "e") size priced) bytes
 
 -- with the powers over a denominator
 abbrev pub printed_of : ℕ → List (List Cell) × (List (List ℤ) × (List ℤ × List ℤ)) → Printed

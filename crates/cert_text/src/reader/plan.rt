@@ -1,9 +1,10 @@
 //! Prices and schedules.
 
-ghost use Rattle.std.specs.Prelude.{◌≡◌, Ok, Err, IfOk, true};
+ghost use Rattle.std.specs.Prelude.{◌≡◌, Ok, Err, IfOk, true, codes};
 ghost use Rattle.std.specs.Option.{option_map};
 ghost use Rattle.branch_tree.specs.Claims.{written_of};
-ghost use Rattle.cert_text.specs.inside.Parts.{GivesPart, nothing, powers_part, shortages_part, printed_part, rows_behind, schedule_part, first_of, head_of, prices_of, behind_first, plan_part, sizes};
+ghost use Rattle.cert_text.specs.inside.Forms.{signed_at};
+ghost use Rattle.cert_text.specs.inside.Parts.{GivesPart, nothing, then, rows_of, missing_part, powers_part, shortages_part, printed_part, rows_behind, schedule_part, first_of, head_of, prices_of, behind_first, plan_part, sizes};
 
 use super::lines::{First, Head, take_first, take_schedule};
 use super::sizes::Size;
@@ -33,7 +34,24 @@ fn take_powers<'a>(
     Ok((List::from_vec(powers), rest))
 }
 
-// What is missing in each period, which is told where it has a price.
+// A power in each period, which is told in the line with this first word where it has a price.
+fn take_missing<'a>(
+    alloc: Global,
+    first: &[u8],
+    size: &Size,
+    priced: bool,
+    bytes: &'a [u8],
+) -> Result<(List<i64>, &'a [u8]), Stop<'a>>
+    ensures { GivesPart (λ r. (r.0, r.1.now)) result (missing_part first.now (sizes size.now) priced bytes.now) }
+{
+    if priced {
+        take_powers(alloc, first, size, bytes)
+    } else {
+        Ok((nothing(alloc, size.periods)?, bytes))
+    }
+}
+
+// What is missing in each period.
 #[tactic(auto, unfolding(crate::specs::inside::Parts::shortages_part))]
 fn take_shortages<'a>(
     alloc: Global,
@@ -43,14 +61,24 @@ fn take_shortages<'a>(
 ) -> Result<((List<i64>, List<i64>), &'a [u8]), Stop<'a>>
     ensures { GivesPart (λ r. (r.0, r.1.now)) result (shortages_part (sizes size.now) priced bytes.now) }
 {
-    if priced {
-        let (shed, rest) = take_powers(alloc, b"d", size, bytes)?;
-        let (short, rest) = take_powers(alloc, b"e", size, rest)?;
-        return Ok(((shed, short), rest));
-    }
-    let shed = nothing(alloc, size.periods)?;
-    let short = nothing(alloc, size.periods)?;
-    Ok(((shed, short), bytes))
+    let (shed, rest) = take_missing(alloc, b"d", size, priced, bytes)?;
+    let (short, rest) = take_missing(alloc, b"e", size, priced, rest)?;
+    Ok(((shed, short), rest))
+}
+
+// The renewable units' rows, and what is missing.
+fn take_free_rows<'a>(
+    alloc: Global,
+    size: &Size,
+    priced: bool,
+    bytes: &'a [u8],
+) -> Result<(Vec<List<i64>>, (List<i64>, List<i64>), &'a [u8]), Stop<'a>>
+    ensures { GivesPart (λ r. ((r.0.items, r.1), r.2.now)) result
+        (then (rows_of (codes "w") size.now.renewable size.now.periods (signed_at 15)) (λ _. shortages_part (sizes size.now) priced) bytes.now) }
+{
+    let (renewable, rest) = take_rows(alloc, b"w", &Watts, size.renewable, size.periods, bytes)?;
+    let (missing, rest) = take_shortages(alloc, size, priced, rest)?;
+    Ok((renewable, missing, rest))
 }
 
 // The rows of all units, and what is missing, with powers over that denominator.
@@ -65,8 +93,7 @@ fn take_printed<'a>(
     ensures { GivesPart (λ r. (r.0, r.1.now)) result (printed_part (sizes size.now) priced denominator bytes.now) }
 {
     let (thermal, rest) = take_rows(alloc, b"t", &CellWord, size.thermal, size.periods, bytes)?;
-    let (renewable, rest) = take_rows(alloc, b"w", &Watts, size.renewable, size.periods, rest)?;
-    let ((shed, short), rest) = take_shortages(alloc, size, priced, rest)?;
+    let (renewable, (shed, short), rest) = take_free_rows(alloc, size, priced, rest)?;
     let printed = Printed {
         thermal: List::from_vec(thermal),
         renewable: List::from_vec(renewable),

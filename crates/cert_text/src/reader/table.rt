@@ -1,11 +1,11 @@
 //! Tables.
 
-ghost use Rattle.std.specs.Prelude.{◌≡◌, None, IfOk, OnOk, IfSome, Ok, Err, option_copied};
+ghost use Rattle.std.specs.Prelude.{◌≡◌, None, IfOk, IfErr, OnOk, IfSome, Ok, Err, option_copied};
 ghost use Rattle.cert_text.specs.Grammar.{AreSizes};
 ghost use Rattle.cert_text.specs.CertificateText.{told_from};
-ghost use Rattle.cert_text.specs.inside.Drafts.{IsDrafted};
+ghost use Rattle.cert_text.specs.inside.Drafts.{IsDrafted, IsToldBehind};
 ghost use Rattle.table_list.specs.TableChanges.{last_table};
-ghost use Rattle.cert_text.specs.inside.Parts.{GivesPart, ramp_rows_part, ramps_part, numbers_part, table_part, next_part, told_part, tables_part, sizes};
+ghost use Rattle.cert_text.specs.inside.Parts.{GivesPart, StopsAs, ramp_rows_part, ramps_part, numbers_part, table_part, next_part, told_part, tables_part, sizes};
 
 use super::changes::take_next_line;
 use super::draft::Draft;
@@ -139,6 +139,24 @@ fn take_told<'a>(
     }
 }
 
+// The tables with a told one more behind them. The draft has the numbers of the last one.
+fn push_told<'a>(
+    alloc: Global,
+    size: &Size,
+    tables: TableList,
+    bytes: &'a [u8],
+    draft: &mut Draft,
+) -> Result<(TableList, &'a [u8]), Stop<'a>>
+    requires sizes { AreSizes (sizes size.now) }
+    requires last { IfSome (last_table tables) (IsDrafted (sizes size.now) draft.old) }
+    ensures pushed { IfOk result (λ r. IsToldBehind (sizes size.now) tables bytes.now draft.new r.0 r.1.now) }
+    ensures stop { IfErr result (λ stop. StopsAs stop (told_part (sizes size.now) (told_from size.now.version (last_table tables)) bytes.now)) }
+{
+    let (table, rest) = take_told(alloc, size, &tables, bytes, draft)?;
+    let tables = tables.push(alloc, table)?;
+    Ok((tables, rest))
+}
+
 /// The tables, as many as the size says.
 pub(crate) fn take_tables<'a>(
     alloc: Global,
@@ -153,8 +171,8 @@ pub(crate) fn take_tables<'a>(
     let mut draft = Draft::new(alloc);
     let mut rest = bytes;
     for _ in 0..size.tables {
-        let (table, behind) = take_told(alloc, size, &tables, rest, &mut draft)?;
-        tables = tables.push(alloc, table)?;
+        let (told, behind) = push_told(alloc, size, tables, rest, &mut draft)?;
+        tables = told;
         rest = behind;
     }
     Ok((tables, rest))
