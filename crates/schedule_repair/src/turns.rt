@@ -15,7 +15,7 @@ pub(crate) struct Turn {
 }
 
 /// After so many choices the turns are listed anew, if the best state is another one then.
-const CHOICES: u32 = 500;
+const CHOICES: u32 = 40;
 
 /// The turns, cheapest first, and which units have one; what the best state cost when they were listed, which is the greatest number
 /// before; and how often one was chosen since.
