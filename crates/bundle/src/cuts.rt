@@ -435,7 +435,7 @@ impl Bundle {
             .saturating_sub(between);
         let apart = ends.apart().saturating_mul(i128::from(WHOLE));
         let most = at(weights, high).max(0);
-        let amount = within(apart / along(bend, reach).max(1), most).max(0);
+        let amount = within(divided(apart, along(bend, reach)), most).max(0);
         Shift {
             low,
             high,
@@ -755,6 +755,11 @@ fn moved(alloc: Global, places: &[usize], moves: &[i64]) -> Result<Vec<(usize, i
         }
     }
     Ok(moved)
+}
+
+// A number by another one, which counts as at least 1.
+fn divided(number: i128, by: i128) -> i128 {
+    number / by.max(1)
 }
 
 // What a product of slopes is worth over such a reach: the stride, in units of slopes.

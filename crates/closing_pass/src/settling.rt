@@ -31,7 +31,7 @@ use branch_tree::Outcome;
 use decided_nodes::{Decided, Pivoting, exact_dispatch};
 use dual_model::{Node, Table};
 use opening::Evaluator;
-use prices::{Ascent, CutPool, Values, next_ascent};
+use prices::{Ascent, CutPool, Target, Values, next_ascent};
 use search_core::Move;
 use search_core::laws::tree_runs_hold;
 use search_core::limits::NODE_ENTRIES;
@@ -248,15 +248,12 @@ impl Settling<'_> {
             exact: self.closing.exact,
         };
         let mut pool = CutPool::closed(alloc);
-        let ascent = next_ascent(
-            alloc,
-            values,
-            &mut pool,
-            &holding.path,
-            &holding.stored,
-            scale,
-            i128::MAX,
-        )?;
+        let target = Target {
+            node: &holding.path,
+            had: scale,
+            enough: i128::MAX,
+        };
+        let ascent = next_ascent(alloc, values, &mut pool, &holding.stored, target)?;
         Ok(table_of(ascent))
     }
 

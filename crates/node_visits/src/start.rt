@@ -4,9 +4,9 @@ ghost use Rattle.std.specs.Prelude.{IfOk};
 ghost use Rattle.uc_model.specs.Limits.{IsLawfulInstance};
 ghost use Rattle.node_visits.specs.Trials.{IsAscentFor};
 
-use dual_model::Node;
+use dual_model::{Node, Table};
 use opening::Priced;
-use prices::{Ascent, CutPool, Values, next_ascent, zero};
+use prices::{Ascent, CutPool, Target, Values, next_ascent, zero};
 use std::alloc::Global;
 use uc_model::{NoMemory, Printed};
 
@@ -26,5 +26,24 @@ pub fn first_ascent(alloc: Global, values: Values, pool: &mut CutPool) -> Result
     ensures { IfOk result (IsAscentFor values.entry.instance.now 1) }
 {
     let none = zero(alloc, values.instance)?;
-    next_ascent(alloc, values, pool, &Node::root(alloc), &none, 1, i128::MAX)
+    root_ascent(alloc, values, pool, &none)
+}
+
+/// An ascent of the first claim from a table. The only error is `NoMemory`.
+pub(crate) fn root_ascent(
+    alloc: Global,
+    values: Values,
+    pool: &mut CutPool,
+    table: &Table,
+) -> Result<Ascent, NoMemory>
+    requires { IsLawfulInstance values.instance.now }
+    ensures { IfOk result (IsAscentFor values.entry.instance.now 1) }
+{
+    let root = Node::root(alloc);
+    let target = Target {
+        node: &root,
+        had: 1,
+        enough: i128::MAX,
+    };
+    next_ascent(alloc, values, pool, table, target)
 }

@@ -13,13 +13,13 @@ ghost use Rattle.node_visits.specs.inside.Trying.{IsExactTrial, IsRay, IsTrialFo
 
 use crate::effort::goal;
 use crate::pair::beside;
-use crate::start::first_ascent;
+use crate::start::{first_ascent, root_ascent};
 use crate::worker::Worker;
 use claims::{Branching, Hints, split_cell};
 use decided_nodes::{Decided, Pivoting, exact_dispatch};
 use dual_model::{Node, Table};
 use opening::{is_positive, node_ray};
-use prices::{Ascent, CutPool, Values, next_ascent, with_cell, with_ray};
+use prices::{Ascent, CutPool, Target, Values, next_ascent, with_cell, with_ray};
 use schedule_repair::is_small;
 use search_desk::{Claim, Evaluated};
 use std::alloc::Global;
@@ -339,14 +339,14 @@ fn ascent(
     ensures ascent { IfOk result (IsAscentFor values.entry.instance.now claim.now.unit) }
 {
     if claim.unit == 1 {
-        root_ascent(alloc, values, pool, search.aim.shared, next)
+        claimed_root(alloc, values, pool, search.aim.shared, next)
     } else {
         node_ascent(alloc, values, pool, claim, enough(claim, search.goal))
     }
 }
 
 // The ascent of the first claim; several workers make two more, since they split the root then.
-fn root_ascent(
+fn claimed_root(
     alloc: Global,
     values: Values,
     pool: &mut CutPool,
@@ -380,23 +380,10 @@ fn root_steps(
     requires { IsLawfulInstance values.instance.now }
     ensures { IfOk result (IsAscentFor values.entry.instance.now 1) }
 {
-    let ascent = root_step(alloc, values, pool, table)?;
-    let stepped = root_step(alloc, values, pool, &ascent.table);
+    let ascent = root_ascent(alloc, values, pool, table)?;
+    let stepped = root_ascent(alloc, values, pool, &ascent.table);
     drop(ascent);
     stepped
-}
-
-// One more ascent of the first claim, from the table of the one before.
-fn root_step(
-    alloc: Global,
-    values: Values,
-    pool: &mut CutPool,
-    table: &Table,
-) -> Result<Ascent, NoMemory>
-    requires { IsLawfulInstance values.instance.now }
-    ensures { IfOk result (IsAscentFor values.entry.instance.now 1) }
-{
-    next_ascent(alloc, values, pool, &Node::root(alloc), table, 1, i128::MAX)
 }
 
 // The ascent from what the node stores, with a ray or a cell that is looked for where no schedule is known.
@@ -410,15 +397,12 @@ fn node_ascent(
     requires claim { IsHeldClaim values.instance.now claim.now }
     ensures ascent { IfOk result (IsAscentFor values.entry.instance.now claim.now.unit) }
 {
-    let ascent = next_ascent(
-        alloc,
-        values,
-        pool,
-        &claim.path,
-        &claim.table,
-        claim.unit,
+    let target = Target {
+        node: &claim.path,
+        had: claim.unit,
         enough,
-    )?;
+    };
+    let ascent = next_ascent(alloc, values, pool, &claim.table, target)?;
     if claim.seen.is_some() || ascent.ray.is_some() {
         Ok(ascent)
     } else {

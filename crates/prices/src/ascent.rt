@@ -62,6 +62,14 @@ pub struct Effort {
     pub enough: i128,
 }
 
+/// An ascent to make: its node, its effort, and the scale of the table that it comes to.
+#[derive(Clone, Copy)]
+pub struct Plan<'a> {
+    pub node: &'a Node,
+    pub effort: Effort,
+    pub scale: i64,
+}
+
 /// What an ascent found: the best table, how often each unit was on in each period among the cuts that give the best move, unit by unit,
 /// in parts of 2^16, and what it takes the bound for, in micro-dollars, of which nothing is proved. Where this is above all that a schedule
 /// could cost, the ascent ended there, and its prices stand in `ray` at the scale 0: the value there should show that there is none. `cell`
@@ -76,7 +84,8 @@ pub struct Ascent {
 }
 
 // The best prices so far, those that were tried last, the value of the best, the cuts there, and how many evaluations have gained nothing
-// since; and the cuts' mean shares, where strides have been tried since the last evaluation, which leave the weights unsettled.
+// since; the cuts' mean shares, where strides have been tried since the last evaluation, which leave the weights unsettled; the effort of the
+// ascent; and how often another stride was tried.
 #[derive(Drop)]
 struct Center {
     prices: Vec<i64>,
@@ -85,6 +94,8 @@ struct Center {
     bundle: Bundle,
     nulls: u32,
     shares: Vec<i64>,
+    effort: Effort,
+    stalls: u32,
 }
 
 /// Where an ascent starts: prices at the scale `SCALE`, the part of the value by which its first step is to raise it, its effort,
@@ -249,37 +260,35 @@ fn missing_cost(needs: &[i64], price: u32) -> i128 {
     sum.saturating_mul(i128::from(price))
 }
 
-/// Ascends at a node from a table with an effort, to a table at the scale `k`; from the prices in order of merit where the table has
-/// none of demand. It begins with those cuts of the pool that the node leaves, and keeps its own there. Where a unit has no pattern at
+/// Ascends at a node from a table, with an effort, to one at a scale; from the prices in order of merit where the table has none of
+/// demand. It begins with those cuts of the pool that the node leaves, and keeps its own there. Where a unit has no pattern at
 /// the node, no share is told. The only error is `NoMemory`.
 pub fn ascend(
     alloc: Global,
     values: Values,
     pool: &mut CutPool,
-    node: &Node,
     table: &Table,
-    effort: Effort,
-    k: i64,
+    plan: Plan,
 ) -> Result<Ascent, NoMemory>
     requires lawful { IsLawfulInstance values.instance.now }
-    requires node { IsNodeOf values.instance.now node.now }
-    requires scale { IsLawfulScale k }
+    requires node { IsNodeOf values.instance.now plan.node.now }
+    requires scale { IsLawfulScale plan.scale }
     ensures lawful { IfOk result (λ ascent. IsLawfulTable values.entry.instance.now ascent.table) }
-    ensures scale { IfOk result (λ ascent. ascent.table.k ≡ k) }
+    ensures scale { IfOk result (λ ascent. ascent.table.k ≡ plan.scale) }
     ensures ray { IfOk result (λ ascent. IfSome ascent.ray (IsLawfulTable values.entry.instance.now)) }
     ensures ray_scale { IfOk result (λ ascent. IfSome ascent.ray (λ ray. ray.k ≡ pos 0)) }
 {
-    let mut hill = Hill::of(alloc, values, node)?;
+    let mut hill = Hill::of(alloc, values, plan.node)?;
     let start = Start {
         prices: first_prices(alloc, values.instance, table, &hill)?,
         part: first_part(table),
-        effort,
+        effort: plan.effort,
         keeps_more: false,
         held: None,
     };
-    pool.turn_to(values.instance, node)?;
+    pool.turn_to(values.instance, plan.node)?;
     let top = top_from(alloc, &mut hill, values.instance, pool, start)?;
-    ended(alloc, &hill, values.instance, top, k)
+    ended(alloc, &hill, values.instance, top, plan.scale)
 }
 
 /// The ascent with a ray, which is looked for at its node by another ascent in which nothing costs anything, from no prices until the value
@@ -362,9 +371,9 @@ pub(crate) fn top_from(
     let rise = hill.sizes.of_value(first.value) / start.part.max(1);
     let bundle = bundle_for(alloc, instance, hill, &start)?;
     pool.keep(alloc, &first, &start.prices)?;
-    let mut center = begin(alloc, bundle, start.prices, first, rise)?;
+    let mut center = begin(alloc, bundle, start, first, rise)?;
     pool.lend(alloc, &mut center.bundle, &center.prices, center.value)?;
-    climb(alloc, hill, instance, pool, &mut center, start.effort)?;
+    climb(alloc, hill, instance, pool, &mut center)?;
     settle(alloc, &mut center)?;
     Ok(Top {
         prices: center.prices,
@@ -435,25 +444,20 @@ fn climb(
     instance: &Instance,
     pool: &mut CutPool,
     center: &mut Center,
-    effort: Effort,
 ) -> Result<(), NoMemory> {
     let sizes = hill.sizes;
     let futile = futile_after(&center.bundle);
-    let enough = sizes.enough(effort);
-    let mut stalls: u32 = 0;
-    for _ in 0..effort.evaluations {
+    let enough = sizes.enough(center.effort);
+    for _ in 0..center.effort.evaluations {
         let size = sizes.of_value(center.value);
         let step = center.bundle.step(alloc, &center.prices, size)?;
         if center.nulls >= futile || center.value > enough {
             break;
         }
         if step.predicted < size / PROMISE {
-            stalls = stalls.saturating_add(1);
-            if stalls > STALLS {
+            if !try_another_stride(alloc, center, step.predicted)? {
                 break;
             }
-            settle(alloc, center)?;
-            center.bundle.try_another_stride(step.predicted);
         } else {
             move_to(&mut center.tried, &center.prices, &step.moved)?;
             let memory = memory_of(alloc, &mut center.bundle);
@@ -469,6 +473,21 @@ fn climb(
         }
     }
     Ok(())
+}
+
+// Tries another stride where a step promises so little, and tells whether that is worth it once more.
+fn try_another_stride(
+    alloc: Global,
+    center: &mut Center,
+    predicted: i128,
+) -> Result<bool, NoMemory> {
+    center.stalls = center.stalls.saturating_add(1);
+    if center.stalls > STALLS {
+        return Ok(false);
+    }
+    settle(alloc, center)?;
+    center.bundle.try_another_stride(predicted);
+    Ok(true)
 }
 
 // Whether the table has no price of demand.
@@ -564,14 +583,15 @@ fn bundle_for(
     Ok(bundle)
 }
 
-// The centre at the first prices, from where the first step is to raise the value by so much.
+// The centre at the start's prices, from where the first step is to raise the value by so much.
 fn begin(
     alloc: Global,
     mut bundle: Bundle,
-    prices: Vec<i64>,
+    start: Start,
     first: Evaluation,
     rise: i128,
 ) -> Result<Center, NoMemory> {
+    let Start { prices, effort, .. } = start;
     let value = first.value;
     let cut = cut(&bundle, first, WHOLE);
     bundle.begin(alloc, cut, rise)?;
@@ -582,6 +602,8 @@ fn begin(
         bundle,
         nulls: 0,
         shares: Vec::new(alloc),
+        effort,
+        stalls: 0,
     })
 }
 

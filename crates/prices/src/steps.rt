@@ -7,7 +7,7 @@ ghost use Rattle.dual_model.specs.Prices.{IsLawfulTable};
 ghost use Rattle.dual_model.specs.NodeAnswer.{IsValued};
 ghost use Rattle.prices.specs.Steps.{IsStepFor};
 
-use crate::ascent::{Ascent, Effort, Values, ascend};
+use crate::ascent::{Ascent, Effort, Plan, Values, ascend};
 use crate::pool::CutPool;
 use dual_model::{Node, Table, Valued};
 use opening_tables::SCALE;
@@ -45,25 +45,32 @@ const MANY_LENT_EVALUATIONS: u32 = 120;
 
 const MANY_PERIODS: u32 = 72;
 
-/// The ascent to a table to try next at a node at which `had` tables were tried, of which the last is `table`, with the cuts of the pool:
-/// the table's scale is a million and `had`. It ends where it takes the bound for `enough`, in micro-dollars. The only error is `NoMemory`.
+/// A node at which `had` tables were tried, and at what an ascent there takes the bound for where it ends, in micro-dollars.
+#[derive(Clone, Copy)]
+pub struct Target<'a> {
+    pub node: &'a Node,
+    pub had: u32,
+    pub enough: i128,
+}
+
+/// The ascent to a table to try next at the target's node, of whose tables the last is `table`, with the cuts of the pool: the table's scale is
+/// a million and as many as were tried. The only error is `NoMemory`.
 pub fn next_ascent(
     alloc: Global,
     values: Values,
     pool: &mut CutPool,
-    node: &Node,
     table: &Table,
-    had: u32,
-    enough: i128,
+    target: Target,
 ) -> Result<Ascent, NoMemory>
     requires lawful { IsLawfulInstance values.instance.now }
-    requires node { IsNodeOf values.instance.now node.now }
-    requires count { had ≤ 999000000 }
+    requires node { IsNodeOf values.instance.now target.node.now }
+    requires count { target.had ≤ 999000000 }
     ensures lawful { IfOk result (λ ascent. IsLawfulTable values.entry.instance.now ascent.table) }
-    ensures scale { IfOk result (λ ascent. ascent.table.k ≡ pos (1000000 + had)) }
+    ensures scale { IfOk result (λ ascent. ascent.table.k ≡ pos (1000000 + target.had)) }
     ensures ray { IfOk result (λ ascent. IfSome ascent.ray (IsLawfulTable values.entry.instance.now)) }
     ensures ray_scale { IfOk result (λ ascent. IfSome ascent.ray (λ ray. ray.k ≡ pos 0)) }
 {
+    let Target { node, had, enough } = target;
     let is_root = node.fixings.as_slice().is_empty();
     let evaluations = if is_root || !pool.is_open(values.instance) {
         evaluations_of(values.instance, is_root)
@@ -74,8 +81,12 @@ pub fn next_ascent(
         evaluations,
         enough,
     };
-    let scale = SCALE + i64::from(had);
-    ascend(alloc, values, pool, node, table, effort, scale)
+    let plan = Plan {
+        node,
+        effort,
+        scale: SCALE + i64::from(had),
+    };
+    ascend(alloc, values, pool, table, plan)
 }
 
 // The most evaluations of an ascent from one cut, at the root or at another node.
@@ -171,5 +182,10 @@ pub fn step(
         exact: false,
     };
     let mut pool = CutPool::closed(alloc);
-    Ok(next_ascent(alloc, values, &mut pool, node, table, had, i128::MAX)?.table)
+    let target = Target {
+        node,
+        had,
+        enough: i128::MAX,
+    };
+    Ok(next_ascent(alloc, values, &mut pool, table, target)?.table)
 }

@@ -6,4 +6,4 @@ use Rattle.prices.proofs.ascent.ascend.Goals as goal
 
 pub returns-clause-scale : goal.returns-clause-scale
 returns-clause-scale c =
-    subst (λ z. IfOk c.ended.result (λ ascent. ascent.table.k ≡ z)) (to_z-of_z w64 c.args.k c.ranges.k) c.ended.ensures.scale
+    subst (λ z. IfOk c.ended.result (λ ascent. ascent.table.k ≡ z)) (to_z-of_z w64 c.args.plan.scale c.ranges.plan.scale) c.ended.ensures.scale
