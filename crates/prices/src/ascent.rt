@@ -274,7 +274,7 @@ pub fn ascend(
     requires node { IsNodeOf values.instance.now plan.node.now }
     requires scale { IsLawfulScale plan.scale }
     ensures lawful { IfOk result (λ ascent. IsLawfulTable values.entry.instance.now ascent.table) }
-    ensures scale { IfOk result (λ ascent. ascent.table.k ≡ plan.scale) }
+    ensures scale { IfOk result (λ ascent. ascent.table.k ≡ plan.entry.scale) }
     ensures ray { IfOk result (λ ascent. IfSome ascent.ray (IsLawfulTable values.entry.instance.now)) }
     ensures ray_scale { IfOk result (λ ascent. IfSome ascent.ray (λ ray. ray.k ≡ pos 0)) }
 {

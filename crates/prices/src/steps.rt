@@ -14,13 +14,15 @@ use opening_tables::SCALE;
 use std::alloc::Global;
 use uc_model::{Instance, NoMemory, Thermal};
 
-/// The most evaluations of an ascent, and those where there are so few cells that each is cheap beside what the cuts take, and no ramps
-/// that have prices too.
+/// The most evaluations of an ascent, also where the pool keeps the cuts of earlier ones and there are some cells and no more, and those where
+/// there are so few cells that each is cheap beside what the cuts take, and no ramps that have prices too.
 const EVALUATIONS: u32 = 150;
 
 const FEW_EVALUATIONS: u32 = 40;
 
 const FEW_CELLS: usize = 500;
+
+const SOME_CELLS: usize = 2500;
 
 /// Those where there are so many cells that each evaluation takes long.
 const MANY_EVALUATIONS: u32 = 60;
@@ -66,7 +68,7 @@ pub fn next_ascent(
     requires node { IsNodeOf values.instance.now target.node.now }
     requires count { target.had ≤ 999000000 }
     ensures lawful { IfOk result (λ ascent. IsLawfulTable values.entry.instance.now ascent.table) }
-    ensures scale { IfOk result (λ ascent. ascent.table.k ≡ pos (1000000 + target.had)) }
+    ensures scale { IfOk result (λ ascent. ascent.table.k ≡ pos (1000000 + target.entry.had)) }
     ensures ray { IfOk result (λ ascent. IfSome ascent.ray (IsLawfulTable values.entry.instance.now)) }
     ensures ray_scale { IfOk result (λ ascent. IfSome ascent.ray (λ ray. ray.k ≡ pos 0)) }
 {
@@ -108,6 +110,8 @@ fn evaluations_of(instance: &Instance, is_root: bool) -> u32 {
 fn lent_evaluations(instance: &Instance) -> u32 {
     if is_cheap(instance) {
         FEW_LENT_EVALUATIONS
+    } else if is_middling(instance) {
+        EVALUATIONS
     } else if instance.periods > MANY_PERIODS || is_windy(instance) {
         MANY_LENT_EVALUATIONS
     } else {
@@ -124,6 +128,12 @@ pub(crate) fn cells_of(instance: &Instance) -> usize {
 // Whether an evaluation is cheap beside what the cuts take.
 fn is_cheap(instance: &Instance) -> bool {
     cells_of(instance) <= FEW_CELLS && ramped_units(instance) == 0
+}
+
+// Whether there are so many cells that a claim takes long beside its table, and so few that the best prices are a matter of few units.
+fn is_middling(instance: &Instance) -> bool {
+    let cells = cells_of(instance);
+    FEW_CELLS < cells && cells <= SOME_CELLS
 }
 
 // How many units have ramps that can bind.

@@ -1,9 +1,11 @@
 -- The table is at the scale that was asked for: that of the ascent that ended.
-use Rattle.std.proofs.Common.{◌≡◌, IfOk, subst}
-use Rattle.std.specs.Int.{w64}
-use Rattle.std.proofs.lemmas.Int.{to_z-of_z}
+use Rattle.std.proofs.Common.{◌≡◌, ◌≤◌, ◌^◌, lit<, IfOk, subst, arith, unsigned_abs}
+use Rattle.std.proofs.lemmas.Int.{ints}
+use Rattle.uc_model.proofs.Sizes.{narrow}
 use Rattle.prices.proofs.ascent.ascend.Goals as goal
 
 pub returns-clause-scale : goal.returns-clause-scale
 returns-clause-scale c =
-    subst (λ z. IfOk c.ended.result (λ ascent. ascent.table.k ≡ z)) (to_z-of_z w64 c.args.plan.scale c.ranges.plan.scale) c.ended.ensures.scale
+    let scale = c.args.plan.scale in
+    let size : unsigned_abs scale ≤ 10 ^ 9 = omega (arith, ints, c.requires.scale.low, c.requires.scale.high) in
+    subst (λ z. IfOk c.ended.result (λ ascent. ascent.table.k ≡ z)) (narrow scale (10 ^ 9) size (lit< tt)) c.ended.ensures.scale
