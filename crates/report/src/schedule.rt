@@ -9,7 +9,7 @@ use crate::names::put_unit;
 use outside::{
     Form, Out, PairForm, put_amount, put_list_line, put_money, put_pairs, put_whole, put_whole_line,
 };
-use uc_model::{Cell, Instance, List, Printed, Renewable, Thermal};
+use uc_model::{Cell, Instance, List, Printed, Renewable, Thermal, scaled, sum};
 
 // The category of a start; 0 is no start.
 fn put_start<O: Out>(out: &mut O, category: u8)
@@ -25,7 +25,10 @@ fn put_start<O: Out>(out: &mut O, category: u8)
 fn total_output(unit: &Thermal, cell: &Cell, denominator: u8) -> i128
     ensures { result ≡ cell.now.p +ℤ pos denominator *ℤ unit.now.pmin }
 {
-    i128::from(cell.p) + i128::from(denominator) * i128::from(unit.pmin)
+    sum(
+        i128::from(cell.p),
+        scaled(i64::from(denominator), unit.pmin),
+    )
 }
 
 // A cell of a unit: `-`, or total output, reserve and the category of a start, over the denominator.
