@@ -1,12 +1,16 @@
 -- A price for each watt that a place lies below another: the first steps are cheaper by it, and the first value dearer.
-use Rattle.std.proofs.Common.{◌≡◌, ℕ, ◌+◌, ◌-◌, ◌*◌, ◌<◌, ◌≤◌, min, ◌⊎◌, inl, inr, ⊎_elim, List, refl, ap, subst, ◌∙◌, arith, ℤ, pos, neg_ℤ, ◌+ℤ◌, ◌*ℤ◌, ◌≤ℤ◌, unsigned_abs}
+use Rattle.std.proofs.Common.{◌≡◌, ℕ, ◌+◌, ◌-◌, ◌*◌, ◌^◌, ◌<◌, ◌≤◌, min, ◌⊎◌, inl, inr, ⊎_elim, List, refl, sym, ap, subst, ◌∙◌, arith, lit<, ℤ, pos, neg_ℤ, ◌+ℤ◌, ◌-ℤ◌, ◌*ℤ◌, ◌<ℤ◌, ◌≤ℤ◌, to_z, of_z, unsigned_abs, FitsSigned, Fits, false}
+use lib.Dec.{T}
+use lib.Signed.{le_z, non_neg}
+use Rattle.std.specs.Int.{w64, w128}
 use Rattle.std.proofs.lemmas.Bool.{cases_lt}
-use Rattle.std.proofs.lemmas.Int.{ints, clamps}
+use Rattle.std.proofs.lemmas.Int.{ints, clamps, fits_signed_from_abs}
 use Rattle.uc_model.specs.Sums.{sum_below}
 use Rattle.uc_model.proofs.Ring.{linear, mul-add, mul-zero, mul-one, mul-neg, mul_comm, mul-le-mul_left}
+use Rattle.uc_model.proofs.Sizes.{narrow, wide}
 use Rattle.uc_model.proofs.Sums.{sum_below-same, sum_below-split}
 use Rattle.step_functions.specs.Runs.{Run, slope_at, steps_of}
-use Rattle.step_functions.specs.Functions.{Steps, IsPlace, IsSmall, value_at, shortfall, MAX_VALUE}
+use Rattle.step_functions.specs.Functions.{Steps, IsPlace, IsSmall, IsWithin, value_at, shortfall, MAX_PLACE, MAX_VALUE}
 use Rattle.step_functions.specs.inside.Edits.{IsSteeper}
 use Rattle.step_functions.specs.inside.Kept.{HaveSteps, IsKept}
 use Rattle.step_functions.proofs.Changes.{sum-steeper}
@@ -116,3 +120,74 @@ price-small value price short some sign own reached =
 -- the numbers of the first value, as their bits or not
 pub begun : (value price watts v p : ℤ) (short : ℕ) → v ≡ value → p ≡ price → watts ≡ pos short → v +ℤ p *ℤ watts ≡ value +ℤ price *ℤ pos short
 begun value price watts v p short a b c = λ t. a t +ℤ b t *ℤ c t
+
+-- ---- what is computed, as its bits say it
+abbrev pub watts_to : ℤ → ℤ → ℤ
+watts_to place first = to_z w64 (of_z w64 (to_z w64 (of_z w64 place) -ℤ to_z w64 (of_z w64 first)))
+
+-- a place behind the first one lies so many watts behind it
+pub record IsShort (place first : ℤ) : Type 0 where
+  pub at : place ≡ first +ℤ pos (unsigned_abs (watts_to place first))
+  pub is : watts_to place first ≡ pos (unsigned_abs (watts_to place first))
+  pub some : 1 ≤ unsigned_abs (watts_to place first)
+
+-- the parts of a difference above 0
+parts : (place first watts : ℤ) → first <ℤ place → watts ≡ place -ℤ first
+    → (place ≡ first +ℤ pos (unsigned_abs watts)) × ((watts ≡ pos (unsigned_abs watts)) × (1 ≤ unsigned_abs watts))
+parts place first watts less is = (omega (arith, ints), (omega (arith, ints), omega (arith, ints)))
+
+pub short-is : (place first : ℤ) → IsWithin place → IsWithin first → first <ℤ place → IsShort place first
+short-is place first within low less =
+    let bits : watts_to place first ≡ to_z w64 (of_z w64 (place -ℤ first)) =
+    λ i. to_z w64 (of_z w64 (narrow place MAX_PLACE within (lit< tt) i -ℤ narrow first MAX_PLACE low (lit< tt) i)) in
+    let all = parts place first (watts_to place first) less (bits ∙ narrow (place -ℤ first) (2 * MAX_PLACE) (omega (arith, ints)) (lit< tt)) in
+    record { at = all.0; is = all.1.0; some = all.1.1 }
+
+pub difference-fits : (place first : ℤ) → IsWithin place → IsWithin first → FitsSigned w64 (to_z w64 (of_z w64 place) -ℤ to_z w64 (of_z w64 first))
+difference-fits place first within low =
+    subst (FitsSigned w64) (λ i. sym (narrow place MAX_PLACE within (lit< tt)) i -ℤ sym (narrow first MAX_PLACE low (lit< tt)) i)
+    (fits_signed_from_abs w64 (place -ℤ first) (omega (arith, ints)))
+
+-- the test that it is behind
+pub behind-is : (place first : ℤ) → IsWithin place → IsWithin first → le_z (to_z w64 (of_z w64 place)) (to_z w64 (of_z w64 first)) ≡ false → first <ℤ place
+behind-is place first within low more =
+    let plain : le_z place first ≡ false = (λ i. le_z (sym (narrow place MAX_PLACE within (lit< tt)) i) (sym (narrow first MAX_PLACE low (lit< tt)) i)) ∙ more in
+    omega (arith, ints)
+
+-- so many watts are a number without a sign
+watts-few : (place first : ℤ) (n : ℕ) → IsWithin place → IsWithin first → place ≡ first +ℤ pos n → n < 2 ^ 64
+watts-few place first n within low at = omega (arith, ints)
+
+pub watts-fit : (place first : ℤ) → IsWithin place → IsWithin first → IsShort place first → T (non_neg (watts_to place first)) × Fits w64 (unsigned_abs (watts_to place first))
+watts-fit place first within low is =
+    subst (λ z. T (non_neg z) × Fits w64 (unsigned_abs z)) (sym is.is)
+    (tt, record { fits = watts-few place first (unsigned_abs (watts_to place first)) within low is.at })
+
+-- the steps between two places are few
+pub steps-few : (first : ℤ) (n : ℕ) → IsWithin first → IsWithin (first +ℤ pos n) → n < 2 ^ 64
+steps-few first n low high = omega (arith, ints)
+
+-- the price with the other sign
+pub turned-fits : (price : ℤ) → FitsSigned w128 price → pos 0 ≤ℤ price → FitsSigned w128 (pos 0 -ℤ to_z w128 (of_z w128 price))
+turned-fits price fits sign = fits_signed_from_abs w128 (pos 0 -ℤ to_z w128 (of_z w128 price)) (omega (arith, ints))
+
+pub turned-is : (price : ℤ) → FitsSigned w128 price → pos 0 ≤ℤ price → to_z w128 (of_z w128 (pos 0 -ℤ to_z w128 (of_z w128 price))) ≡ neg_ℤ price
+turned-is price fits sign =
+    let negative : to_z w128 (of_z w128 (pos 0 -ℤ to_z w128 (of_z w128 price))) ≡ pos 0 -ℤ price = omega (arith, ints) in
+    let turned : pos 0 -ℤ price ≡ neg_ℤ price = omega (arith, linear) in
+    negative ∙ turned
+
+pub both-fit : (slope price : ℤ) → unsigned_abs slope ≤ 2 * MAX_VALUE → unsigned_abs price ≤ 2 * MAX_VALUE → unsigned_abs slope + unsigned_abs (neg_ℤ price) < 2 ^ 127
+both-fit slope price small own = omega (arith, ints)
+
+-- a step of the first ones, of which there are no more than all
+pub step-within : (k count all short : ℕ) → k < count → count ≡ min all short → 0 + k < all
+step-within k count all short h least = omega arith
+
+pub least-within : (count all short : ℕ) → count ≡ min all short → count ≤ all
+least-within count all short least = omega arith
+
+-- the first value, which stays small
+pub value-written : (value reached price : ℤ) (short : ℕ) → reached ≡ value +ℤ price *ℤ pos short → IsSmall (value +ℤ price *ℤ pos short)
+    → to_z w128 (of_z w128 reached) ≡ value +ℤ price *ℤ pos short
+value-written value reached price short is small = wide reached MAX_VALUE (subst IsSmall (sym is) small) (lit< tt) ∙ is
