@@ -18,12 +18,11 @@ use Rattle.branch_tree.specs.TrueFound.{IsTrueEntry, AreApart, IsTrueLog}
 use Rattle.branch_tree.specs.declared.found.Entry.{Entry}
 use Rattle.branch_tree.specs.declared.found.Outcome.{Outcome}
 use Rattle.branch_tree.specs.declared.tree.Leaf.TheVariants as leaf
-use Rattle.search_core.specs.Machine.{Machine, IsHeldIn, IsOpen, IsHolding, no_desk, spot_stored, stored_at}
+use Rattle.search_core.specs.Machine.{Machine, IsHeldIn, IsLive, IsOpen, IsHolding, no_desk, spot_stored, stored_at}
 use Rattle.search_core.specs.declared.holder.Holder.{Holder}
 use Rattle.search_core.specs.declared.stored.Stored.{Stored}
 use Rattle.std.specs.Option.{IfSome}
 use Rattle.branch_tree.specs.declared.tree.Spot.TheVariants as spot
-use Rattle.search_core.specs.Notes.{IsLive}
 use Rattle.search_core.specs.Moves.{kept, children_by, tickets_of, IsMoveLegal}
 use Rattle.search_core.specs.declared.event.Move.{Move}
 use Rattle.search_core.specs.declared.event.Move.TheVariants.{Again, Split, Prune, Ray, Empty}

@@ -6,8 +6,7 @@ use Rattle.std.proofs.lemmas.List.Elements.{All-nil, All-cons}
 use Rattle.std.proofs.lemmas.Option.{slice_get_within, slice_get-get_or, get_or_from_slice_get}
 use Rattle.search_core.specs.Machine.{entries_of}
 use Rattle.search_core.proofs.Claims.{get_push_cases, get_push_last, get_set_cases}
-use Rattle.search_core.proofs.NoteSteps.{no_entries}
-use Rattle.search_core.proofs.OwnSteps.{entries_own, entries_same, all_of_node}
+use Rattle.search_core.proofs.OwnSteps.{entries_own, entries_same, no_entries, all_of_node}
 use Rattle.book.specs.inside.Chains.{Entry, Table, IsNewest, AreLinked, IsElsewhere, IsWalked}
 
 -- ---- no entry

@@ -21,9 +21,8 @@ use Rattle.search_core.specs.declared.event.Move.TheVariants.{Again, Split, Prun
 use Rattle.search_core.proofs.Claims.{get_push_last, holdable}
 use Rattle.search_core.proofs.Growth as growth
 use Rattle.search_core.proofs.Growth.{node_after, open_before, free_before, open_again_only, tree_grows}
-use Rattle.search_core.proofs.NoteSteps.{no_entries}
 use Rattle.search_core.proofs.OrderlySteps.{sound_of}
-use Rattle.search_core.proofs.OwnSteps.{entries_own, entries_same}
+use Rattle.search_core.proofs.OwnSteps.{entries_own, entries_same, no_entries}
 use Rattle.pivot_dispatch.specs.declared.pivot.Pivot.{Pivot}
 use Rattle.pivot_dispatch.specs.declared.pivot.Pivot.TheVariants.{Best, Ray as RayAnswer, Wide}
 use Rattle.pivot_closing.specs.Pivoted.{Instance, GoesOn, IsByAnswer, IsExactFirst, IsPivoted}

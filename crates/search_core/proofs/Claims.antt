@@ -15,29 +15,17 @@ use Rattle.search_core.specs.Orderly.{AreHoldersApart, held_count, times_at, tim
 use Rattle.search_core.specs.Steps.{with_desk, with_tickets, with_queued, without_first, first_queued, is_in_hand, taken, Claim, Commit, Look, Pop, Publish, Push, Steal, Event, committed_by, after}
 use Rattle.search_core.specs.Moves.{tickets_of}
 
--- an item of a list with some of one kind behind it
-pub get_blanks_cases : {A : Type 0} (xs : List A) (j : ℕ) (y z : A) (k : ℕ) → slice_get (xs ++ replicate j y) k ≡ Some z
-    → (slice_get xs k ≡ Some z) ⊎ ((length xs ≤ k) × (y ≡ z))
-get_blanks_cases [] zero y z k e = absurd (cc)
-get_blanks_cases [] (suc j) y z zero e = inr (omega arith, cc)
-get_blanks_cases {A} [] (suc j) y z (suc k) e = ⊎_elim
-    (λ (l : slice_get {X = A} [] k ≡ Some z). absurd (cc))
-    (λ (r : (0 ≤ k) × (y ≡ z)). inr (omega arith, r.1))
-    (get_blanks_cases [] j y z k e)
-get_blanks_cases (x ∷ xs) j y z zero e = inl e
-get_blanks_cases (x ∷ xs) j y z (suc k) e = ⊎_elim
-    (λ (l : slice_get xs k ≡ Some z). inl l)
-    (λ (r : (length xs ≤ k) × (y ≡ z)). inr (omega arith, r.1))
-    (get_blanks_cases xs j y z k e)
-
 -- ---- reading a list that was changed
 -- an item of a list with one more is one of the list, or the last
 pub get_push_cases : {A : Type 0} (xs : List A) (y z : A) (i : ℕ) → slice_get (xs ++ y ∷ []) i ≡ Some z
     → (slice_get xs i ≡ Some z) ⊎ ((i ≡ length xs) × (y ≡ z))
-get_push_cases xs y z i e = ⊎_elim
+get_push_cases [] y z zero e = inr (refl, cc)
+get_push_cases [] y z (suc i) e = absurd (cc)
+get_push_cases (x ∷ xs) y z zero e = inl e
+get_push_cases (x ∷ xs) y z (suc i) e = ⊎_elim
     (λ (l : slice_get xs i ≡ Some z). inl l)
-    (λ (r : (length xs ≤ i) × (y ≡ z)). inr (omega (arith, r.0, slice_get_within (xs ++ y ∷ []) i z e, length-append xs (y ∷ [])), r.1))
-    (get_blanks_cases xs 1 y z i e)
+    (λ (r : (i ≡ length xs) × (y ≡ z)). inr (ap suc r.0, r.1))
+    (get_push_cases xs y z i e)
 
 pub get_push_last : {A : Type 0} (xs : List A) (y : A) → slice_get (xs ++ y ∷ []) (length xs) ≡ Some y
 get_push_last [] y = refl
@@ -126,15 +114,7 @@ holders_ended old new claims claim holder apart e stays = record {
       (get_set_cases claims claim one None (Some h) f);
 }
 
--- nobody holds that node then, and whoever held another still does
-pub unheld_ended : (nodes : NumberedTree) (claims : List (Option Holder)) (claim : ℕ) (holder : Holder) → AreHoldersApart nodes claims
-    → slice_get claims claim ≡ Some (Some holder) → ¬ IsHeldIn (set claims claim None) holder.node
-unheld_ended nodes claims claim holder apart e held = ⊎_elim
-    (λ (l : (held.claim ≡ claim) × (None ≡ Some (record { worker = held.worker; node = holder.node }))). absurd (cc))
-    (λ (r : (held.claim ≢ claim) × (slice_get claims held.claim ≡ Some (Some (record { worker = held.worker; node = holder.node })))).
-    r.0 (apart.once held.claim claim (record { worker = held.worker; node = holder.node }) holder r.1 e refl))
-    (get_set_cases claims claim held.claim None (Some (record { worker = held.worker; node = holder.node })) held.holds)
-
+-- whoever held another node still does
 pub still_held : (claims : List (Option Holder)) (claim : ℕ) (holder : Holder) (node : ℕ) → slice_get claims claim ≡ Some (Some holder)
     → node ≢ holder.node → IsHeldIn claims node → IsHeldIn (set claims claim None) node
 still_held claims claim holder node e differ held = record {

@@ -1,7 +1,6 @@
 pub mod Claims
 pub mod Growth
 pub mod OrderlySteps
-pub mod NoteSteps
 pub mod TreeSteps
 pub mod TrueSteps
 pub mod OwnSteps

@@ -17,8 +17,7 @@ use Rattle.search_core.specs.OwnTables.{Node, Owns, HasFewEntries}
 use Rattle.search_core.specs.Runs.{IsTrueEvent, IsTrueStart}
 use Rattle.search_core.proofs.Claims.{get_push_last, holdable}
 use Rattle.search_core.proofs.Growth.{leaf_part, part_node, IsAgain, node_after, open_before, free_before, open_again_only}
-use Rattle.search_core.proofs.OwnSteps.{IsEnded, entries_own, entries_same, all_of_node, pairs_push, ended_more, ended_still, ended_apart, entry_by, own_after, IsTableWithin}
-use Rattle.search_core.proofs.NoteSteps.{no_entries}
+use Rattle.search_core.proofs.OwnSteps.{IsEnded, entries_own, entries_same, no_entries, all_of_node, pairs_push, ended_more, ended_still, ended_apart, entry_by, own_after, IsTableWithin}
 use Rattle.search_core.proofs.OrderlySteps.{free_for, sound_of}
 
 -- what is true of these parts of a state that a run from this start reached

@@ -1,22 +1,54 @@
 -- Every legal event keeps the state orderly, and the fields as they must be.
-use Rattle.std.proofs.Common.{◌≡◌, ℕ, Bool, ◌+◌, ◌-◌, ◌<◌, ◌≤◌, All, List, [], ◌∷◌, ◌++◌, length, set, refl, ap, sym, ◌∙◌, subst, arith, Option, Some, None, ℤ, length-append, length-set, replicate, false}
+use Rattle.std.proofs.Common.{◌≡◌, ℕ, Bool, ◌+◌, ◌-◌, ◌*◌, ◌<◌, ◌≤◌, ◌==◌, nat_lt, All, List, [], ◌∷◌, ◌++◌, length, set, refl, ap, sym, ◌∙◌, subst, arith, Option, Some, None, ℤ, length-append, length-set, replicate, false}
+use Rattle.std.proofs.lemmas.Bool.Decides.{nat_tests}
 use Rattle.std.proofs.lemmas.List.Elements.{All-nil, All-cons, All-append}
+use Rattle.std.proofs.lemmas.List.Folds.{sum_by-replicate}
+use Rattle.std.proofs.lemmas.List.Sums.{sum_by-cons}
 use Rattle.std.proofs.lemmas.Option.{slice_get_within}
 use Rattle.branch_tree.specs.NumberedTree.{node_count}
 use Rattle.branch_tree.specs.TreeView.{TreeView, IsOpenAt}
 use Rattle.branch_tree.specs.StoredTree.{lesser_bound}
-use Rattle.branch_tree.proofs.Grown.{open_numbered}
-use Rattle.search_core.specs.Machine.{Entry, Table, Holder, Desk, Machine, holder_of, IsWorker, desk_in, IsHolding}
+use Rattle.branch_tree.specs.declared.tree.Leaf.TheVariants as leaf
+use Rattle.branch_tree.proofs.Grown.{open_numbered, root_placed}
+use Rattle.branch_tree.proofs.Subtrees.{one_if}
+use Rattle.search_core.specs.Machine.{Entry, Table, Holder, Desk, Machine, holder_of, IsWorker, desk_in, IsHolding, no_desk, first_desk, start_of}
 use Rattle.search_core.specs.declared.stored.Stored.{Stored}
 use Rattle.search_core.specs.Moves.{Again, Outcome, Split, Move, kept, tree_after, tickets_of, IsFreeFor, IsMoveLegal, children_by}
 use Rattle.search_core.specs.Steps.{Claim, Commit, Look, Pop, Publish, Push, Steal, Event, IsLegal, IsLegalBy, HasSeen, committed, committed_by, after, with_desk, with_tickets, IsClaimable, IsCommittable}
-use Rattle.search_core.specs.Orderly.{IsOrderly, AreHoldersApart, IsEachTicketOnce, held_count, times_at}
-use Rattle.search_core.specs.Notes.{AreNotesOf, AreScalesNoted, Note, no_note, with_note, with_entry, trial_of, Inside, view_of, IsKept}
+use Rattle.search_core.specs.Orderly.{MAX_BUDGET, WHOLE_GAP, IsOrderly, AreHoldersApart, IsEachTicketOnce, held_count, times_at}
+use Rattle.search_core.specs.Fields.{Inside, view_of, IsKept}
 use Rattle.search_core.proofs.Claims.{holder_place, held_push, held_ended, holders_push, holders_ended, times_kept, tickets_queued, tickets_taken, tickets_more, tickets_same, holdable}
 use Rattle.search_core.proofs.Growth.{IsSound, tree_grows}
-use Rattle.search_core.proofs.NoteSteps.{notes_after, notes_committed}
 
--- only the desks, and what was published, changed
+-- ---- the start
+first_tickets : (workers : ℕ) → IsEachTicketOnce (first_desk ∷ replicate workers no_desk) 1
+first_tickets workers node =
+    let all = sum_by-cons (λ (desk : Desk). times_at desk node) first_desk (replicate workers no_desk) in
+    let others = sum_by-replicate (λ (desk : Desk). times_at desk node) workers no_desk in
+    let none : workers * 0 ≡ 0 = grind arith in
+    let one : one_if (0 == node) ≡ one_if (nat_lt node 1) = grind (arith, nat_tests) in
+    omega (arith, all, others, none, one)
+
+pub orderly_start : (units periods workers budget gap : ℕ) (table : Table) (value : ℤ) → budget ≤ MAX_BUDGET → gap ≤ WHOLE_GAP
+    → IsOrderly (start_of units periods workers budget gap table value)
+orderly_start units periods workers budget gap table value most whole = record {
+  placed = root_placed (leaf.Live 0 value false);
+  cover = λ instance size. tt;
+  holders = record { live = λ claim holder e. absurd (cc); once = λ one other holder second e f same. absurd (cc) };
+  entries = All-nil (λ (entry : Entry). entry.node < 1);
+  tickets = first_tickets (workers - 1);
+  amounts = record {
+    claims = omega arith;
+    tables = omega arith;
+    nodes = omega arith;
+    room = refl;
+    budget = most;
+    gap = whole;
+  };
+}
+
+-- ---- the desks
+-- only they, and what was published, changed
 desks_changed : (m : Machine) (best : Option ℤ) (desks : List Desk) → IsOrderly m → IsEachTicketOnce desks (node_count m.tree.nodes)
     → IsOrderly (record m { best = best; desks = desks })
 desks_changed m best desks orderly once = record {
@@ -170,25 +202,16 @@ as_large_after m (Commit worker unit table exact outcome action) =
     committed_as_large m worker unit table exact outcome action (holder_of m unit)
 as_large_after m _ = record { units = refl; periods = refl }
 
--- ---- The fields after a step keep what they must, where the notes do.
+-- ---- The fields after a step keep what they must.
 pub kept_by : (a b : Inside) (m : Machine) (event : Event) → view_of a ≡ m → IsKept a → IsLegal m event
-    → view_of b ≡ after (view_of a) event → AreNotesOf b.claims.items b.log (node_count b.tree.nodes) b.notes.items
-    → AreScalesNoted b.tables b.notes.items → IsKept b
-kept_by a b m event seen kept legal view notes scales = record {
+    → view_of b ≡ after (view_of a) event → b.count ≡ node_count b.tree.nodes → IsKept b
+kept_by a b m event seen kept legal view count = record {
   orderly = subst IsOrderly (sym view)
       (orderly_after HasSeen (view_of a) event kept.orderly (subst (λ (x : Machine). IsLegal x event) (sym seen) legal));
-  notes = notes;
-  scales = scales;
+  count = count;
 }
 
--- the same, by the state that the fields stood for
-pub kept_to : (a b : Inside) (m : Machine) (event : Event) → view_of a ≡ m → IsKept a → IsLegal m event
-    → view_of b ≡ after m event → AreNotesOf b.claims.items b.log (node_count b.tree.nodes) b.notes.items
-    → AreScalesNoted b.tables b.notes.items → IsKept b
-kept_to a b m event seen kept legal view notes scales =
-    kept_by a b m event seen kept legal (view ∙ sym (ap (λ (x : Machine). after x event) seen)) notes scales
-
--- ---- What the fields are after a commit.
+-- ---- How many nodes there are after a commit.
 -- a move adds as many nodes, whichever numbers they have
 same_count : (a b c d : ℕ) (action : Move) → length (children_by (a ∷ b ∷ []) action) ≡ length (children_by (c ∷ d ∷ []) action)
 same_count a b c d Again = refl
@@ -214,27 +237,3 @@ commit_count looked m worker unit node table exact outcome action stored number 
     (free_of_commit looked m worker unit node table exact outcome action holding legal) in
     ap (λ (t : TreeView). node_count t.nodes) is
     ∙ (grows.count ∙ ap (λ n. node_count m.tree.nodes + n) (same_count _ _ a b action ∙ ap length (sym added)))
-
--- the notes, known by equations alone
-pub commit_notes : (m : Machine) (worker unit node : ℕ) (entry : Entry) (notes recorded freed new : List Note) (added count : ℕ)
-    (scale : ℤ) (claims : List (Option Holder)) (log : List Entry) → IsOrderly m → IsHolding m worker unit node
-    → AreNotesOf m.claims m.log (node_count m.tree.nodes) notes → entry.node ≡ node
-    → claims ≡ set m.claims (unit - 1) None → log ≡ m.log ++ entry ∷ [] → count ≡ node_count m.tree.nodes + added
-    → recorded ≡ with_note notes node (λ note. with_entry note (trial_of entry) scale)
-    → freed ≡ with_note recorded node (λ note. record note { held = false }) → new ≡ freed ++ replicate added no_note
-    → AreNotesOf claims log count new
-commit_notes m worker unit node entry notes recorded freed new added count scale claims log orderly holding are own claims_is log_is count_is recorded_is freed_is new_is =
-    let held = holdable m worker unit node orderly holding in
-    let holder : Holder = record { worker = worker; node = node } in
-    let place : unit - 1 ≡ held.claim = omega (arith, held.unit_is) in
-    let made = notes_committed m.tree.nodes m.claims m.log notes held.claim holder entry scale added orderly.placed orderly.holders orderly.entries
-    are held.holds own in
-    let all : new ≡ notes_after notes node (trial_of entry) scale added =
-    new_is
-    ∙ ap (λ ns. ns ++ replicate added no_note)
-    (freed_is
-    ∙ ap (λ ns. with_note ns node (λ note. record note { held = false })) recorded_is) in
-    subst (λ cs. AreNotesOf cs log count new) (sym (claims_is ∙ ap (λ i. set m.claims i None) place))
-    (subst (λ l. AreNotesOf (set m.claims held.claim None) l count new) (sym log_is)
-    (subst (λ n. AreNotesOf (set m.claims held.claim None) (m.log ++ entry ∷ []) n new) (sym count_is)
-    (subst (AreNotesOf (set m.claims held.claim None) (m.log ++ entry ∷ []) (node_count m.tree.nodes + added)) (sym all) made)))

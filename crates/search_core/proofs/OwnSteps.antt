@@ -24,7 +24,6 @@ use Rattle.search_core.specs.Orderly.{IsOrderly}
 use Rattle.search_core.specs.Steps.{IsStoredTable}
 use Rattle.search_core.proofs.Claims.{holder_place}
 use Rattle.search_core.proofs.Growth.{IsSound, closed_grows, open_again, IsLeafPart, leaf_part, part_node, of_ray, of_empty}
-use Rattle.search_core.proofs.NoteSteps.{no_entries}
 use Rattle.search_core.proofs.OrderlySteps.{sound_of, entries_more}
 
 -- ---- other lists of tables and entries
@@ -187,6 +186,14 @@ entries_same log entry node differ =
     ∙ ap (λ b. entries_of log node ++ cond b (entry ∷ []) []) (ne_eqb entry.node node (λ e. differ (sym e)))
     ∙ append-nil (entries_of log node)
 
+-- a node that no entry is of has none
+pub no_entries : (log : List Entry) (count node : ℕ) → All (λ entry. entry.node < count) log → count ≤ node → entries_of log node ≡ []
+no_entries [] count node each past = refl
+no_entries (entry ∷ log) count node each past =
+    let own = each 0 entry (omega arith) in
+    ap (λ b. cond b (entry ∷ entries_of log node) (entries_of log node)) (ne_eqb entry.node node (λ e. omega arith))
+    ∙ no_entries log count node (λ k d within. each (suc k) d (omega arith)) past
+
 -- what holds of the entries of a node holds of each entry of the log that is of it
 pub all_of_node : (P : Entry → Type 0) (log : List Entry) (node : ℕ) → All P (entries_of log node) → All (λ (e : Entry). e.node ≡ node → P e) log
 all_of_node P [] node each = All-nil (λ (e : Entry). e.node ≡ node → P e)
@@ -201,6 +208,20 @@ all_of_node P (entry ∷ log) node each = ⊎_elim
     subst (λ b. All P (cond b (entry ∷ entries_of log node) (entries_of log node))) h.1 each in
     All-cons (λ (e : Entry). e.node ≡ node → P e) entry log (λ e. absurd (h.0 e)) (all_of_node P log node own))
     (same_or_not entry.node node)
+
+-- and the other way round
+pub each_of_node : (P : Entry → Type 0) (log : List Entry) (node : ℕ) → All (λ (e : Entry). e.node ≡ node → P e) log → All P (entries_of log node)
+each_of_node P [] node each = All-nil P
+each_of_node P (entry ∷ log) node each = ⊎_elim
+    (λ (h : (entry.node ≡ node) × ((entry.node == node) ≡ true)).
+    subst (λ b. All P (cond b (entry ∷ entries_of log node) (entries_of log node))) (sym h.1)
+    (All-cons P entry (entries_of log node) (All-head (λ (e : Entry). e.node ≡ node → P e) entry log each h.0) (each_of_node P log node rest)))
+    (λ (h : ((entry.node ≡ node) → ⊥) × ((entry.node == node) ≡ false)).
+    subst (λ b. All P (cond b (entry ∷ entries_of log node) (entries_of log node))) (sym h.1) (each_of_node P log node rest))
+    (same_or_not entry.node node)
+  where
+    rest : All (λ (e : Entry). e.node ≡ node → P e) log
+    rest = All-tail (λ (e : Entry). e.node ≡ node → P e) entry log each
 
 -- ---- pairs
 -- what holds of two items holds of each pair of a list with one more

@@ -119,7 +119,3 @@ plain_after m (Commit worker unit table exact result action) is plain =
     by_holder (Some holder) = committed_plain m worker unit holder.node table result action is
 plain_after m (Claim worker node) is plain = record { tree = is.tree; entries = is.entries }
 plain_after m _ is plain = record { tree = is.tree; entries = is.entries }
-
-pub plain_start : (units periods workers budget gap : ℕ) (table : Table) (value : ℤ)
-    → IsPlainState (start_of units periods workers budget gap table value)
-plain_start units periods workers budget gap table value = record { tree = refl; entries = All-nil (λ (entry : Entry). entry.exact ≡ false) }

@@ -28,8 +28,7 @@ use Rattle.search_core.specs.Steps.{Claim, Commit, Look, Pop, Publish, Push, Ste
 use Rattle.search_core.specs.Orderly.{IsOrderly}
 use Rattle.search_core.proofs.Claims.{get_push_last, holdable}
 use Rattle.search_core.proofs.Growth.{HoldsOfNew, leaf_part, part_node, holds_of_leaf, after_holds}
-use Rattle.search_core.proofs.OrderlySteps.{as_large_after, orderly_after, sound_of}
-use Rattle.search_core.proofs.NoteSteps.{orderly_start}
+use Rattle.search_core.proofs.OrderlySteps.{orderly_start, as_large_after, orderly_after, sound_of}
 
 -- ---- with one table more
 bounded_more : (exact : Bool) (instance : Instance) (tables : List Table) (new : Table) (node : Node) (number : ℕ) (b : ℤ)

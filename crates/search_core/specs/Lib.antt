@@ -1,7 +1,7 @@
 pub mod Machine
 pub mod Moves
 pub mod Steps
-pub mod Notes
+pub mod Fields
 pub mod Orderly
 pub mod MachineCode
 pub mod OwnTables

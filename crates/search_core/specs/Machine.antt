@@ -64,6 +64,11 @@ pub record IsHeldIn (claims : List (Option Holder)) (node : ℕ) : Type 0 where
 abbrev pub IsHeld : Machine → ℕ → Type 0
 IsHeld m node = IsHeldIn m.claims node
 
+-- an open leaf stands there
+abbrev pub IsLive : Spot → Type 0
+IsLive (spot.Leaf (leaf.Live table value exact)) = Unit {0}
+IsLive _ = ⊥
+
 -- the node is an open leaf, and no worker holds it
 pub record IsOpen (m : Machine) (node : ℕ) : Type 0 where
   pub live : IsOpenAt m.tree.nodes node

@@ -15,9 +15,13 @@ pub record IsClaimable (m : Machine) (node : ℕ) : Type 0 where
   pub left : length m.claims < m.budget
   pub open_node : IsOpen m node
 
--- none of the entries is at the table with a value of this kind
+-- the entry isn't at the table with a value of this kind
+abbrev pub IsElsewhere : List Table → Table → Bool → Entry → Type 0
+IsElsewhere tables table exact entry = entry.exact ≡ exact → slice_get tables entry.table ≢ Some table
+
+-- none of the entries is
 abbrev pub IsFresh : Machine → List Entry → Table → Bool → Type 0
-IsFresh m entries table exact = All (λ entry. entry.exact ≡ exact → slice_get m.tables entry.table ≢ Some table) entries
+IsFresh m entries table exact = All (IsElsewhere m.tables table exact) entries
 
 -- the table is the one that the node stores
 abbrev pub IsStoredTable : Machine → ℕ → Table → Type 0

@@ -1,12 +1,12 @@
 //! The desks of all workers.
 
-ghost use Rattle.std.specs.Prelude.{◌≡◌, ◌<◌, Some, OnOk, OnErr, take, length, vec_len};
+ghost use Rattle.std.specs.Prelude.{◌≡◌, ◌<◌, Some, OnOk, OnErr, length, vec_len};
 ghost use Rattle.branch_tree.specs.StoredTree.{lesser_bound};
 ghost use Rattle.search_core.specs.Machine.{desk_in};
 ghost use Rattle.search_core.specs.Steps.{with_desk, with_tickets, with_queued, without_first};
 
+use crate::costs;
 use crate::desk::Desk;
-use crate::{costs, lists};
 use std::alloc::Global;
 use uc_model::NoMemory;
 
@@ -39,14 +39,6 @@ pub(crate) fn take_tickets(
     ensures same { OnErr result (desks.new.items ≡ desks.old.items) }
 {
     desks[worker as usize].take(alloc, tickets)
-}
-
-/// Keeps the first tickets of the worker's hand alone.
-pub(crate) fn keep_tickets(alloc: Global, desks: &mut Vec<Desk>, worker: u8, count: usize)
-    requires { worker < vec_len desks.old }
-    ensures { desks.new.items ≡ with_desk desks.old.items worker (λ desk. record desk { hand = take count desk.hand }) }
-{
-    lists::shorten(alloc, &mut desks[worker as usize].hand, count);
 }
 
 /// Moves a ticket from the worker's hand to the back of its queue.

@@ -1,7 +1,7 @@
 //! Who holds a node, by which claim.
 
-ghost use Rattle.std.specs.Prelude.{◌≡◌, ◌<◌, ◌≤◌, ◌-◌, None, slice_set, vec_len};
-ghost use Rattle.search_core.specs.Machine.{holder_in};
+ghost use Rattle.std.specs.Prelude.{◌≡◌, ◌<◌, ◌≤◌, ◌-◌, ◌↔◌, None, IsTrue, IsSomeAnd, slice_set, vec_len};
+ghost use Rattle.search_core.specs.Machine.{holder_in, IsHeldIn};
 
 /// The worker, and the node that it holds by a claim; each counts from 0.
 #[derive(Clone, Copy)]
@@ -21,6 +21,28 @@ pub(crate) fn holder_of(claims: &[Option<Holder>], unit: u32) -> Option<Holder>
         Some(holder) => *holder,
         None => None,
     }
+}
+
+// Whether the node is held by this claim.
+fn is_of(claim: &Option<Holder>, node: u32) -> bool
+    ensures { IsTrue result ↔ IsSomeAnd claim.now (λ holder. holder.node ≡ node) }
+{
+    match claim {
+        Some(holder) => holder.node == node,
+        None => false,
+    }
+}
+
+/// Whether the node is held.
+pub(crate) fn is_held(claims: &[Option<Holder>], node: u32) -> bool
+    ensures { IsTrue result ↔ IsHeldIn claims.now node }
+{
+    for claim in claims {
+        if is_of(claim, node) {
+            return true;
+        }
+    }
+    false
 }
 
 /// Ends the claim of this unit, which counts from 1.

@@ -1,11 +1,12 @@
 //! Which nodes are open, and which moves a commit may make.
 
-ghost use Rattle.std.specs.Prelude.{◌≡◌, ◌<◌, ◌⊎◌, ◌↔◌, IsTrue, false, Some, pos, suc, length};
+ghost use Rattle.std.specs.Prelude.{◌≡◌, ◌<◌, ◌↔◌, IsTrue, pos};
 ghost use Rattle.branch_tree.specs.NumberedTree.{node_count};
-ghost use Rattle.search_core.specs.Notes.{IsLive, IsFreeLeaf};
+ghost use Rattle.branch_tree.specs.TreeView.{IsOpenAt};
+ghost use Rattle.search_core.specs.Machine.{IsLive, IsHeldIn};
 ghost use Rattle.search_core.specs.Moves.{IsValue, IsPositive, IsEmpty};
 
-use crate::notes::Note;
+use crate::holder::{Holder, is_held};
 use branch_tree::{Leaf, Outcome, Spot, Tree};
 use dual_model::Table;
 
@@ -16,16 +17,16 @@ pub fn is_live(spot: &Spot) -> bool
     matches!(spot, Spot::Leaf(Leaf::Live { .. }))
 }
 
-/// Whether an open leaf has this number, and isn't held.
-pub(crate) fn is_open(tree: &Tree, notes: &[Note], node: u32) -> bool
-    requires { length notes.now ≡ node_count tree.now.nodes }
-    ensures { IsTrue result ↔ IsFreeLeaf tree.now notes.now node }
+/// Whether an open leaf has this number, among so many nodes, and isn't held.
+pub(crate) fn is_open(tree: &Tree, count: u32, claims: &[Option<Holder>], node: u32) -> bool
+    requires { count ≡ node_count tree.now.nodes }
+    ensures { IsTrue result ↔ (IsOpenAt tree.now.nodes node × (¬ IsHeldIn claims.now node)) }
 {
     tree.keeps_cover();
-    if node as usize >= notes.len() {
+    if node >= count {
         return false;
     }
-    is_live(&tree.node(node)) && !notes[node as usize].held
+    is_live(&tree.node(node)) && !is_held(claims, node)
 }
 
 /// Whether the outcome is a value.

@@ -5,11 +5,9 @@ ghost use Rattle.branch_tree.specs.NumberedTree.{EndAt};
 ghost use Rattle.branch_tree.specs.declared.tree.Leaf.TheVariants as leaf;
 ghost use Rattle.search_core.specs.declared.limits.TheConstants.{MAX_BUDGET};
 ghost use Rattle.search_core.specs.Machine.{room_for, no_desk, first_desk};
-ghost use Rattle.search_core.specs.Notes.{no_note};
 
 use crate::desk::Desk;
 use crate::lists;
-use crate::notes::{Note, blank};
 use branch_tree::{Leaf, Tree};
 use std::alloc::Global;
 use uc_model::{List, NoMemory};
@@ -38,15 +36,6 @@ pub fn root(
     let mut tree = Tree::with_room(alloc, units, periods, 2 * budget + 1)?;
     tree.close(0, *leaf);
     Ok(tree)
-}
-
-/// The notes of a root.
-pub(crate) fn root_notes(alloc: Global) -> Result<Vec<Note>, NoMemory>
-    ensures { IfOk result (λ notes. notes.items ≡ no_note ∷ []) }
-{
-    let mut notes = Vec::new(alloc);
-    notes.push(blank(alloc))?;
-    Ok(notes)
 }
 
 // A desk with this hand.

@@ -4,9 +4,8 @@ use crate::desk::Desk;
 use crate::event::{Event, Move, StepFault};
 use crate::holder::{Holder, end_claim, holder_of};
 use crate::limits::NODE_ENTRIES;
-use crate::notes::{Note, add_blanks, is_new, set_held};
 use crate::stored::{Stored, kept_after, stored_at};
-use crate::{costs, desks, legal, moves, record, start, tables};
+use crate::{costs, desks, legal, log, moves, record, start, tables};
 use branch_tree::{Entry, Leaf, Outcome, Tree, is_within_gap};
 use dual_model::Table;
 use std::alloc::Global;
@@ -18,11 +17,11 @@ use uc_model::{List, NoMemory};
 pub struct State {
     budget: u32,
     gap: u32,
+    count: u32,
     tree: Tree,
     tables: List<Table>,
     log: List<Entry>,
     claims: Vec<Option<Holder>>,
-    notes: Vec<Note>,
     best: Option<i64>,
     desks: Vec<Desk>,
 }
@@ -35,7 +34,7 @@ impl Model for State {
 
     ghost coded = { machine_code };
 
-    ghost use Rattle.search_core.specs.Notes.{view_of, IsKept};
+    ghost use Rattle.search_core.specs.Fields.{view_of, IsKept};
 
     ghost view = { view_of };
 
@@ -74,8 +73,8 @@ impl State {
         Ok(State {
             budget,
             gap,
+            count: 1,
             tables: start::single(alloc, table)?,
-            notes: start::root_notes(alloc)?,
             desks: start::desks(alloc, workers)?,
             tree: start::root(
                 alloc,
@@ -150,17 +149,14 @@ impl State {
     pub fn count(&self) -> u32
         ensures { result ≡ node_count self.now.tree.nodes }
     {
-        self.notes.len() as u32
+        self.count
     }
 
     /// How many entries of the log the node of this number has; of no node there are none.
     pub fn entries(&self, node: u32) -> usize
         ensures { result ≡ length (entries_of self.now.log node) }
     {
-        match self.notes.get(node as usize) {
-            Some(note) => note.trials.as_slice().len(),
-            None => 0,
-        }
+        log::count(self.log.as_slice(), node)
     }
 
     /// How many claims there were.
@@ -179,11 +175,11 @@ impl State {
         let State {
             budget: _,
             gap: _,
+            count: _,
             tree,
             tables,
             log,
             claims: _,
-            notes: _,
             best: _,
             desks: _,
         } = self;
@@ -258,7 +254,7 @@ impl State {
         ensures { IsTrue result ↔ IsClaimable self.now node }
     {
         self.claims.len() < self.budget as usize
-            && legal::is_open(&self.tree, self.notes.as_slice(), node)
+            && legal::is_open(&self.tree, self.count, self.claims.as_slice(), node)
     }
 
     /// The first cell, a thermal unit and a period, each from 0, that is undecided at the node of this number.
@@ -279,12 +275,12 @@ impl State {
 
     /// Whether none of the node's entries of the log is at the table with a value of this kind: V or, with `exact`, the exact value.
     pub fn is_fresh(&self, node: u32, table: &Table, exact: bool) -> bool
-        requires { node < node_count self.now.tree.nodes }
         ensures { IsTrue result ↔ IsFresh self.now (entries_of self.now.log node) table.now exact }
     {
-        is_new(
-            &self.notes[node as usize],
+        log::is_fresh(
+            self.log.as_slice(),
             self.tables.as_slice(),
+            node,
             table,
             exact,
         )
@@ -296,7 +292,7 @@ impl State {
         ensures lawful { IsTrue result → entries_of self.now.log node ≡ [] → node ≢ 0 → IsStoredTable self.now node table.now }
         ensures first { result ≡ false → (entries_of self.now.log node ≡ []) × (node ≢ 0) × (¬ IsStoredTable self.now node table.now) }
     {
-        if !self.notes[node as usize].trials.as_slice().is_empty() {
+        if self.entries(node) > 0 {
             return true;
         }
         if node == 0 {
@@ -458,7 +454,6 @@ impl State {
         ensures same { OnErr result (self.new ≡ self.old) }
     {
         self.claims.push(Some(Holder { worker, node }))?;
-        set_held(&mut self.notes, node, true);
         Ok(())
     }
 
@@ -490,19 +485,16 @@ impl State {
             exact,
             outcome: *outcome,
         };
-        let both = [self.notes.len() as u32, self.notes.len() as u32 + 1];
+        let both = [self.count, self.count + 1];
         let children = moves::children(action, &both);
-        let scale = table.k();
         record::record(
             alloc,
-            &mut self.desks,
-            &mut self.notes,
             &mut self.log,
             &mut self.tables,
-            children,
+            &mut self.desks,
             entry,
             table,
-            scale,
+            children,
         )?;
         moves::make(
             &mut self.tree,
@@ -514,8 +506,7 @@ impl State {
             action,
         );
         end_claim(&mut self.claims, unit);
-        set_held(&mut self.notes, node, false);
-        add_blanks(alloc, &mut self.notes, children);
+        self.count += children.len() as u32;
         Ok(())
     }
 

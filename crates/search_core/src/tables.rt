@@ -1,16 +1,8 @@
-//! Which tables are equal, and at which a node was evaluated.
+//! Which tables are equal.
 
-ghost use Rattle.std.specs.Prelude.{◌≡◌, ◌≢◌, ◌↔◌, IsTrue, All, Some, slice_get};
-ghost use Rattle.search_core.specs.Notes.{IsUntried};
+ghost use Rattle.std.specs.Prelude.{◌≡◌, ◌↔◌, IsTrue, Some, slice_get};
 
 use dual_model::{RampRow, Table};
-
-/// Where a node was evaluated: at the table of this number, by V or, with `exact`, by the exact value.
-#[derive(Clone, Copy)]
-pub(crate) struct Trial {
-    pub table: u32,
-    pub exact: bool,
-}
 
 // Whether two rows are equal.
 fn is_same_row(a: &RampRow, b: &RampRow) -> bool
@@ -68,23 +60,4 @@ pub fn is_table(tables: &[Table], number: u32, table: &Table) -> bool
         Some(other) => is_same_table(other, table),
         None => false,
     }
-}
-
-// Whether the trial isn't at this table with a value of this kind.
-fn is_untried(tables: &[Table], trial: Trial, table: &Table, exact: bool) -> bool
-    ensures { IsTrue result ↔ IsUntried tables.now table.now exact trial }
-{
-    trial.exact != exact || !is_table(tables, trial.table, table)
-}
-
-/// Whether none of the trials is at this table with a value of this kind.
-pub(crate) fn is_none_of(tables: &[Table], trials: &[Trial], table: &Table, exact: bool) -> bool
-    ensures { IsTrue result ↔ All (IsUntried tables.now table.now exact) trials.now }
-{
-    for trial in trials {
-        if !is_untried(tables, *trial, table, exact) {
-            return false;
-        }
-    }
-    true
 }

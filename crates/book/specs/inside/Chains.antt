@@ -5,6 +5,7 @@ use Rattle.std.specs.Int.{int_max}
 pub use Rattle.branch_tree.specs.declared.found.Entry.{Entry}
 pub use Rattle.dual_model.specs.declared.table.Table.{Table}
 use Rattle.search_core.specs.Machine.{entries_of}
+pub use Rattle.search_core.specs.Steps.{IsElsewhere}
 
 -- what contracts see of the log: its entries, for how many there is room, for how many nodes, and of each node the greatest scale
 pub record LogView : Type 0 where
@@ -27,10 +28,6 @@ pub record AreLinked (entries : List Entry) (previous newest counts : List ℕ) 
   pub earlier : (place link : ℕ) (entry : Entry) → slice_get previous place ≡ Some link → slice_get entries place ≡ Some entry
       → IsNewest entries place entry.node link
   pub many : (node count : ℕ) → slice_get counts node ≡ Some count → count ≡ length (entries_of entries node)
-
--- an entry is not at the table with a value of this kind
-abbrev pub IsElsewhere : List Table → Table → Bool → Entry → Type 0
-IsElsewhere tables table exact entry = entry.exact ≡ exact → slice_get tables entry.table ≢ Some table
 
 -- so far back no entry of the node is at the table, and the link leads to the next one
 pub record IsWalked (entries : List Entry) (tables : List Table) (table : Table) (exact : Bool) (node link : ℕ) : Type 0 where

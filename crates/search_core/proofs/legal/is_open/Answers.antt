@@ -3,8 +3,8 @@ use Rattle.std.proofs.Common.{arith}
 use Rattle.branch_tree.proofs.Grown.{open_below}
 use Rattle.search_core.proofs.legal.is_open.Goals as goal
 
-pub returns-then-node-notes : goal.returns-then-node-notes
-returns-then-node-notes c = (
+pub returns-then-node-count : goal.returns-then-node-count
+returns-then-node-count c = (
   (λ h. absurd (cc)),
-  (λ free. absurd (omega (arith, open_below c.args.tree.now.nodes c.args.node c.keeps_cover.ensures.numbered free.live))),
+  (λ free. absurd (omega (arith, open_below c.args.tree.now.nodes c.args.node c.keeps_cover.ensures.numbered free.0))),
 )

@@ -2,7 +2,7 @@
 use Rattle.std.proofs.Common.{◌≡◌, ◌<◌, ap, sym, ◌∙◌, subst, Some}
 use Rattle.branch_tree.specs.NumberedTree.{node_count}
 use Rattle.search_core.specs.Machine.{Machine, holder_in}
-use Rattle.search_core.specs.Notes.{view_of}
+use Rattle.search_core.specs.Fields.{view_of}
 use Rattle.search_core.proofs.Claims.{holdable}
 use Rattle.search_core.proofs.state.State.held_by.Goals as goal
 

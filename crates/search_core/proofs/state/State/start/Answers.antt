@@ -5,8 +5,7 @@ use Rattle.branch_tree.specs.NumberedTree.{node_count}
 use Rattle.branch_tree.specs.TreeView.{TreeView}
 use Rattle.search_core.specs.Machine.{start_of}
 use Rattle.search_core.specs.Orderly.{IsOrderly}
-use Rattle.search_core.specs.Notes.{AreScalesNoted}
-use Rattle.search_core.proofs.NoteSteps.{orderly_start, start_notes_are, scales_start}
+use Rattle.search_core.proofs.OrderlySteps.{orderly_start}
 use Rattle.search_core.proofs.state.State.start.Goals as goal
 
 pub invariant_of-result : goal.invariant_of-result
@@ -27,7 +26,5 @@ invariant_of-result c =
     record {
       orderly = subst IsOrderly (sym view)
           (orderly_start c.args.units c.args.periods c.args.workers c.args.budget c.args.gap c.args.table value c.requires.budget c.requires.gap);
-      notes = start_notes_are c.new-2.result.items c.from_vec.result (node_count c.in_ok-root.field-0.nodes) c.in_ok-root_notes.field-0.items
-          c.new-2.ensures.items log (ap (λ (t : TreeView). node_count t.nodes) c.in_ok-root.ensures) c.in_ok-root_notes.ensures;
-      scales = subst (AreScalesNoted c.in_ok-single.field-0) (sym c.in_ok-root_notes.ensures) (scales_start c.in_ok-single.field-0);
+      count = sym (ap (λ (t : TreeView). node_count t.nodes) c.in_ok-root.ensures);
     }

@@ -3,7 +3,7 @@ use Rattle.std.proofs.Common.{◌≡◌, ap, sym, subst, ◌∙◌, arith, ◌�
 use Rattle.std.proofs.lemmas.List.{get_or_read}
 use Rattle.search_core.specs.Machine.{Machine, no_desk, desk_in}
 use Rattle.search_core.specs.Steps.{Steal, IsLegal, first_queued, with_desk, with_tickets, without_first, taken}
-use Rattle.search_core.specs.Notes.{view_of}
+use Rattle.search_core.specs.Fields.{view_of}
 use Rattle.search_core.proofs.OrderlySteps.{kept_by}
 use Rattle.search_core.proofs.state.State.take.Goals as goal
 
@@ -20,4 +20,4 @@ invariant_of-self-2 c =
     ∙ ap (λ ds. with_desk ds victim without_first)
     (c.in_ok-take_tickets.ensures.taken ∙ ap (λ f. with_desk a.desks.items worker (λ desk. with_tickets desk (f ∷ []))) first) in
     kept_by a (record a { desks = c.drop_first.new.desks }) c.args.self.now (Steal worker victim) c.self.view_is c.self.invariant
-    c.requires (λ i. record (view_of a) { desks = desks i }) c.self.invariant.notes c.self.invariant.scales
+    c.requires (λ i. record (view_of a) { desks = desks i }) c.self.invariant.count
