@@ -18,7 +18,7 @@ const KICKED_UNITS: u32 = 100;
 /// The moves of each later repair for each unit: enough for a descent from one threshold, and some kicks of the best state.
 const LATER_MOVES_EACH: u32 = 25;
 
-/// After so many ascents without a cheaper schedule, or more in a large system, one of so many is repaired.
+/// After a schedule is found, so many ascents without a cheaper one are repaired, or more in a large system, and then one of so many.
 const IDLE_ASCENTS: usize = 100;
 
 const SPARSE: usize = 4;
@@ -33,10 +33,11 @@ pub struct Effort {
     pub enough: i64,
 }
 
-/// The least cost that a worker's repairs have found, in micro-dollars, and how many ascents it was to repair since.
+/// The least cost that a worker's repairs have found, in micro-dollars, if they have found a schedule, and how many ascents there were
+/// since.
 #[derive(Clone, Copy)]
 pub(crate) struct Idle {
-    least: i64,
+    least: Option<i64>,
     ascents: usize,
 }
 
@@ -44,25 +45,26 @@ impl Idle {
     /// Nothing was found yet.
     pub(crate) fn new() -> Idle {
         Idle {
-            least: i64::MAX,
+            least: None,
             ascents: 0,
         }
     }
 
-    /// Whether the next ascent is to be repaired: not each one is after a hundred, nor after more than there are units or periods, since the
-    /// larger a system is, the longer its schedules come out cheaper.
+    /// Whether the next ascent is to be repaired: each one while no schedule was found. Of those since the cheapest schedule the first
+    /// hundred are, or as many as there are units or periods if that is more, since the larger a system is, the longer its schedules come
+    /// out cheaper; and of the others each fourth.
     pub(crate) fn is_due(&mut self, instance: &Instance) -> bool {
         self.ascents = self.ascents.saturating_add(1);
         let units = instance.thermal.as_slice().len();
         let few = units.max(instance.periods as usize);
-        self.ascents <= few.max(IDLE_ASCENTS) || self.ascents % SPARSE == 0
+        self.least.is_none() || self.ascents <= few.max(IDLE_ASCENTS) || self.ascents % SPARSE == 0
     }
 
     /// Takes what a repair has found into account.
     pub(crate) fn take(&mut self, found: &Option<(Printed, i64)>) {
         if let Some((_, cost)) = found {
-            if *cost < self.least {
-                self.least = *cost;
+            if *cost < self.least.unwrap_or(i64::MAX) {
+                self.least = Some(*cost);
                 self.ascents = 0;
             }
         }

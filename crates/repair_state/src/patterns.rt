@@ -19,6 +19,15 @@ impl Decided {
         }
     }
 
+    /// All is decided, as in this pattern.
+    pub fn whole(pattern: Pattern) -> Decided {
+        let mut known = Pattern::all_off();
+        for t in 0..MAX_PERIODS {
+            known.switch_on(t);
+        }
+        Decided { known, on: pattern }
+    }
+
     /// The same with one period decided more: to be on, or to be off.
     pub fn with_turn(&self, t: u32, on: bool) -> Decided {
         let mut decided = *self;

@@ -72,6 +72,11 @@ impl Plant {
             .fill(alloc, instance, &mut self.units)
             .and(push_dearest(&self.units, &mut self.dearest_first))
     }
+
+    /// Whether the ramps of unit g can bind.
+    pub fn is_ramped_at(&self, g: usize) -> bool {
+        g < self.units.len() && self.units[g].is_ramped
+    }
 }
 
 // Adds the units from the one whose first segment is last in the order of merit on.

@@ -8,7 +8,7 @@ ghost use Rattle.schedule_check.specs.Accepted.{IsAcceptedIfFound};
 use crate::accepted::accepted;
 use crate::kept::cost_of_state;
 use crate::kicks::kick;
-use crate::passes::{Units, pass, pass_hard, set_soft_prices, soft_price};
+use crate::passes::{Units, pass, pass_outputs, set_full_prices, set_soft_prices, soft_price};
 use crate::printing::printed_of;
 use crate::room::Repair;
 use crate::rounding::round;
@@ -21,10 +21,13 @@ use uc_model::{Instance, NoMemory, Printed};
 pub(crate) const THRESHOLDS: [i64; 4] = [13107, 32768, 3277, 66];
 
 /// The passes in which missing reserve is cheap, from one to the next half as cheap, and the most after them in which it has its full
-/// price.
+/// price, each with one over the outputs behind it.
 const SOFT_PASSES: u32 = 8;
 
 const HARD_PASSES: u32 = 6;
+
+/// The passes over the outputs alone with which a descent begins, so that patterns are judged beside outputs that suit them.
+const FIRST_OUTPUTS: u32 = 3;
 
 /// Descents after which no further one is made once a schedule costs little enough have taken so many moves or more.
 const FEW_MOVES: u32 = 1000;
@@ -175,15 +178,24 @@ fn cheaper(first: Option<(Printed, i64)>, second: Option<(Printed, i64)>) -> Opt
     }
 }
 
-// Improves all units in passes until none gains.
+// Improves all units in passes until none gains, their outputs first.
 fn descend(room: &mut Repair, instance: &Instance, table: &Table) -> Result<(), NoMemory>
     requires lawful { IsLawfulInstance instance.now }
 {
+    set_full_prices(&mut room.state.periods, &room.plant.market);
+    pass_outputs(room, instance, FIRST_OUTPUTS)?;
     let mut least = soft_price(&room.plant.market);
     for _ in 0..SOFT_PASSES {
         set_soft_prices(&room.plant.market, &mut room.state.periods, table, least);
         pass(room, instance, Units::All)?;
         least = least.saturating_mul(2);
     }
-    pass_hard(room, instance, Units::All, HARD_PASSES)
+    set_full_prices(&mut room.state.periods, &room.plant.market);
+    for _ in 0..HARD_PASSES {
+        if !pass(room, instance, Units::All)? {
+            break;
+        }
+        pass_outputs(room, instance, 1)?;
+    }
+    Ok(())
 }

@@ -32,6 +32,25 @@ pub(crate) fn improve(
     improve_within(plant, state, instance, g, &attempt)
 }
 
+/// Makes unit g's outputs the best beside the others, on its pattern. The only error is `NoMemory`.
+pub(crate) fn improve_outputs(
+    plant: &Plant,
+    state: &mut State,
+    instance: &Instance,
+    g: usize,
+) -> Result<(), NoMemory>
+    requires lawful { IsLawfulInstance instance.now }
+{
+    if g < plant.units.len() && g < state.patterns.len() {
+        let attempt = Attempt {
+            fix: Decided::whole(state.patterns[g]),
+            most: most_cost(&plant.market, state, &plant.units[g], false),
+        };
+        improve_within(plant, state, instance, g, &attempt)?;
+    }
+    Ok(())
+}
+
 /// What is decided of a unit, and what the system has to cost less than, without starts, where the unit's ramps can bind.
 #[derive(Clone, Copy)]
 pub(crate) struct Attempt {

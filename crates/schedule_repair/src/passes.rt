@@ -3,7 +3,7 @@
 ghost use Rattle.uc_model.specs.Limits.{IsLawfulInstance};
 
 use crate::chance::Chance;
-use crate::moves::improve;
+use crate::moves::{improve, improve_outputs};
 use crate::room::{Repair, Visit};
 use crate::tried::mark_of_try;
 use crate::turns::Turns;
@@ -56,6 +56,39 @@ pub(crate) fn pass_hard(
         }
     }
     Ok(())
+}
+
+/// Passes over the outputs alone: so many times, each unit whose ramps can bind gives what is best beside the others on its pattern, in an
+/// order by chance, as long as moves are left. The only error is `NoMemory`.
+pub(crate) fn pass_outputs(
+    room: &mut Repair,
+    instance: &Instance,
+    times: u32,
+) -> Result<(), NoMemory>
+    requires lawful { IsLawfulInstance instance.now }
+{
+    let times = if room.plant.is_ramped { times } else { 0 };
+    for _ in 0..times {
+        shuffle(&mut room.visits, &mut room.chance)?;
+        for i in 0..room.visits.len() {
+            visit_outputs(room, instance, i)?;
+        }
+        room.state.recenter(&room.plant, instance.periods);
+    }
+    Ok(())
+}
+
+// Improves the outputs of the unit of visit i, if its ramps can bind and a move is left.
+fn visit_outputs(room: &mut Repair, instance: &Instance, i: usize) -> Result<(), NoMemory>
+    requires lawful { IsLawfulInstance instance.now }
+{
+    match room.visits.get(i) {
+        Some(visit) if room.left > 0 && room.plant.is_ramped_at(visit.unit) => {
+            room.left = room.left.saturating_sub(1);
+            improve_outputs(&room.plant, &mut room.state, instance, visit.unit)
+        }
+        _ => Ok(()),
+    }
 }
 
 // Improves the unit of visit i, if it is one of the units, a move is left and it wasn't tried; and tells whether its pattern has changed.
@@ -122,8 +155,8 @@ fn rate_of(price: i64, scale: i64) -> i64 {
     rate_within(&rate)
 }
 
-// Makes missing reserve as dear as it is.
-fn set_full_prices(periods: &mut [Period], market: &Market) {
+/// Makes missing reserve as dear as it is.
+pub(crate) fn set_full_prices(periods: &mut [Period], market: &Market) {
     for period in periods.iter_mut() {
         period.reserve_rate = market.missing;
     }

@@ -1,5 +1,5 @@
 -- What claims and tickets are after one more, after one that ended, and after each change of a desk.
-use Rattle.std.proofs.Common.{◌≡◌, ◌≢◌, ℕ, zero, suc, ◌+◌, ◌⊎◌, cond, List, [], ◌∷◌, ◌++◌, length, set, refl, ap, sym, ◌∙◌, subst, arith, inl, inr, ⊎_elim, Option, Some, None, slice_get, slice_index_or, is_some, ◌<◌, ◌≤◌, true, false, not, ◌||◌, drop, ◌==◌, IsTrue, nat_lt, filter, count_by, get_or-set_same, get_or-set_other, length-set, replicate, length-append}
+use Rattle.std.proofs.Common.{◌≡◌, ◌≢◌, ℕ, zero, suc, ◌+◌, ◌⊎◌, cond, List, [], ◌∷◌, ◌++◌, length, set, refl, ap, sym, ◌∙◌, subst, arith, inl, inr, ⊎_elim, Option, Some, None, slice_get, slice_index_or, is_some, ◌<◌, ◌≤◌, true, false, not, ◌||◌, drop, ◌==◌, IsTrue, nat_lt, filter, count_by, get_or-set_same, get_or-set_other, length-set}
 use Rattle.std.specs.List.{list_any}
 use Rattle.std.proofs.lemmas.List.Sums.{sum_by_push, sum_by-set, sum_by-cons, sum_by-append, get_or-le-sum_by}
 use Rattle.std.proofs.lemmas.Option.{slice_get_within, get_or_from_slice_get}

@@ -1,14 +1,14 @@
 -- Where each evaluation is by V, so is what each leaf and each entry has.
 use Rattle.std.proofs.Common.{◌≡◌, ◌==◌, ℕ, suc, Bool, false, true, cond, All, ℤ, refl, sym, subst, Option, Some, None, int_lt, ◌&&◌, pos, length}
 use Rattle.std.specs.Option.{option_or, option_map}
-use Rattle.std.proofs.lemmas.List.Elements.{All-nil, All-push}
+use Rattle.std.proofs.lemmas.List.Elements.{All-push}
 use Rattle.dual_model.specs.Tree.{root, child, EachLeaf}
 use Rattle.branch_tree.specs.Kinds.{IsPlainLeaf, IsPlainTree}
 use Rattle.branch_tree.specs.NumberedTree.{NumberedTree, EndAt, SplitAt, Subtree, unnumbered, spot_of, subtree_below, replaced, split_leaf, node_count}
 use Rattle.branch_tree.specs.declared.tree.Leaf.{Leaf}
 use Rattle.branch_tree.specs.declared.tree.Leaf.TheVariants as leaf
 use Rattle.branch_tree.specs.declared.found.Outcome.TheVariants as outcome
-use Rattle.search_core.specs.Machine.{Entry, Table, Holder, Machine, holder_of, leaf_stored, spot_stored, stored_at, start_of}
+use Rattle.search_core.specs.Machine.{Entry, Table, Holder, Machine, holder_of, leaf_stored, spot_stored, stored_at}
 use Rattle.search_core.specs.OwnTables.{Node}
 use Rattle.search_core.specs.declared.stored.Stored.{Stored}
 use Rattle.search_core.specs.Moves.{Outcome, Move, Again, Split, Prune, Ray, Empty, bound_of, kept_after, live_leaf, bound_leaf, empty_leaf, unit_of, kept, tree_after}
