@@ -5,6 +5,7 @@ ghost use Rattle.uc_model.specs.Limits.{IsLawfulInstance};
 use crate::chance::Chance;
 use crate::moves::{improve, improve_outputs};
 use crate::room::{Repair, Visit};
+use crate::size::is_small;
 use crate::tried::mark_of_try;
 use crate::turns::Turns;
 use crate::widening::widen;
@@ -58,8 +59,8 @@ pub(crate) fn pass_hard(
     Ok(())
 }
 
-/// Passes over the outputs alone: so many times, each unit whose ramps can bind gives what is best beside the others on its pattern, in an
-/// order by chance, as long as moves are left. The only error is `NoMemory`.
+/// Passes over the outputs alone, but in a small system: so many times, each unit whose ramps can bind gives what is best beside the others
+/// on its pattern, in an order by chance, as long as moves are left. The only error is `NoMemory`.
 pub(crate) fn pass_outputs(
     room: &mut Repair,
     instance: &Instance,
@@ -67,7 +68,9 @@ pub(crate) fn pass_outputs(
 ) -> Result<(), NoMemory>
     requires lawful { IsLawfulInstance instance.now }
 {
-    let times = if room.plant.is_ramped { times } else { 0 };
+    if !room.plant.is_ramped || is_small(instance) {
+        return Ok(());
+    }
     for _ in 0..times {
         shuffle(&mut room.visits, &mut room.chance)?;
         for i in 0..room.visits.len() {
