@@ -1,7 +1,7 @@
 -- The turns of the drop pass.
-use Rattle.std.proofs.Common.{◌≡◌, ◌⊎◌, ◌∙◌, ⊎_elim, ℕ, ◌<◌, zero, suc, false, true, List, get_or, get_or-set_other, get_or-set_same, set, length, length-set, inl, inr, refl, sym, subst, ap, arith, ℤ, IsTrue, int_lt, nat_lt, ◌≤◌, unsigned_abs}
+use Rattle.std.proofs.Common.{◌≡◌, ◌⊎◌, ◌∙◌, ⊎_elim, ℕ, ◌<◌, zero, suc, false, true, List, get_or, get_or-set_other, get_or-set_same, set, length, inl, inr, refl, sym, subst, ap, arith, ℤ, IsTrue, int_lt, nat_lt, ◌≤◌, unsigned_abs}
 use Rattle.std.proofs.lemmas.Bool.{cases_Bool, cases_eq, ltb-true}
-use Rattle.std.proofs.lemmas.List.{set-get_or, set-set}
+use Rattle.std.proofs.lemmas.List.{set-get_or}
 use Rattle.uc_model.proofs.PrintedCosts.{printed_cost-fits, watts-factor}
 use Rattle.uc_model.proofs.Ring.{linear}
 use Rattle.uc_model.proofs.Tests.{int_lt-true}
@@ -16,9 +16,7 @@ use Rattle.schedule_check.specs.WholeWatts.{HasPrice}
 use Rattle.schedule_check.proofs.Priced.{priced}
 use Rattle.dispatch_repair.specs.Dispatch.{HasPeriods}
 use Rattle.dispatch_repair.specs.MostOn.{AreMostOn}
-use Rattle.std.specs.declared.alloc.Global.{Global}
-use Rattle.std.specs.declared.vec.Vec.{Vec}
-use Rattle.dispatch_repair.specs.Rooms.{AreRowsBut, AreRowsOf, IsObstacleOf, IsRoomOf, printed_of}
+use Rattle.dispatch_repair.specs.Rooms.{IsObstacleOf}
 use Rattle.dispatch_repair.specs.Stuck.{IsDispatchOf}
 use Rattle.dispatch_repair.proofs.Obeying.{obeying}
 use Rattle.dispatch_repair.specs.declared.schedule.Obstacle.{Obstacle}
@@ -26,14 +24,10 @@ use Rattle.dispatch_repair.proofs.Periods.{stuck_of}
 use Rattle.dispatch_repair.proofs.Plain.{plain}
 use Rattle.dispatch_repair.proofs.Regular.{regular}
 use Rattle.dispatch_repair.proofs.RowsEdits.{cut_at, cut_stuck}
-use Rattle.dispatch_repair.proofs.RowsCommitted.{rows_but}
 use Rattle.decommitment.specs.DropCommitment.{Instance, Pattern, Printed, Ending, Dispatched, StuckIn, IsDropPass, IsEndingOf, IsFewestOnOf, IsStuckIn, IsTaken, is_better}
-use Rattle.decommitment.specs.declared.pass.Standing.TheVariants as standing
 use Rattle.decommitment.specs.declared.stand.Stand.TheVariants as stand
 use Rattle.decommitment.specs.declared.stand.Trial.TheVariants as trial
-use Rattle.decommitment.specs.Standings.{IsDropped}
-use Rattle.decommitment.specs.inside.Turns.{PlainPass, Stand, Trial, Turn, AreAllowed, beats, ending_of_stand, ending_of_trial, IsChosen, IsReplaced, IsTried, KeepsStuck}
-use Rattle.dispatch_repair.specs.declared.rows.Rows.{Rows}
+use Rattle.decommitment.specs.inside.Turns.{Stand, Trial, AreAllowed, beats, ending_of_stand, ending_of_trial, IsReplaced, KeepsStuck}
 
 -- ---- allowed patterns
 pub allowed_most : (instance : Instance) (patterns : List Pattern) → AreMostOn instance patterns → AreAllowed instance patterns
@@ -159,83 +153,3 @@ pub replaced_kept : (instance : Instance) (tried : Trial) (former after : Stand)
 replaced_kept instance (trial.Dispatched cost) former after is kept = subst (KeepsStuck instance) (sym is) tt
 replaced_kept instance (trial.Stuck t) (stand.Dispatched cost) after is kept = absurd is
 replaced_kept instance (trial.Stuck t) (stand.Stuck period most_on) after is kept = subst (KeepsStuck instance) (sym is) kept
-
-module _ (instance : Instance) (turn : Turn) (pass after : PlainPass) (it : IsTried instance turn pass) where
-  abbrev tried : List Pattern
-  tried = set it.former turn.g it.fewest
-
-  ends : IsEndingOf instance tried (ending_of_trial (printed_of pass.tried) turn.trial)
-  ends = subst (λ p. IsEndingOf instance p (ending_of_trial (printed_of pass.tried) turn.trial)) it.patterns it.ending
-
-  -- the trial is kept
-  pub chosen_better : IsTrue (beats turn.trial pass.stand) → after.room ≡ pass.room → after.patterns ≡ pass.patterns → after.best ≡ pass.tried
-      → after.tried ≡ pass.best → IsReplaced turn.trial pass.stand after.stand → IsChosen instance turn.g after
-  chosen_better better room patterns best rows replaced =
-      let end = replaced_end (printed_of pass.tried) turn.trial pass.stand after.stand replaced in
-      let items : after.patterns.items ≡ tried = ap (λ (v : Vec Pattern Global). v.items) patterns ∙ it.patterns in
-      record {
-        kept = record {
-          count = ap length items ∙ length-set it.former turn.g it.fewest ∙ it.kept.count;
-          allowed = subst (AreAllowed instance) (it.patterns ∙ sym items) it.allowed;
-          room_is = subst (IsRoomOf instance) (sym room) it.kept.room_is;
-          rows = subst (λ p. AreRowsOf instance p after.best) (sym items) (subst (AreRowsOf instance tried) (sym best) (subst (λ p. AreRowsOf instance p pass.tried) it.patterns it.tried));
-          passed = subst (λ p. IsDropPass instance (suc turn.g) p (ending_of_stand (printed_of after.best) after.stand)) (sym items)
-              (subst (λ r. IsDropPass instance (suc turn.g) tried (ending_of_stand (printed_of r) after.stand)) (sym best)
-              (passed_turn instance turn.g it.former tried (ending_of_stand (printed_of pass.best) pass.stand) (ending_of_stand (printed_of pass.tried) after.stand)
-              (ending_of_trial (printed_of pass.tried) turn.trial) it.fewest it.kept.passed it.is_fewest ends
-              (inl (beats_is (printed_of pass.tried) (printed_of pass.best) turn.trial pass.stand ∙ better, record { commitment = refl; end = end }))));
-          most_on = replaced_kept instance turn.trial pass.stand after.stand replaced it.kept.most_on;
-        };
-        tried = subst (λ p. AreRowsBut instance p turn.g after.tried) (sym items)
-            (subst (AreRowsBut instance tried turn.g) (sym rows) (rows_but instance it.former turn.g it.fewest pass.best it.kept.rows));
-      }
-
-  -- the pattern that stood is put back
-  pub chosen_worse : beats turn.trial pass.stand ≡ false → after.room ≡ pass.room → after.patterns.items ≡ set pass.patterns.items turn.g turn.stood
-      → after.best ≡ pass.best → after.tried ≡ pass.tried → after.stand ≡ pass.stand → IsChosen instance turn.g after
-  chosen_worse worse room patterns best rows same =
-      let back : set tried turn.g turn.stood ≡ it.former =
-      set-set it.former turn.g it.fewest turn.stood ∙ (ap (set it.former turn.g) it.stood ∙ set-get_or it.former turn.g turn.stood) in
-      let items : after.patterns.items ≡ it.former = patterns ∙ ap (λ xs. set xs turn.g turn.stood) it.patterns ∙ back in
-      record {
-        kept = record {
-          count = ap length items ∙ it.kept.count;
-          allowed = subst (AreAllowed instance) (sym items) it.kept.allowed;
-          room_is = subst (IsRoomOf instance) (sym room) it.kept.room_is;
-          rows = subst (λ p. AreRowsOf instance p after.best) (sym items) (subst (AreRowsOf instance it.former) (sym best) it.kept.rows);
-          passed = subst (λ p. IsDropPass instance (suc turn.g) p (ending_of_stand (printed_of after.best) after.stand)) (sym items)
-              (subst (λ r. IsDropPass instance (suc turn.g) it.former (ending_of_stand (printed_of r) after.stand)) (sym best)
-              (subst (λ s. IsDropPass instance (suc turn.g) it.former (ending_of_stand (printed_of pass.best) s)) (sym same)
-              (passed_turn instance turn.g it.former it.former (ending_of_stand (printed_of pass.best) pass.stand) (ending_of_stand (printed_of pass.best) pass.stand)
-              (ending_of_trial (printed_of pass.tried) turn.trial) it.fewest it.kept.passed it.is_fewest ends
-              (inr (beats_is (printed_of pass.tried) (printed_of pass.best) turn.trial pass.stand ∙ worse, record { commitment = refl; end = refl })))));
-          most_on = subst (KeepsStuck instance) (sym same) it.kept.most_on;
-        };
-        tried = subst (λ p. AreRowsBut instance p turn.g after.tried) (back ∙ sym items)
-            (subst (AreRowsBut instance (set tried turn.g turn.stood) turn.g) (sym rows)
-            (rows_but instance tried turn.g turn.stood pass.tried (subst (λ p. AreRowsOf instance p pass.tried) it.patterns it.tried)));
-      }
-
--- ---- the end
--- the schedule of the rows of a commitment that is kept with a cost
-pub dispatch_is : (instance : Instance) (n : ℕ) (patterns : List Pattern) (best : Rows) (kept : Stand) (cost : ℤ) (printed : Printed)
-    → IsDropPass instance n patterns (ending_of_stand (printed_of best) kept) → kept ≡ stand.Dispatched cost → printed ≡ printed_of best
-    → IsDispatchOf instance patterns printed × (cost ≡ printed_cost instance printed)
-dispatch_is instance n patterns best kept cost printed passed is same =
-    let ends = subst (λ s. IsEndingOf instance patterns (ending_of_stand (printed_of best) s)) is (ending_is instance n patterns _ passed) in
-    (subst (IsDispatchOf instance patterns) (sym same) ends.0, ends.1 ∙ ap (printed_cost instance) (sym same))
-
-pub dropped : (instance : Instance) (patterns : List Pattern) (best : Rows) (kept : Stand) (stood : ℤ) (printed : Printed) (cost : ℤ) → IsLawfulInstance instance
-    → IsDropPass instance (thermal_count instance) patterns (ending_of_stand (printed_of best) kept) → kept ≡ stand.Dispatched stood
-    → printed ≡ printed_of best → cost ≡ printed_cost instance printed → IsDropped instance (standing.Dispatched printed cost)
-dropped instance patterns best kept stood printed cost lawful passed is same cost_is =
-    let found = dispatch_is instance (thermal_count instance) patterns best kept stood printed passed is same in
-    record {
-      patterns = patterns;
-      drop = record {
-        passed = subst (IsDropPass instance (thermal_count instance) patterns)
-            (ap (ending_of_stand (printed_of best)) is ∙ (λ i. Dispatched (sym same i) ((found.1 ∙ sym cost_is) i))) passed;
-      };
-      accepted = accepted instance patterns printed cost lawful found.0 cost_is;
-      most_on = tt;
-    }

@@ -1,8 +1,4 @@
 pub mod Drops
-pub mod SourceSlopes
-pub mod LesserSums
-pub mod OneFilling
-pub mod OneDispatch
 pub mod Runs
 pub mod RunCosts
 pub mod RunTurns

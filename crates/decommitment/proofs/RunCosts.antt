@@ -21,7 +21,7 @@ use Rattle.decommitment.specs.DropCommitment.{Instance, Pattern, Printed}
 use Rattle.decommitment.specs.inside.Runs.{Fill, AreDispatched, AreSized, AreUnitCosts, GivesSame, IsCellOf, IsRowOf, IsUnitCost, LacksSo, cost_at, lack_at, outputs_at}
 use Rattle.decommitment.specs.inside.Stretches.{IsSameAt}
 use Rattle.decommitment.proofs.Drops.{dispatch_prices}
-use Rattle.decommitment.proofs.OneDispatch.{one_category}
+use Rattle.dispatch_repair.proofs.OneDispatch.{one_category}
 use Rattle.decommitment.proofs.Runs.{outputs_here}
 
 -- the same state, output and category cost the same

@@ -13,9 +13,10 @@ use Rattle.uc_model.specs.declared.limits.TheConstants.{COST_MAX}
 use Rattle.uc_model.proofs.Sizes.{wide}
 use Rattle.dispatch_repair.specs.declared.segment.Segment.{Segment}
 use Rattle.dispatch_repair.specs.MostOn.{AreMostOn}
+use Rattle.dispatch_repair.specs.Rooms.{IsRoomOf}
 use Rattle.dispatch_repair.specs.Stuck.{Stuck, IsDispatchOf, IsStuckOf}
 use Rattle.decommitment.specs.DropCommitment.{Instance, Pattern, Printed, Ending, Dispatched, StuckIn, IsDropPass, IsEndingOf, IsStuckIn, is_better}
-use Rattle.decommitment.specs.OneDispatch.{AreSame}
+use Rattle.dispatch_repair.specs.OneDispatch.{AreSame}
 use Rattle.decommitment.specs.Standings.{IsDropped}
 use Rattle.decommitment.specs.declared.pass.Standing.TheVariants as standing
 use Rattle.decommitment.specs.declared.stand.Stand.TheVariants as stand
@@ -24,13 +25,14 @@ use Rattle.decommitment.specs.inside.Fills.{HasEntered}
 use Rattle.decommitment.specs.inside.Runs.{Fill, Pass, Run, Stand, Trial, Turn, IsRun, IsRunPass, IsStandOf, IsTrialOf, IsTriedRun, IsStoodAt, outputs_before}
 use Rattle.decommitment.specs.inside.Turns.{AreAllowed, IsReplaced, KeepsStuck, beats, ending_of_stand, ending_of_trial}
 use Rattle.decommitment.proofs.Drops.{accepted, beats_is, ending_is, passed_turn, replaced_end, replaced_kept}
-use Rattle.decommitment.proofs.OneDispatch.{one_dispatch}
+use Rattle.dispatch_repair.proofs.OneDispatch.{one_dispatch}
 
 -- ---- the beginning
 -- a run of no period is any commitment's
 pub no_run_is : (instance : Instance) (order : List Segment) (patterns : List Pattern) (start : List ℤ) (run : Run) → IsLawfulInstance instance
-    → run.fills.items ≡ [] → run.edge ≡ None → length run.costs.items ≡ thermal_count instance → IsRun instance order patterns start run
-no_run_is instance order patterns start run lawful none bare count =
+    → run.fills.items ≡ [] → run.edge ≡ None → length run.costs.items ≡ thermal_count instance → IsRoomOf instance run.room
+    → IsRun instance order patterns start run
+no_run_is instance order patterns start run lawful none bare count room =
     let nothing : length run.fills.items ≡ 0 = ap length none in
     record {
       fills = record {
@@ -43,6 +45,7 @@ no_run_is instance order patterns start run lawful none bare count =
         sized = λ t fill h is. absurd (omega (arith, h, nothing));
         costs = λ all. absurd (omega (arith, all, nothing, lawful.periods.0));
       };
+      room = room;
     }
 
 -- and it has no fill
@@ -107,6 +110,7 @@ module _ (instance : Instance) (order : List Segment) (start : List ℤ) (turn :
           most_on = replaced_kept instance turn.trial pass.stand after.stand replaced it.kept.most_on;
         };
         costs = ap (λ (r : Run). length r.costs.items) other ∙ it.kept.run.known.count;
+        room = subst (λ (r : Run). IsRoomOf instance r.room) (sym other) it.kept.run.room;
       }
 
   -- the pattern that stood is put back
@@ -130,6 +134,7 @@ module _ (instance : Instance) (order : List Segment) (start : List ℤ) (turn :
           most_on = subst (KeepsStuck instance) (sym same) it.kept.most_on;
         };
         costs = ap (λ (r : Run). length r.costs.items) other ∙ it.tried.known.count;
+        room = subst (λ (r : Run). IsRoomOf instance r.room) (sym other) it.tried.room;
       }
 
 -- ---- the end

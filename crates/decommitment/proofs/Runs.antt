@@ -85,7 +85,7 @@ came system hour fill Bound n before t_is before_is is = tt
 pub stood_entered : (instance : Instance) (order : List Segment) (patterns : List Pattern) (start : List ℤ) (run : Run) (t : ℕ) (fill : Fill)
     → IsRun instance order patterns start run → IsStoodAt run t fill → HasEntered instance order patterns t (outputs_before start run.fills.items t) fill
 stood_entered instance order patterns start run t fill of at = ⊎_elim
-    (λ inside. let filled = of.fills.each t fill inside.0 inside.1 in record { was = filled.was; count = filled.count; ready = filled.ready })
+    (λ inside. let filled = of.fills.each t fill inside.0 inside.1 in record { was = filled.was; count = filled.count; ready = filled.ready inside.2 })
     (λ behind.
     subst (λ k. HasEntered instance order patterns k (outputs_before start run.fills.items k) fill) (sym behind.0)
     (subst (λ e. IfSome e (HasEntered instance order patterns (length run.fills.items) (outputs_before start run.fills.items (length run.fills.items)))) behind.1 of.edge))

@@ -34,7 +34,7 @@ module _ (system : System) (hour : Hour) (of : IsHourOf system hour) (old new : 
   filled all limit met = record {
     was = of.before;
     count = walked.standing.given.count;
-    ready = ready;
+    ready = λ base. ready;
     dispatched = level_fill system.instance.now hour.patterns.now hour.t (thermal_amount system.instance.now hour.before.now) system.merit.now.order.items new left
         of.before.lawful of.before.period of.before.sizes of.merit.order ready (subst (λ s. IsStarted period s left) (sym walked.shortage) started)
         (met.all ∙ all ∙ ap (λ (t : Totals). (left.need +ℤ t.thermal_low) +ℤ t.renewable_low) (sym walked.totals))

@@ -1,5 +1,4 @@
 pub mod DropCommitment
 pub mod MostOnStuck
-pub mod OneDispatch
 pub mod Standings
 pub mod inside

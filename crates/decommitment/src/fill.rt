@@ -19,7 +19,8 @@ use std::alloc::Global;
 use uc_model::{Instance, NoMemory, Pattern, Why};
 
 /// A period as it was filled: each source's amount, in watts, by its place; the place in the order of merit up to which segments
-/// are full, from 0; the sums of the amounts and of the ranges; and what is missing.
+/// are full, from 0; the sums of the amounts and of the ranges; what is missing; and whether a like commitment's period may be filled from
+/// this one. It may not where the thermal units' limit binds: then the amounts stand at no one place.
 #[derive(Drop)]
 pub(crate) struct Fill {
     pub amounts: Vec<i64>,
@@ -27,6 +28,7 @@ pub(crate) struct Fill {
     pub given: Given,
     pub totals: Totals,
     pub shortage: Shortage,
+    pub is_base: bool,
 }
 
 /// What the thermal units give in all above their minimums, and what the renewable ones, in watts.
@@ -37,7 +39,7 @@ pub(crate) struct Given {
 }
 
 /// What became of a period: filled in order of merit; barred, for this reason first, by an empty range or, with all units entered, by
-/// what they give in all; or neither was found.
+/// what they give in all; or not filled, as the thermal units' limit binds.
 #[derive(Drop)]
 pub(crate) enum Filling {
     Filled,
@@ -81,6 +83,7 @@ pub(crate) fn no_fill(alloc: Global, sources: usize) -> Result<Fill, NoMemory>
         given: no_given(),
         totals: no_totals(),
         shortage: Shortage { shed: 0, short: 0 },
+        is_base: true,
     })
 }
 

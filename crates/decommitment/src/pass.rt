@@ -4,22 +4,22 @@ ghost use Rattle.std.specs.Prelude.{◌≡◌, ◌<◌, List, ℤ, IfOk, length,
 ghost use Rattle.uc_model.specs.Limits.{IsLawfulInstance};
 ghost use Rattle.uc_model.specs.Schedule.{thermal_count};
 ghost use Rattle.dispatch_repair.specs.MostOn.{AreMostOn};
+ghost use Rattle.dispatch_repair.specs.Rooms.{IsRoomOf};
 ghost use Rattle.dispatch_repair.specs.declared.segment.Segment.{Segment};
 ghost use Rattle.dispatch_repair.specs.Stuck.{IsDispatchOf, IsStuckOf};
 ghost use Rattle.decommitment.specs.DropCommitment.{Instance, IsStuckIn, Printed};
 ghost use Rattle.dual_model.specs.Tree.{HasEachPattern};
 ghost use Rattle.decommitment.specs.Standings.{IsDropped};
 ghost use Rattle.decommitment.specs.inside.Runs.{IsOrigin, IsRun, IsRunPass, IsSetting, IsStandOf, IsTrialOf, IsTriedRun, instance_of, order_of};
-ghost use Rattle.decommitment.specs.inside.Turns.{AreAllowed, IsPassed};
+ghost use Rattle.decommitment.specs.inside.Turns.{AreAllowed};
 
 use crate::fill::System;
 use crate::merit::merit_of;
 use crate::patterns::{fewest, most_on_patterns};
-use crate::plain::{PlainPass, plain_pass};
 use crate::price::{Changed, price};
 use crate::run::{Origin, Reach, Run, Setting, fill_periods, initial_outputs, no_run};
 use crate::stand::{Stand, Trial, Turn, is_better, replace};
-use dispatch_repair::{DispatchFault, dispatch, printed};
+use dispatch_repair::{DispatchFault, dispatch};
 use schedule_check::cost;
 use std::alloc::Global;
 use std::mem;
@@ -31,24 +31,6 @@ use uc_model::{Instance, NoMemory, Pattern, Printed, Stuck};
 pub enum Standing {
     Dispatched { printed: Printed, cost: i64 },
     Stuck { period: usize, most_on: Stuck },
-}
-
-// Why there is no pass over runs: memory was refused, or a limit binds in a period.
-#[derive(Clone, Copy)]
-enum Halt {
-    NoMemory,
-    Bound,
-}
-
-impl From<NoMemory> for Halt {
-    ghost use Rattle.std.specs.Prelude.{◌≡◌};
-    ghost use Rattle.decommitment.specs.declared.pass.Halt.TheVariants as halt;
-
-    ghost from_gives = { λ _ e. e ≡ halt.NoMemory };
-
-    fn from(_: NoMemory) -> Self {
-        Halt::NoMemory
-    }
 }
 
 // The commitment that is kept, with its run, and memory for the next trial's.
@@ -66,22 +48,6 @@ pub fn drop_pass(alloc: Global, instance: &Instance) -> Result<Standing, NoMemor
     requires patterns { HasEachPattern instance.now }
     ensures { IfOk result (IsDropped instance.now) }
 {
-    match run_pass(alloc, instance) {
-        Ok(standing) => Ok(standing),
-        Err(Halt::NoMemory) => Err(NoMemory),
-        Err(Halt::Bound) => {
-            let pass = plain_pass(alloc, instance)?;
-            ended_plainly(alloc, instance, pass)
-        }
-    }
-}
-
-// The pass over runs.
-fn run_pass(alloc: Global, instance: &Instance) -> Result<Standing, Halt>
-    requires lawful { IsLawfulInstance instance.now }
-    requires patterns { HasEachPattern instance.now }
-    ensures { IfOk result (IsDropped instance.now) }
-{
     let merit = merit_of(alloc, instance)?;
     let start = initial_outputs(alloc, instance)?;
     let system = System {
@@ -94,11 +60,11 @@ fn run_pass(alloc: Global, instance: &Instance) -> Result<Standing, Halt>
     };
     let mut pass = begun(alloc, &setting)?;
     turns(alloc, &mut pass, &setting)?;
-    Ok(ended(alloc, instance, pass)?)
+    ended(alloc, instance, pass)
 }
 
 // The turns of all units.
-fn turns(alloc: Global, pass: &mut Pass, setting: &Setting) -> Result<(), Halt>
+fn turns(alloc: Global, pass: &mut Pass, setting: &Setting) -> Result<(), NoMemory>
     requires setting { IsSetting setting.now }
     requires each { HasEachPattern (instance_of setting.now) }
     requires begun { IsRunPass (instance_of setting.now) (order_of setting.now) setting.now.start.now 0 pass.old }
@@ -112,7 +78,7 @@ fn turns(alloc: Global, pass: &mut Pass, setting: &Setting) -> Result<(), Halt>
 }
 
 // The most-on commitment, with its run.
-fn begun(alloc: Global, setting: &Setting) -> Result<Pass, Halt>
+fn begun(alloc: Global, setting: &Setting) -> Result<Pass, NoMemory>
     requires setting { IsSetting setting.now }
     requires each { HasEachPattern (instance_of setting.now) }
     ensures { IfOk result (IsRunPass (instance_of setting.now) (order_of setting.now) setting.now.start.now 0) }
@@ -177,7 +143,7 @@ fn where_stuck(
 }
 
 // The turn of unit g: its pattern with the fewest on periods is tried, and kept where the dispatch is better.
-fn take_turn(alloc: Global, pass: &mut Pass, setting: &Setting, g: usize) -> Result<(), Halt>
+fn take_turn(alloc: Global, pass: &mut Pass, setting: &Setting, g: usize) -> Result<(), NoMemory>
     requires setting { IsSetting setting.now }
     requires each { HasEachPattern (instance_of setting.now) }
     requires unit { g < thermal_count (instance_of setting.now) }
@@ -208,13 +174,14 @@ fn attempt(
     patterns: &[Pattern],
     origin: &Origin,
     run: &mut Run,
-) -> Result<Trial, Halt>
+) -> Result<Trial, NoMemory>
     requires setting { IsSetting setting.now }
     requires patterns { length patterns.now ≡ thermal_count (instance_of setting.now) }
     requires allowed { AreAllowed (instance_of setting.now) patterns.now }
     requires origin { IsOrigin (instance_of setting.now) (order_of setting.now) patterns.now setting.now.start.now
         origin.now.run.now origin.now.g origin.now.stood }
     requires costs { length run.old.costs.items ≡ thermal_count (instance_of setting.now) }
+    requires room { IsRoomOf (instance_of setting.now) run.old.room }
     ensures run { IfOk result (λ trial. IsRun (instance_of setting.now) (order_of setting.now) patterns.now
         setting.now.start.now run.new) }
     ensures trial { IfOk result (IsTrialOf (instance_of setting.now) patterns.now) }
@@ -230,7 +197,6 @@ fn attempt(
             Ok(Trial::Dispatched(price(alloc, &changed, &mut run.costs)?))
         }
         Reach::Stuck(t) => Ok(Trial::Stuck(t)),
-        Reach::Bound => Err(Halt::Bound),
     }
 }
 
@@ -280,22 +246,5 @@ fn whole(alloc: Global, instance: &Instance, patterns: &[Pattern]) -> Result<Pri
         Ok(printed) => Ok(printed),
         Err(DispatchFault::Stuck(_)) => unreachable!(),
         Err(DispatchFault::NoMemory) => Err(NoMemory),
-    }
-}
-
-// Where the pass ends in which each commitment was dispatched anew: the rows of the one that is kept are its schedule.
-fn ended_plainly(alloc: Global, instance: &Instance, pass: PlainPass) -> Result<Standing, NoMemory>
-    requires lawful { IsLawfulInstance instance.now }
-    requires passed { IsPassed instance.now (thermal_count instance.now) pass }
-    ensures { IfOk result (IsDropped instance.now) }
-{
-    let PlainPass { best, stand, .. } = pass;
-    match stand {
-        Stand::Dispatched(_) => {
-            let printed = printed(alloc, best)?;
-            let cost = cost(instance, &printed);
-            Ok(Standing::Dispatched { printed, cost })
-        }
-        Stand::Stuck { period, most_on } => Ok(Standing::Stuck { period, most_on }),
     }
 }

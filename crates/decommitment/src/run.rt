@@ -1,16 +1,19 @@
 //! The run of a commitment: its periods one after another, filled again from another commitment's where there is one.
 
-ghost use Rattle.std.specs.Prelude.{◌≡◌, ◌<◌, ◌≤◌, [], IfOk, length, IfSome, None};
+ghost use Rattle.std.specs.Prelude.{◌≡◌, ◌<◌, ◌≤◌, [], IfOk, MatchOption, length, IfSome, None};
 ghost use Rattle.uc_model.specs.Limits.{IsLawfulInstance};
 ghost use Rattle.uc_model.specs.Schedule.{thermal_count};
+ghost use Rattle.dispatch_repair.specs.Amounts.{next_period};
+ghost use Rattle.dispatch_repair.specs.Rooms.{IsRoomOf};
 ghost use Rattle.dispatch_repair.specs.Segments.{source_count};
-ghost use Rattle.decommitment.specs.inside.Fills.{HasEntered};
-ghost use Rattle.decommitment.specs.inside.Runs.{AreFills, AreInitial, IsFillingOf, IsOrigin, IsReach, IsSetting, IsStoodAt, instance_of, order_of, outputs_before};
+ghost use Rattle.dispatch_repair.specs.Stuck.{IsFirstObstacle};
+ghost use Rattle.decommitment.specs.inside.Fills.{HasEntered, IsFill};
+ghost use Rattle.decommitment.specs.inside.Runs.{AreFills, AreInitial, IsEdge, IsFillingOf, IsNext, IsOrigin, IsReach, IsSetting, IsStoodAt, instance_of, order_of, outputs_before};
 
 use crate::fill::{Base, Fill, Filling, Hour, System, fill_again, fill_anew, no_fill};
-use dispatch_repair::set_initial;
+use dispatch_repair::{Room, dispatch_after, set_initial};
 use std::alloc::Global;
-use uc_model::{Instance, NoMemory, Pattern};
+use uc_model::{Instance, NoMemory, Pattern, Why};
 
 /// What the runs of an instance share: with what periods are filled, and what the sources give before the first one, in watts by their
 /// places.
@@ -21,21 +24,22 @@ pub(crate) struct Setting<'a> {
 }
 
 /// The run of a commitment: its periods from the first on, as far as they can be filled; what each thermal unit costs, in
-/// micro-dollars, where all are; the fill of the period behind, where all units entered that one; and fills that are free.
+/// micro-dollars, where all are; the fill of the period behind, where all units entered that one; fills that are free; and room for the
+/// dispatch of a period in which a limit binds.
 #[derive(Drop)]
 pub(crate) struct Run {
     pub fills: Vec<Fill>,
     pub edge: Option<Fill>,
     pub costs: Vec<i128>,
     pub spare: Vec<Fill>,
+    pub room: Room,
 }
 
-/// How far a run came: through all periods; or to one, from 0, that can't be filled; or to one in which a limit binds, so that it isn't.
+/// How far a run came: through all periods; or to one, from 0, that can't be filled.
 #[derive(Clone, Copy)]
 pub(crate) enum Reach {
     Through,
     Stuck(usize),
-    Bound,
 }
 
 /// The run of a commitment in which unit g, from 0, has the pattern that stood.
@@ -48,15 +52,18 @@ pub(crate) struct Origin<'a> {
 
 /// A run of no period. The only error is `NoMemory`.
 pub(crate) fn no_run(alloc: Global, instance: &Instance) -> Result<Run, NoMemory>
+    requires lawful { IsLawfulInstance instance.now }
     ensures fills { IfOk result (λ run. run.fills.items ≡ []) }
     ensures edge { IfOk result (λ run. run.edge ≡ None) }
     ensures costs { IfOk result (λ run. length run.costs.items ≡ thermal_count instance.now) }
+    ensures room { IfOk result (λ run. IsRoomOf instance.now run.room) }
 {
     Ok(Run {
         fills: Vec::new(alloc),
         edge: None,
         costs: vec![in alloc; 0; instance.thermal.as_slice().len()]?,
         spare: Vec::new(alloc),
+        room: Room::new(alloc, instance)?,
     })
 }
 
@@ -83,7 +90,9 @@ pub(crate) fn fill_periods(
     requires patterns { length patterns.now ≡ thermal_count (instance_of setting.now) }
     requires origin { IsOrigin (instance_of setting.now) (order_of setting.now) patterns.now setting.now.start.now
         origin.now.run.now origin.now.g origin.now.stood }
+    requires room { IsRoomOf (instance_of setting.now) run.old.room }
     ensures costs { run.new.costs ≡ run.old.costs }
+    ensures room { IsRoomOf (instance_of setting.now) run.new.room }
     ensures fills { IfOk result (λ reach. AreFills (instance_of setting.now) (order_of setting.now) patterns.now
         setting.now.start.now run.new.fills.items) }
     ensures edge { IfOk result (λ reach. IfSome run.new.edge (HasEntered (instance_of setting.now) (order_of setting.now) patterns.now
@@ -92,21 +101,68 @@ pub(crate) fn fill_periods(
 {
     release(run)?;
     for t in 0..setting.system.instance.periods as usize {
-        let mut fill = take_spare(alloc, &mut run.spare, setting.start.len())?;
-        match fill_next(setting, patterns, origin, &run.fills, &mut fill) {
-            Filling::Filled => run.fills.push(fill)?,
-            Filling::Barred(_) => {
-                run.spare.push(fill)?;
-                return Ok(Reach::Stuck(t));
-            }
-            Filling::Uneven(_) => {
-                run.edge = Some(fill);
-                return Ok(Reach::Stuck(t));
-            }
-            Filling::Bound => return Ok(Reach::Bound),
+        if !fill_period(alloc, setting, patterns, origin, run)? {
+            return Ok(Reach::Stuck(t));
         }
     }
     Ok(Reach::Through)
+}
+
+// Fills the period after the last one, where it can be filled, and says whether it can.
+fn fill_period(
+    alloc: Global,
+    setting: &Setting,
+    patterns: &[Pattern],
+    origin: &Origin,
+    run: &mut Run,
+) -> Result<bool, NoMemory>
+    requires setting { IsSetting setting.now }
+    requires patterns { length patterns.now ≡ thermal_count (instance_of setting.now) }
+    requires origin { IsOrigin (instance_of setting.now) (order_of setting.now) patterns.now setting.now.start.now
+        origin.now.run.now origin.now.g origin.now.stood }
+    requires room { IsRoomOf (instance_of setting.now) run.old.room }
+    requires fills { AreFills (instance_of setting.now) (order_of setting.now) patterns.now setting.now.start.now run.old.fills.items }
+    requires edge { run.old.edge ≡ None }
+    requires period { length run.old.fills.items < (instance_of setting.now).periods }
+    ensures costs { run.new.costs ≡ run.old.costs }
+    ensures room { IsRoomOf (instance_of setting.now) run.new.room }
+    ensures fills { IfOk result (λ filled. AreFills (instance_of setting.now) (order_of setting.now) patterns.now
+        setting.now.start.now run.new.fills.items) }
+    ensures edge { IfOk result (IsEdge (instance_of setting.now) (order_of setting.now) patterns.now setting.now.start.now run.new) }
+    ensures next { IfOk result (IsNext (instance_of setting.now) patterns.now setting.now.start.now run.old.fills.items
+        run.new.fills.items) }
+{
+    let mut fill = take_spare(alloc, &mut run.spare, setting.start.len())?;
+    match fill_next(setting, patterns, origin, &run.fills, &mut fill) {
+        Filling::Filled => {
+            run.fills.push(fill)?;
+            Ok(true)
+        }
+        Filling::Barred(_) => {
+            run.spare.push(fill)?;
+            Ok(false)
+        }
+        Filling::Uneven(_) => {
+            run.edge = Some(fill);
+            Ok(false)
+        }
+        Filling::Bound => match fill_bound(
+            setting,
+            patterns,
+            &run.fills,
+            &mut run.room,
+            &mut fill,
+        ) {
+            None => {
+                run.fills.push(fill)?;
+                Ok(true)
+            }
+            Some(_) => {
+                run.spare.push(fill)?;
+                Ok(false)
+            }
+        },
+    }
 }
 
 // Makes the fills of a run free.
@@ -114,6 +170,7 @@ fn release(run: &mut Run) -> Result<(), NoMemory>
     ensures costs { run.new.costs ≡ run.old.costs }
     ensures fills { IfOk result (λ done. run.new.fills.items ≡ []) }
     ensures edge { IfOk result (λ done. run.new.edge ≡ None) }
+    ensures room { run.new.room ≡ run.old.room }
 {
     for _ in 0..run.fills.len() {
         if let Some(fill) = run.fills.pop() {
@@ -125,12 +182,13 @@ fn release(run: &mut Run) -> Result<(), NoMemory>
     Ok(())
 }
 
-// A fill that is free, or a new one.
+// A fill that is free, or a new one; it is a base unless a limit is found to bind.
 fn take_spare(alloc: Global, spare: &mut Vec<Fill>, sources: usize) -> Result<Fill, NoMemory>
     ensures { IfOk result (λ fill. length fill.amounts.items ≡ sources) }
 {
-    if let Some(fill) = spare.pop() {
+    if let Some(mut fill) = spare.pop() {
         if fill.amounts.len() == sources {
+            fill.is_base = true;
             return Ok(fill);
         }
     }
@@ -152,7 +210,8 @@ fn fill_next(
     requires fills { AreFills (instance_of setting.now) (order_of setting.now) patterns.now setting.now.start.now fills.now }
     requires period { length fills.now < (instance_of setting.now).periods }
     requires amounts { length fill.old.amounts.items ≡ source_count (instance_of setting.now) }
-    ensures { IsFillingOf (instance_of setting.now) (order_of setting.now) patterns.now (length fills.now)
+    ensures amounts { length fill.new.amounts.items ≡ source_count (instance_of setting.now) }
+    ensures filling { IsFillingOf (instance_of setting.now) (order_of setting.now) patterns.now (length fills.now)
         (outputs_before setting.now.start.now fills.now (length fills.now)) fill.new result }
 {
     let t = fills.len();
@@ -176,12 +235,51 @@ fn fill_next(
     }
 }
 
-// A run's fill of period t, which was filled, or which all units entered.
+// Fills the period after the last one, in which the thermal units' limit binds, as in a dispatch; or says why it can't be filled.
+fn fill_bound(
+    setting: &Setting,
+    patterns: &[Pattern],
+    fills: &[Fill],
+    room: &mut Room,
+    fill: &mut Fill,
+) -> Option<Why>
+    requires setting { IsSetting setting.now }
+    requires patterns { length patterns.now ≡ thermal_count (instance_of setting.now) }
+    requires fills { AreFills (instance_of setting.now) (order_of setting.now) patterns.now setting.now.start.now fills.now }
+    requires period { length fills.now < (instance_of setting.now).periods }
+    requires room { IsRoomOf (instance_of setting.now) room.old }
+    requires amounts { length fill.old.amounts.items ≡ source_count (instance_of setting.now) }
+    ensures room { IsRoomOf (instance_of setting.now) room.new }
+    ensures filled { let before = outputs_before setting.now.start.now fills.now (length fills.now) in
+        MatchOption result (IsFill (instance_of setting.now) (order_of setting.now) patterns.now (length fills.now) before fill.new)
+        (IsFirstObstacle (next_period (instance_of setting.now) patterns.now (length fills.now) before)) }
+{
+    let t = fills.len();
+    let before = given_before(setting.start, fills, t);
+    fill.amounts.copy_from_slice(before);
+    fill.is_base = false;
+    match dispatch_after(
+        room,
+        setting.system.instance,
+        patterns,
+        t,
+        &mut fill.amounts,
+    ) {
+        Ok(shortage) => {
+            fill.shortage = shortage;
+            None
+        }
+        Err(why) => Some(why),
+    }
+}
+
+// A run's fill of period t, which was filled and is a base, or which all units entered.
 fn stood_at(run: &Run, t: usize) -> Option<&Fill>
     ensures { IfSome result (λ fill. IsStoodAt run.now t fill.now) }
 {
     if t < run.fills.len() {
-        return Some(&run.fills[t]);
+        let fill = &run.fills[t];
+        return if fill.is_base { Some(fill) } else { None };
     }
     if t == run.fills.len() {
         return match &run.edge {

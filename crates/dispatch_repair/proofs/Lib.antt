@@ -27,3 +27,7 @@ pub mod Raising
 pub mod Reaches
 pub mod Writing
 pub mod Endings
+pub mod SourceSlopes
+pub mod LesserSums
+pub mod OneFilling
+pub mod OneDispatch

@@ -12,3 +12,4 @@ pub mod Rooms
 pub mod Progress
 pub mod inside
 pub mod MostOn
+pub mod OneDispatch

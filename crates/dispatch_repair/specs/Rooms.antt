@@ -1,6 +1,6 @@
 -- The room of an instance: what its dispatches share; and the rows that they are written into, with the schedule that rows stand for.
 -- This project's own.
-use Rattle.std.specs.Prelude.{◌≡◌, ◌≢◌, ℕ, ◌<◌, ◌≤◌, List, pos, length, map}
+use Rattle.std.specs.Prelude.{◌≡◌, ℕ, ◌<◌, ◌≤◌, List, pos, length, map}
 use Rattle.std.specs.declared.alloc.Global.{Global}
 use Rattle.std.specs.declared.vec.Vec.{Vec}
 use Rattle.uc_model.specs.PrintedSchedule.{cell_at, shed_at, short_at}
@@ -53,12 +53,6 @@ pub record IsNewCell (instance : Instance) (patterns : List Pattern) (g t : ℕ)
 abbrev pub AreRowsOf : Instance → List Pattern → Rows → Type 0
 AreRowsOf instance patterns rows = AreCommitted instance patterns (printed_of rows)
 
--- and so they have but for unit g's
-pub record AreRowsBut (instance : Instance) (patterns : List Pattern) (g : ℕ) (rows : Rows) : Type 0 where
-  pub shape : HasPeriods instance instance.periods (printed_of rows)
-  pub others : (h t : ℕ) → h < thermal_count instance → t < instance.periods → h ≢ g
-      → IsCommittedCell instance patterns h t (cell_at (printed_of rows) h t)
-
 -- unit g's row gives nothing
 pub record IsPowerless (instance : Instance) (rows : Rows) (g : ℕ) : Type 0 where
   pub output : (t : ℕ) → t < instance.periods → (cell_at (printed_of rows) g t).p ≡ pos 0
@@ -67,13 +61,6 @@ pub record IsPowerless (instance : Instance) (rows : Rows) (g : ℕ) : Type 0 wh
 -- nor does any thermal unit's
 abbrev pub ArePowerless : Instance → Rows → Type 0
 ArePowerless instance rows = (g : ℕ) → g < thermal_count instance → IsPowerless instance rows g
-
--- the rows are the same but for unit g's
-pub record AreSameRowsBut (g : ℕ) (old new : Rows) : Type 0 where
-  pub cells : (h t : ℕ) → h ≢ g → cell_at (printed_of new) h t ≡ cell_at (printed_of old) h t
-  pub renewable : new.renewable ≡ old.renewable
-  pub shed : new.shed ≡ old.shed
-  pub short : new.short ≡ old.short
 
 -- the first obstacle of a commitment, after the periods of the schedule that were filled before it
 pub record IsObstacleOf (instance : Instance) (patterns : List Pattern) (printed : Printed) (obstacle : Obstacle) : Type 0 where

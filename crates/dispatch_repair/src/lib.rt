@@ -1,5 +1,5 @@
-//! What a commitment dispatches to: its schedule in order of merit, or where it gets stuck; and the commitment with the
-//! most on periods.
+//! What a commitment dispatches to: its schedule in order of merit, or where it gets stuck; the law that it has one dispatch; and the
+//! commitment with the most on periods.
 #![tactic(auto)]
 
 pub mod extreme_patterns;
@@ -7,6 +7,7 @@ pub mod fill;
 pub mod merit_order;
 pub mod most_on_commitment;
 pub mod obstacle;
+pub mod one_dispatch;
 pub mod period;
 pub mod range;
 pub mod ranges;
@@ -22,11 +23,12 @@ pub use extreme_patterns::{fewest_of, most_of};
 pub use fill::Left;
 pub use most_on_commitment::{MostFault, most_on};
 pub use obstacle::{Totals, imbalance};
-pub use period::{Start, set_initial, start_of};
+pub use one_dispatch::commitments_have_one_dispatch;
+pub use period::{Start, dispatch_after, set_initial, start_of};
 pub use range::{Range, Reach, unit_reach};
 pub use room::Room;
-pub use rows::{Rows, committed, committed_cell, cost, printed, recommit};
-pub use schedule::{DispatchFault, Obstacle, dispatch, dispatch_rows, stuck_at};
+pub use rows::{Rows, committed, committed_cell};
+pub use schedule::{DispatchFault, Obstacle, dispatch, dispatch_rows};
 pub use segment::Segment;
 pub use shortage::Shortage;
 pub use uc_model::Stuck;

@@ -89,6 +89,27 @@ pub(crate) fn dispatch_period(
     }
 }
 
+/// The same after these amounts of all sources, in watts by their places, which become those of this period.
+pub fn dispatch_after(
+    room: &mut Room,
+    instance: &Instance,
+    patterns: &[Pattern],
+    t: usize,
+    amounts: &mut [i64],
+) -> Result<Shortage, Why>
+    requires room { IsRoomOf instance.now room.old }
+    requires before { AreBeforePeriod instance.now patterns.now t amounts.old }
+    ensures room { IsRoomOf instance.now room.new }
+    ensures count { length amounts.new ≡ length amounts.old }
+    ensures dispatched { let period = next_period instance.now patterns.now t amounts.old in
+        MatchResult result (λ shortage. IsDispatchedFrom period shortage amounts.new room.new.heads.items) (IsFirstObstacle period) }
+{
+    room.amounts.copy_from_slice(amounts);
+    let shortage = dispatch_period(room, instance, patterns, t)?;
+    amounts.copy_from_slice(&room.amounts);
+    Ok(shortage)
+}
+
 /// What a period is filled from: what is missing, and what is left to give where each source gives its least.
 #[derive(Clone, Copy)]
 pub struct Start {

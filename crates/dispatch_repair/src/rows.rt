@@ -1,23 +1,19 @@
 //! The rows of a schedule while it is dispatched.
 
-ghost use Rattle.std.specs.Prelude.{◌≡◌, ℕ, ◌*◌, ◌^◌, ◌<◌, ◌≤◌, ◌-ℤ◌, All, IfOk, OnErr, length, map, slice_set, take, unsigned_abs};
-ghost use Rattle.uc_model.specs.PrintedSchedule.{cell_at, printed_cell_cost, printed_cost};
-ghost use Rattle.uc_model.specs.Schedule.{reserve_at, thermal_count, thermal_unit};
+ghost use Rattle.std.specs.Prelude.{◌≡◌, ℕ, ◌<◌, ◌≤◌, ◌-ℤ◌, All, IfOk, length, map, slice_set, take};
+ghost use Rattle.uc_model.specs.Schedule.{reserve_at, thermal_count};
 ghost use Rattle.uc_model.specs.Limits.{IsLawfulInstance, IsPower};
-ghost use Rattle.uc_model.specs.Sums.{sum_below};
-ghost use Rattle.schedule_check.specs.WholeWatts.{HasPrice};
 ghost use Rattle.dispatch_repair.specs.Dispatch.{Instance, Pattern, HasPeriods};
-ghost use Rattle.dispatch_repair.specs.Rooms.{ArePowerless, AreRowsBut, AreRowsOf, AreSameBelow, AreSameRowsBut, IsNewCell, IsPowerless, IsRoomOf, printed_of, rows_of};
+ghost use Rattle.dispatch_repair.specs.Rooms.{ArePowerless, AreRowsOf, AreSameBelow, IsNewCell, IsRoomOf, printed_of, rows_of};
 ghost use Rattle.dispatch_repair.specs.Amounts.{IsSizedEnd, IsSizedOutput, amount_at, thermal_amount};
 ghost use Rattle.dispatch_repair.specs.inside.Rows.{AreCellsWritten, AreCommittedRows, AreOutputsWritten, IsCommittedRow, IsLeft, IsPowered, IsWritten, cell_of, reserve_of, row_at, with_power};
 
 use crate::room::Room;
 use crate::shortage::Shortage;
-use schedule_check::{row_cost, shortages_cost};
 use start_costs::start_category;
 use std::alloc::Global;
-use uc_model::limits::{MAX_PERIODS, MAX_UNITS};
-use uc_model::{Cell, Instance, List, NoMemory, Pattern, Printed, Thermal, sum};
+use uc_model::limits::MAX_UNITS;
+use uc_model::{Cell, Instance, List, NoMemory, Pattern, Printed};
 
 /// For each unit a cell, or a renewable output in watts, for each period; and what is missing of demand and of reserve.
 #[derive(Drop)]
@@ -80,28 +76,6 @@ fn committed_row(
         row.push(committed_cell(instance, patterns, g, t))?;
     }
     Ok(row)
-}
-
-/// Puts unit g's row of the commitment, without any power, in the place of its former one. The only error is `NoMemory`, which leaves the
-/// rows as they were.
-pub fn recommit(
-    alloc: Global,
-    rows: &mut Rows,
-    instance: &Instance,
-    patterns: &[Pattern],
-    g: usize,
-) -> Result<(), NoMemory>
-    requires lawful { IsLawfulInstance instance.now }
-    requires patterns { length patterns.now ≡ thermal_count instance.now }
-    requires unit { g < thermal_count instance.now }
-    requires rows { AreRowsBut instance.now patterns.now g rows.old }
-    ensures committed { IfOk result (λ done. AreRowsOf instance.now patterns.now rows.new) }
-    ensures powerless { IfOk result (λ done. IsPowerless instance.now rows.new g) }
-    ensures others { IfOk result (λ done. AreSameRowsBut g rows.old rows.new) }
-    ensures err { OnErr result (rows.new ≡ rows.old) }
-{
-    rows.thermal[g] = committed_row(alloc, instance, patterns, g)?;
-    Ok(())
 }
 
 /// The cell of unit g in period t of a commitment, both from 0, without any power: a start takes the cheapest category that the history
@@ -288,38 +262,6 @@ pub fn printed(alloc: Global, rows: Rows) -> Result<Printed, NoMemory>
         short: List::from_vec(rows.short),
         denominator: 1,
     })
-}
-
-/// The printed cost of the schedule of these rows, in micro-dollars.
-pub fn cost(instance: &Instance, rows: &Rows) -> i128
-    requires lawful { IsLawfulInstance instance.now }
-    requires shape { HasPeriods instance.now instance.now.periods (printed_of rows.now) }
-    requires prices { (g t : ℕ) → g < thermal_count instance.now → t < instance.now.periods
-        → HasPrice (thermal_unit instance.now g) (cell_at (printed_of rows.now) g t) }
-    ensures { result ≡ printed_cost instance.now (printed_of rows.now) }
-{
-    sum(
-        thermal_cost(instance, rows),
-        shortages_cost(1, instance, &rows.shed, &rows.short),
-    )
-}
-
-// What the thermal units cost.
-fn thermal_cost(instance: &Instance, rows: &Rows) -> i128
-    requires lawful { IsLawfulInstance instance.now }
-    requires shape { HasPeriods instance.now instance.now.periods (printed_of rows.now) }
-    requires prices { (g t : ℕ) → g < thermal_count instance.now → t < instance.now.periods
-        → HasPrice (thermal_unit instance.now g) (cell_at (printed_of rows.now) g t) }
-    ensures value { result ≡ sum_below (thermal_count instance.now) (λ g. sum_below instance.now.periods (λ t.
-        printed_cell_cost (thermal_unit instance.now g) 1 (cell_at (printed_of rows.now) g t))) }
-    ensures size { unsigned_abs result ≤ 4096 * (168 * 2 ^ 64) }
-{
-    let units = instance.thermal.as_slice();
-    let mut total = 0;
-    for g in 0..units.len() {
-        total = sum(total, row_cost(&units[g], &rows.thermal[g]));
-    }
-    total
 }
 
 /// The schedule of the first periods.

@@ -1,6 +1,6 @@
 -- Periods of a commitment as they are filled, each from the amounts before it: from nothing, or from how the period of a
 -- commitment that differs in one unit alone was filled. This project's own.
-use Rattle.std.specs.Prelude.{◌≡◌, ◌≢◌, ℕ, suc, ◌+◌, ◌*◌, ◌<◌, ◌≤◌, List, ℤ, pos, ◌+ℤ◌, ◌-ℤ◌, ◌*ℤ◌, ◌≤ℤ◌, length, unsigned_abs, slice_set}
+use Rattle.std.specs.Prelude.{◌≡◌, ◌≢◌, ℕ, suc, ◌+◌, ◌*◌, ◌<◌, ◌≤◌, List, ℤ, pos, ◌+ℤ◌, ◌-ℤ◌, ◌*ℤ◌, ◌≤ℤ◌, IsTrue, length, unsigned_abs, slice_set}
 use Rattle.uc_model.specs.Commitment.{Commitment}
 use Rattle.uc_model.specs.Schedule.{renewable_count, thermal_count, thermal_unit}
 use Rattle.uc_model.specs.Sums.{bit, sum_below}
@@ -129,11 +129,11 @@ pub record IsReady (period : Period) (order : List Segment) (fill : Fill) : Type
   pub ranges : HaveRanges period (thermal_count period.instance)
   pub totals : AreTotalsOf period fill.totals
 
--- the period was filled from the amounts before it
+-- the period was filled from the amounts before it; where it is a base, the amounts stand at a level
 pub record IsFill (instance : Instance) (order : List Segment) (patterns : List Pattern) (t : ℕ) (before : List ℤ) (fill : Fill) : Type 0 where
   pub was : AreBeforePeriod instance patterns t before
   pub count : length fill.amounts.items ≡ source_count instance
-  pub ready : IsReady (next_period instance patterns t before) order fill
+  pub ready : IsTrue fill.is_base → IsReady (next_period instance patterns t before) order fill
   pub dispatched : (numbers : List ℤ) → AreHeadsOf (next_period instance patterns t before) numbers
       → IsDispatchedFrom (next_period instance patterns t before) fill.shortage fill.amounts.items numbers
 

@@ -1,7 +1,7 @@
 -- Runs of commitments: the first periods, each filled from the one before, and what the thermal units cost. This project's own.
 --
 -- Units and periods count from 0 here.
-use Rattle.std.specs.Prelude.{◌≡◌, ◌⊎◌, ℕ, Some, IfSome, zero, suc, ◌*◌, ◌^◌, ◌<◌, ◌≤◌, List, [], ℤ, pos, length, map, slice_index_or, slice_set, unsigned_abs}
+use Rattle.std.specs.Prelude.{◌≡◌, ◌⊎◌, ℕ, Bool, true, false, None, Some, IfSome, zero, suc, ◌*◌, ◌^◌, ◌<◌, ◌≤◌, List, [], ℤ, pos, IsTrue, length, map, slice_index_or, slice_set, unsigned_abs}
 use Rattle.uc_model.specs.Commitment.{initial_p}
 use Rattle.uc_model.specs.Limits.{IsLawfulInstance}
 use Rattle.uc_model.specs.PrintedSchedule.{cell_at, printed_cell_cost, shed_at, short_at}
@@ -11,6 +11,7 @@ pub use Rattle.uc_model.specs.declared.schedule.Cell.{Cell}
 use Rattle.schedule_check.specs.WholeWatts.{cell}
 use Rattle.dispatch_repair.specs.Amounts.{next_period, thermal_amount}
 use Rattle.dispatch_repair.specs.Dispatch.{IsCommittedCell}
+use Rattle.dispatch_repair.specs.Rooms.{IsRoomOf}
 use Rattle.dispatch_repair.specs.Segments.{source_count}
 use Rattle.dispatch_repair.specs.declared.segment.Segment.{Segment}
 use Rattle.dispatch_repair.specs.Stuck.{Why, IsDispatchOf, IsFirstObstacle}
@@ -92,7 +93,17 @@ IsFillingOf instance order patterns t before fill filling.Bound = Unit {0}
 abbrev pub IsReach : Instance → List Pattern → List ℤ → List Fill → Reach → Type 0
 IsReach instance patterns start fills reach.Through = length fills ≡ instance.periods
 IsReach instance patterns start fills (reach.Stuck t) = IsBarred instance patterns start fills t
-IsReach instance patterns start fills reach.Bound = Unit {0}
+
+-- one period more is filled, or the one after the last can't be
+abbrev pub IsNext : Instance → List Pattern → List ℤ → List Fill → List Fill → Bool → Type 0
+IsNext instance patterns start old new true = length new ≡ suc (length old)
+IsNext instance patterns start old new false = IsBarred instance patterns start new (length old)
+
+-- where one more is filled there is no fill behind the last one; else there may be one, which all units entered
+abbrev pub IsEdge : Instance → List Segment → List Pattern → List ℤ → Run → Bool → Type 0
+IsEdge instance order patterns start run true = run.edge ≡ None
+IsEdge instance order patterns start run false = IfSome run.edge
+    (HasEntered instance order patterns (length run.fills.items) (outputs_before start run.fills.items (length run.fills.items)))
 
 -- in whole watts the same is missing in each period
 pub record LacksSo (instance : Instance) (fills : List Fill) (printed : Printed) : Type 0 where
@@ -158,11 +169,12 @@ pub record IsRun (instance : Instance) (order : List Segment) (patterns : List P
   pub fills : AreFills instance order patterns start run.fills.items
   pub edge : IfSome run.edge (HasEntered instance order patterns (length run.fills.items) (outputs_before start run.fills.items (length run.fills.items)))
   pub known : AreKnown instance patterns run
+  pub room : IsRoomOf instance run.room
 
--- its fill of period t, which was filled, or which all units entered
+-- its fill of period t, which was filled and is a base, or which all units entered
 abbrev pub IsStoodAt : Run → ℕ → Fill → Type 0
 IsStoodAt run t fill =
-    ((t < length run.fills.items) × (fill ≡ slice_index_or run.fills.items t fill)) ⊎ ((t ≡ length run.fills.items) × (run.edge ≡ Some fill))
+    ((t < length run.fills.items) × (fill ≡ slice_index_or run.fills.items t fill) × IsTrue fill.is_base) ⊎ ((t ≡ length run.fills.items) × (run.edge ≡ Some fill))
 
 -- the run of the commitment in which unit g has the pattern that stood
 pub record IsOrigin (instance : Instance) (order : List Segment) (patterns : List Pattern) (start : List ℤ) (base : Run) (g : ℕ) (stood : Pattern) : Type 0 where
@@ -193,6 +205,7 @@ pub record IsKeptRun (instance : Instance) (order : List Segment) (start : List 
 pub record IsRunPass (instance : Instance) (order : List Segment) (start : List ℤ) (n : ℕ) (pass : Pass) : Type 0 where
   pub kept : IsKeptRun instance order start n pass.patterns.items pass.best pass.stand
   pub costs : length pass.tried.costs.items ≡ thermal_count instance
+  pub room : IsRoomOf instance pass.tried.room
 
 -- a unit was tried with its pattern of the fewest on periods in the place of the one that stood
 pub record IsTriedRun (instance : Instance) (order : List Segment) (start : List ℤ) (turn : Turn) (pass : Pass) : Type 0 where

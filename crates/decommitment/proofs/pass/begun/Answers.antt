@@ -15,5 +15,5 @@ pub attempt-requires-clause-origin : goal.attempt-requires-clause-origin
 attempt-requires-clause-origin c = record {
   unit = λ t fill at. absurd (nothing_stood c.in_ok-tried.tried t fill c.in_ok-tried.ensures.fills c.in_ok-tried.ensures.edge at);
   run = no_run_is (instance_of c.args.setting.now) (order_of c.args.setting.now) _ c.args.setting.now.start.now c.in_ok-tried.tried c.requires.setting.lawful
-      c.in_ok-tried.ensures.fills c.in_ok-tried.ensures.edge c.in_ok-tried.ensures.costs;
+      c.in_ok-tried.ensures.fills c.in_ok-tried.ensures.edge c.in_ok-tried.ensures.costs c.in_ok-tried.ensures.room;
 }

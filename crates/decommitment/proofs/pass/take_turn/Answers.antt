@@ -25,6 +25,7 @@ returns-then-eq c =
         most_on = kept.most_on;
       };
       costs = c.requires.passed.costs;
+      room = c.requires.passed.room;
     }
 
 pub attempt-requires-clause-allowed : goal.attempt-requires-clause-allowed

@@ -1,5 +1,5 @@
 -- A commitment that is stuck isn't dispatched.
-use Rattle.decommitment.proofs.OneDispatch.{never_both}
+use Rattle.dispatch_repair.proofs.OneDispatch.{never_both}
 use Rattle.decommitment.proofs.pass.where_stuck.Goals as goal
 
 pub unreachable-requires : goal.unreachable-requires

@@ -1,7 +1,7 @@
 -- A commitment that is dispatched isn't stuck.
 use Rattle.std.proofs.Common.{subst}
 use Rattle.dispatch_repair.specs.Stuck.{IsDispatchFault}
-use Rattle.decommitment.proofs.OneDispatch.{never_both}
+use Rattle.dispatch_repair.proofs.OneDispatch.{never_both}
 use Rattle.decommitment.proofs.pass.whole.Goals as goal
 
 pub unreachable-requires : goal.unreachable-requires

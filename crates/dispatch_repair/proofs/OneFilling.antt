@@ -15,8 +15,8 @@ use Rattle.cost_curves.proofs.UnitPoints.{lawful_points}
 use Rattle.dispatch_repair.specs.Period.{Period, Source, FromRenewable, FromThermal, IsSourceOf, low_of, high_of, is_off_next, thermal_sum, thermal_limit}
 use Rattle.dispatch_repair.specs.MeritOrder.{ComesBefore, HasLastSlope, HasNextSlope, IsInMeritOrder, IsPreferred, thermal_part}
 use Rattle.dispatch_repair.proofs.Filled.{max_left}
-use Rattle.decommitment.proofs.SourceSlopes.{left-there, right-there, right-le-left}
-use Rattle.decommitment.proofs.LesserSums.{lesser_term, none_above, same_terms}
+use Rattle.dispatch_repair.proofs.SourceSlopes.{left-there, right-there, right-le-left}
+use Rattle.dispatch_repair.proofs.LesserSums.{lesser_term, none_above, same_terms}
 
 -- a unit's range lies on its curve
 high-le-width : (period : Period) (g : ℕ) → high_of period (FromThermal g) ≤ℤ width_of (thermal_unit period.instance g).points

@@ -2,9 +2,9 @@
 use Rattle.std.proofs.Common.{List, ◌⊎◌, inl, inr}
 use Rattle.dispatch_repair.specs.Stuck.{IsDispatchOf, IsStuckOf}
 use Rattle.dispatch_repair.proofs.Endings.{IsEnded, dispatched, stuck, ended}
-use Rattle.decommitment.specs.OneDispatch.{Instance, Pattern, Printed, Stuck}
-use Rattle.decommitment.proofs.OneDispatch.{never_both, one_dispatch, one_period_stuck}
-use Rattle.decommitment.proofs.one_dispatch.commitments_have_one_dispatch.Goals as goal
+use Rattle.dispatch_repair.specs.OneDispatch.{Instance, Pattern, Printed, Stuck}
+use Rattle.dispatch_repair.proofs.OneDispatch.{never_both, one_dispatch, one_period_stuck}
+use Rattle.dispatch_repair.proofs.one_dispatch.commitments_have_one_dispatch.Goals as goal
 
 pub returns-clause-same : goal.returns-clause-same
 returns-clause-same c = one_dispatch

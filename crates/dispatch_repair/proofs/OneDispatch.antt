@@ -25,8 +25,8 @@ use Rattle.dispatch_repair.specs.Stuck.{IsFirstObstacle, IsRegular, IsStuckBy, s
 use Rattle.dispatch_repair.specs.Shortage.{greatest_room, served, shed_of, short_of}
 use Rattle.dispatch_repair.proofs.Filled.{max_left}
 use Rattle.dispatch_repair.proofs.Shortages.{price_cases, shed_nonneg, shed_none, short_none}
-use Rattle.decommitment.specs.OneDispatch.{Instance, Pattern, Printed, Stuck, DispatchesAreSame, NeverBoth, StuckPeriodsAreSame}
-use Rattle.decommitment.proofs.OneFilling.{one_filling}
+use Rattle.dispatch_repair.specs.OneDispatch.{Instance, Pattern, Printed, Stuck, DispatchesAreSame, NeverBoth, StuckPeriodsAreSame}
+use Rattle.dispatch_repair.proofs.OneFilling.{one_filling}
 
 -- ---- one cell
 -- the cheapest category is one
