@@ -1,4 +1,4 @@
-//! Tests of the numbers and values of the model, and of units that are drawn, beside all their patterns.
+//! Tests of the numbers and values of the model, of convex functions, and of units that are drawn, beside all their patterns.
 #![tactic(auto)]
 
 #[cfg(test)]
@@ -9,6 +9,8 @@ mod drawn;
 mod draws;
 #[cfg(test)]
 mod enumeration;
+#[cfg(test)]
+mod functions;
 #[cfg(test)]
 mod numbers;
 #[cfg(test)]

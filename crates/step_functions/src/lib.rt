@@ -7,8 +7,6 @@ mod edits;
 mod function;
 pub mod limits;
 mod runs;
-#[cfg(test)]
-mod tests;
 
 pub use function::{Bottom, ConvexFunction};
 pub use runs::Run;

@@ -3,7 +3,7 @@ use Rattle.std.proofs.Common.{◌≡◌, ap, ◌∙◌, arith, pos, negsuc, ◌+
 use Rattle.std.proofs.lemmas.Int.{ints}
 use Rattle.step_functions.specs.Functions.{Steps, last_place, value_at}
 use Rattle.step_functions.proofs.Extended.{alone-size, continued-size}
-use Rattle.step_functions.proofs.tests.bent.Goals as goal
+use Rattle.model_tests.proofs.functions.bent.Goals as goal
 
 pub returns-clause-small : goal.returns-clause-small
 returns-clause-small c =

@@ -1,12 +1,12 @@
-//! Each call once, at a function that is computed by hand.
+//! Convex functions on whole intervals: each call once, at a function that is computed by hand.
 
 ghost use Rattle.std.specs.Prelude.{◌≡◌, ℤ, ◌+◌, ◌≤◌, ◌+ℤ◌, pos, negsuc, length, IfOk, unsigned_abs};
 ghost use Rattle.step_functions.specs.Functions.{IsPlace, last_place, run_count, value_at};
 
-use crate::ConvexFunction;
 use std::alloc::Global;
 use std::process::Abort;
 use std::test::Fail;
+use step_functions::ConvexFunction;
 use uc_model::NoMemory;
 
 // It falls by 2 from the place -2 to 0 and rises by 1 up to 3: its values are 4, 2, 0, 1, 2, 3.
