@@ -3,12 +3,13 @@
 
     python3 bench/gate.py            # at the top of the repository, with `rt` on the path; what rt says goes to gate.log
     python3 bench/gate.py --anew     # from nothing, where earlier runs on this machine have kept what they passed
-    python3 bench/gate.py --write    # the table goes into docs/PERFORMANCE.md where the gate passed
+    python3 bench/gate.py --write    # where the gate passed the table goes into docs/PERFORMANCE.md, and what each proof takes into ./uc
     python3 bench/gate.py NAME ..    # these crates alone, with those below them
     taskset -c 0,1 python3 bench/gate.py --anew    # by the clock of two processors
 
 What a run didn't prove or try, since an earlier one has kept it, keeps the minutes that the page has. So one run from nothing, or some
-runs of crates by name on a new machine and a last one of all, make the whole table.
+runs of crates by name on a new machine and a last one of all, make the whole table. Below it stand the kit, the processors, the load when
+the run began, and the longest chain of proofs, each of which waits for the one before, up to the program `uc`.
 
 Five times a second it looks at the processes below `rt ci` and keeps the processor time of each. The words of a check name its
 crate and say whether it is one of tests, and an edit is checked in a folder of its own. What is left of the whole time, as linking
@@ -20,6 +21,7 @@ import re
 import resource
 import subprocess
 import sys
+import textwrap
 import time
 
 PHASES = ("proof", "tests", "edits")
@@ -112,6 +114,39 @@ def crates(top):
     return [it[0] for it in rows if it]
 
 
+def libraries(top):
+    """The libraries of each crate, as crates.txt has them; those of the kit are left out."""
+    rows = (it.partition("#")[0].partition(":") for it in (top / "crates.txt").read_text().splitlines())
+    found = {name.split()[0]: used.split() for name, _, used in rows if name.split()}
+    return {name: [it for it in used if it in found] for name, used in found.items()}
+
+
+def longest_chain(name, uses, proofs, known):
+    """The seconds of the longest chain of proofs that ends with the crate, and its crates."""
+    if name not in known:
+        below = max((longest_chain(it, uses, proofs, known) for it in uses[name]), default=(0, []))
+        known[name] = below[0] + proofs.get(name, 0), [*below[1], name]
+    return known[name]
+
+
+def needed(name, uses):
+    """The crate and all that it stands on."""
+    found, left = set(), [name]
+    while left:
+        it = left.pop()
+        if it not in found:
+            found.add(it)
+            left += uses[it]
+    return found
+
+
+def with_weights(script, names, proofs):
+    """The text of `./uc` with the seconds of these crates' proofs, by which it foretells when all is proved."""
+    words = " ".join(f"{it} {max(1, round(proofs[it]))}" for it in names if it in proofs)
+    lines = textwrap.wrap(words, 116, initial_indent="weights='", subsequent_indent="  ", break_on_hyphens=False)
+    return re.sub(r"(?ms)^weights='.*?'$", lambda _: "\n".join(lines) + "'", script)
+
+
 def row(name, numbers):
     return f"| {name} | " + " | ".join("" if it is None else f"{it / 60:.1f}" for it in numbers) + " |\n"
 
@@ -132,7 +167,6 @@ def told(page):
 
 def as_text(names, table, rest):
     text = "| Crate | Proof | Tests | Edits | Sum |\n|---|---|---|---|---|\n"
-    table = {of: it for of, it in table.items() if of[0] in names}
     for name in names:
         spent = [table.get((name, phase)) for phase in PHASES]
         text += row(name, [*spent, sum(it or 0 for it in spent)])
@@ -141,20 +175,49 @@ def as_text(names, table, rest):
     return text + row("sum", [*phases, sum(table.values()) + rest])
 
 
+def conditions(load, clock, new, table):
+    """The kit, the day, the processors, the load before the run, its minutes by the clock, and how much of the table is of it."""
+    kit = subprocess.run(["rt", "version"], capture_output=True, text=True).stdout.split()
+    rows = "" if new == table else f"; {new} of {table} numbers are of this run, the others of runs before"
+    day = time.strftime("%-d %B %Y", time.gmtime())
+    return f"`{kit[0]}`, {day}, {len(os.sched_getaffinity(0))} processors, load {load:.1f} before it, {clock / 60:.0f} minutes by the clock{rows}."
+
+
+def chain_text(top, table):
+    proofs, uses = {name: it for (name, phase), it in table.items() if phase == "proof"}, libraries(top)
+    seconds, chain = longest_chain("uc", uses, proofs, {})
+    built = sum(proofs.get(it, 0) for it in needed("uc", uses))
+    return (
+        f"The longest chain of proofs takes {seconds / 60:.1f} minutes: {', '.join(f'`{it}`' for it in chain)}. "
+        f"What `./uc` proves at its first build takes {built / 60:.0f} processor minutes."
+    )
+
+
+def written(top, table, text):
+    """Puts the text into the page, and the seconds of the proofs into `./uc`."""
+    page, launcher = top / "docs" / "PERFORMANCE.md", top / "uc"
+    block = re.compile(f"{re.escape(BEGIN)}.*{re.escape(END)}", re.S)
+    page.write_text(block.sub(lambda _: BEGIN + text + END, page.read_text()))
+    proofs, behind = {name: it for (name, phase), it in table.items() if phase == "proof"}, needed("uc", libraries(top))
+    launcher.write_text(with_weights(launcher.read_text(), [it for it in crates(top) if it in behind], proofs))
+
+
 def main():
     top, words = pathlib.Path.cwd(), sys.argv[1:]
-    page = top / "docs" / "PERFORMANCE.md"
-    given = [it for it in words if it == "--anew" or not it.startswith("--")]
+    given, load = [it for it in words if it == "--anew" or not it.startswith("--")], os.getloadavg()[0]
     status, new, whole, clock, memory = measured(["rt", "ci", *given], top / "gate.log")
-    table, rest = told(page)
+    table, rest = told(top / "docs" / "PERFORMANCE.md")
     kept = {of: it for of, it in table.items() if of[1] != "edits" or (top / "crates" / of[0] / "must-fail").is_dir()}
-    text = as_text(crates(top), kept | new, max(rest, whole - sum(new.values())))
+    names = crates(top)
+    table = {of: it for of, it in (kept | new).items() if of[0] in names}
+    notes = [conditions(load, clock, len(new), len(table)), chain_text(top, table)]
+    text = as_text(names, table, max(rest, whole - sum(new.values())))
+    text += "".join("\n" + textwrap.fill(it, 116, break_on_hyphens=False) + "\n" for it in notes)
     print(text, end="")
-    print(f"this run: {whole / 60:.0f} processor minutes, {clock / 60:.0f} by the clock of {len(os.sched_getaffinity(0))}; {memory / 1e9:.1f} GB")
+    print(f"this run: {whole / 60:.0f} processor minutes; {memory / 1e9:.1f} GB")
     print(f"rt ci ended with status {status}: {(top / 'gate.log').read_text().splitlines()[-1]}")
     if "--write" in words and status == 0:
-        block = re.compile(f"{re.escape(BEGIN)}.*{re.escape(END)}", re.S)
-        page.write_text(block.sub(lambda _: BEGIN + text + END, page.read_text()))
+        written(top, table, text)
     return status
 
 
