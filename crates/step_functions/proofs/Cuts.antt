@@ -18,8 +18,14 @@ use Rattle.step_functions.proofs.Values.{IsMadeOf, made-in_place, kept-made, val
 abbrev pub nothing : ℤ → ℤ
 nothing p = pos 0
 
-pub values-same : (f g : Steps) (a : ℕ) → IsMadeOf f g a nothing → (p : ℤ) → IsPlace g p → value_at g p ≡ value_at f p
+values-same : (f g : Steps) (a : ℕ) → IsMadeOf f g a nothing → (p : ℤ) → IsPlace g p → value_at g p ≡ value_at f p
 values-same f g a made p place = values-made f g a nothing made p place ∙ add-zero (value_at f p)
+
+-- of the value behind the fields, and of what is written
+pub told-same : (f g old new : Steps) (a : ℕ) → f ≡ old → new ≡ g → IsMadeOf f g a nothing → (p : ℤ) → IsPlace new p → value_at new p ≡ value_at old p
+told-same f g old new a same written made =
+    subst (λ (h : Steps). (p : ℤ) → IsPlace h p → value_at h p ≡ value_at old p) (sym written)
+    (subst (λ (h : Steps). (p : ℤ) → IsPlace g p → value_at g p ≡ value_at h p) same (values-same f g a made))
 
 kept-value : (f : Steps) → IsKept f → (p : ℤ) → IsPlace f p → IsSmall (value_at f p +ℤ pos 0)
 kept-value f kept p place =

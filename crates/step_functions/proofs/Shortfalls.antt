@@ -117,19 +117,18 @@ price-small value price short some sign own reached =
     let least = mul-le-mul_left price (pos 1) (pos short) sign (omega (arith, linear)) in
     omega (arith, ints)
 
--- the numbers of the first value, as their bits or not
-pub begun : (value price watts v p : ℤ) (short : ℕ) → v ≡ value → p ≡ price → watts ≡ pos short → v +ℤ p *ℤ watts ≡ value +ℤ price *ℤ pos short
-begun value price watts v p short a b c = λ t. a t +ℤ b t *ℤ c t
-
 -- ---- what is computed, as its bits say it
 abbrev pub watts_to : ℤ → ℤ → ℤ
 watts_to place first = to_z w64 (of_z w64 (to_z w64 (of_z w64 place) -ℤ to_z w64 (of_z w64 first)))
 
+abbrev pub watts_short : ℤ → ℤ → ℕ
+watts_short place first = unsigned_abs (watts_to place first)
+
 -- a place behind the first one lies so many watts behind it
 pub record IsShort (place first : ℤ) : Type 0 where
-  pub at : place ≡ first +ℤ pos (unsigned_abs (watts_to place first))
-  pub is : watts_to place first ≡ pos (unsigned_abs (watts_to place first))
-  pub some : 1 ≤ unsigned_abs (watts_to place first)
+  pub at : place ≡ first +ℤ pos (watts_short place first)
+  pub is : watts_to place first ≡ pos (watts_short place first)
+  pub some : 1 ≤ watts_short place first
 
 -- the parts of a difference above 0
 parts : (place first watts : ℤ) → first <ℤ place → watts ≡ place -ℤ first

@@ -69,6 +69,18 @@ value_at-first f =
 pub small-first : (f : Steps) (more : ℤ → ℤ) → ((p : ℤ) → IsPlace f p → IsSmall (value_at f p +ℤ more p)) → IsSmall (f.value +ℤ more f.first)
 small-first f more small = subst (λ x. IsSmall (x +ℤ more f.first)) (value_at-first f) (small f.first (is_place-first f))
 
+-- ---- at what contracts see of a function
+-- what the caller owes, of the value behind the fields
+pub owed : (f old : Steps) (more : ℤ → ℤ) → f ≡ old → ((p : ℤ) → IsPlace old p → IsSmall (value_at old p +ℤ more p)) → (p : ℤ) → IsPlace f p → IsSmall (value_at f p +ℤ more p)
+owed f old more same small = subst (λ (f : Steps). (p : ℤ) → IsPlace f p → IsSmall (value_at f p +ℤ more p)) (sym same) small
+
+pub owed-first : (f old : Steps) (more : ℤ → ℤ) → f ≡ old → ((p : ℤ) → IsPlace old p → IsSmall (value_at old p +ℤ more p)) → IsSmall (f.value +ℤ more f.first)
+owed-first f old more same small = small-first f more (owed f old more same small)
+
+-- and what it is told
+pub told : (f g old : Steps) (a : ℕ) (more : ℤ → ℤ) → f ≡ old → IsMadeOf f g a more → (p : ℤ) → IsPlace g p → value_at g p ≡ value_at old p +ℤ more p
+told f g old a more same made = subst (λ (old : Steps). (p : ℤ) → IsPlace g p → value_at g p ≡ value_at old p +ℤ more p) same (values-made f g a more made)
+
 -- ---- what keeps to the limits
 pub made-in_place : (f g : Steps) (more : ℤ → ℤ) → g.first ≡ f.first → steps_of g.runs ≤ steps_of f.runs
     → ((k : ℕ) → k ≤ steps_of g.runs → height g.value g.runs k ≡ height f.value f.runs k +ℤ more (g.first +ℤ pos k))

@@ -1,21 +1,18 @@
 -- The other's steps are added from the one on with which this one begins.
-use Rattle.std.proofs.Common.{◌≡◌, ℕ, ◌+◌, ◌≤◌, List, sym, ap, subst, ◌∙◌, arith, lit<, ℤ, pos, ◌+ℤ◌, ◌≤ℤ◌, unsigned_abs, to_z, of_z, vec_capacity}
+use Rattle.std.proofs.Common.{◌≡◌, ℕ, ◌+◌, ◌≤◌, sym, ap, subst, ◌∙◌, arith, lit<, ℤ, pos, ◌+ℤ◌, ◌≤ℤ◌, unsigned_abs, to_z, of_z, vec_capacity}
 use Rattle.std.specs.Int.{w64, w128}
 use Rattle.std.proofs.lemmas.Int.{fits_signed_from_abs, ints}
 use Rattle.uc_model.proofs.Sizes.{abs_add, narrow, wide, wide-size}
 use Rattle.step_functions.specs.contracts.function.ConvexFunction.{the_view}
-use Rattle.step_functions.specs.Runs.{Run, steps_of}
+use Rattle.step_functions.specs.Runs.{steps_of}
 use Rattle.step_functions.specs.Functions.{Steps, IsPlace, IsSmall, IsWithin, MAX_PLACE, MAX_VALUE, last_place, value_at}
 use Rattle.step_functions.specs.inside.Edits.{AreAdded}
-use Rattle.step_functions.specs.inside.Kept.{height, HaveSteps, HaveSmallSlopes, IsKept}
-use Rattle.step_functions.proofs.Values.{values-made, small-own, value_at-place}
+use Rattle.step_functions.specs.inside.Kept.{height, HaveSteps, HaveSmallSlopes}
+use Rattle.step_functions.proofs.Values.{owed, small-own, told, value_at-place}
 use Rattle.step_functions.proofs.Changes.{kept-slopes}
 use Rattle.step_functions.proofs.Cuts.{IsAddedOn, sum-made, sum-kept}
 use Rattle.step_functions.proofs.function.ConvexFunction.add_within.Goals as goal
-
--- what the caller owes, of the value behind the fields
-owed : (other f g : Steps) → f ≡ g → ((p : ℤ) → IsPlace g p → IsSmall (value_at g p +ℤ value_at other p)) → (p : ℤ) → IsPlace f p → IsSmall (value_at f p +ℤ value_at other p)
-owed other f g same h = subst (λ (f : Steps). (p : ℤ) → IsPlace f p → IsSmall (value_at f p +ℤ value_at other p)) (sym same) h
+use Rattle.step_functions.proofs.function.ConvexFunction.add_within.Goals.{After-add_runs}
 
 -- the place where it begins, and the steps of the other behind it
 first-is : (first other_first : ℤ) (skipped : ℕ) → IsWithin first → to_z w64 (of_z w64 first) ≡ other_first +ℤ pos skipped → first ≡ other_first +ℤ pos skipped
@@ -23,6 +20,10 @@ first-is first other_first skipped within at = sym (narrow first MAX_PLACE withi
 
 steps-left : (f other : Steps) (skipped : ℕ) → f.first ≡ other.first +ℤ pos skipped → last_place f ≤ℤ last_place other → skipped + steps_of f.runs ≤ steps_of other.runs
 steps-left f other skipped first before = omega (arith, ints)
+
+-- the ends of the values behind the fields
+ends : (f other own their : Steps) → f ≡ own → other ≡ their → last_place own ≤ℤ last_place their → last_place f ≤ℤ last_place other
+ends f other own their same same_other before = subst (λ (h : Steps). last_place f ≤ℤ last_place h) (sym same_other) (subst (λ (h : Steps). last_place h ≤ℤ last_place their) (sym same) before)
 
 -- the sum of two small values
 sum-small : (value reached : ℤ) → IsSmall value → IsSmall reached → unsigned_abs (to_z w128 (of_z w128 value) +ℤ to_z w128 (of_z w128 reached)) ≤ MAX_VALUE + MAX_VALUE
@@ -35,15 +36,23 @@ sum-written value reached own other =
     wide (to_z w128 (of_z w128 value) +ℤ to_z w128 (of_z w128 reached)) (MAX_VALUE + MAX_VALUE) (sum-small value reached own other) (lit< tt)
     ∙ (λ i. wide value MAX_VALUE own (lit< tt) i +ℤ wide reached MAX_VALUE other (lit< tt) i)
 
-added-on : (f other : Steps) (xs runs : List Run) (skipped : ℕ) (reached : ℤ) → IsKept f → f.first ≡ other.first +ℤ pos skipped → last_place f ≤ℤ last_place other
-    → reached ≡ height other.value other.runs skipped → IsSmall reached → xs ≡ other.runs → AreAdded f.runs xs runs skipped
-    → IsAddedOn f other runs skipped (to_z w128 (of_z w128 (to_z w128 (of_z w128 f.value) +ℤ to_z w128 (of_z w128 reached))))
-added-on f other xs runs skipped reached kept first before is small same added = record {
-  first = first;
-  within = steps-left f other skipped first before;
-  value = sum-written f.value reached (small-own f kept) small ∙ ap (λ x. f.value +ℤ x) (is ∙ sym (value_at-place other f.first skipped first));
-  added = subst (λ ys. AreAdded f.runs ys runs skipped) same added;
-}
+-- the sum, by what the calls answer
+added : (c : After-add_runs)
+    → IsAddedOn (the_view c.self.inside) (the_view c.other.inside) c.add_runs.new.runs.items c.steps_to-skipped.result
+    (to_z w128 (of_z w128 (to_z w128 (of_z w128 c.self.inside.value) +ℤ to_z w128 (of_z w128 c.height.result))))
+added c =
+    let f = the_view c.self.inside in
+    let other = the_view c.other.inside in
+    let skipped = c.steps_to-skipped.result in
+    let first = first-is f.first other.first skipped c.self.invariant.first (c.steps_to-skipped.ensures.value ∙ ap (λ (h : Steps). h.first +ℤ pos skipped) (sym c.other.view_is)) in
+    record {
+      first = first;
+      within = steps-left f other skipped first (ends f other c.args.self.now c.args.other.now c.self.view_is c.other.view_is c.requires.before);
+      value = sum-written f.value c.height.result (small-own f c.self.invariant) c.height.ensures.small
+          ∙ ap (λ x. f.value +ℤ x)
+          (c.height.ensures.value ∙ ap (λ (h : Steps). height h.value h.runs skipped) (sym c.other.view_is) ∙ sym (value_at-place other f.first skipped first));
+      added = subst (λ ys. AreAdded f.runs ys c.add_runs.new.runs.items skipped) c.deref.ensures.value c.add_runs.ensures.added;
+    }
 
 pub overflow_add-self : goal.overflow_add-self
 overflow_add-self c =
@@ -55,11 +64,10 @@ add_runs-requires-clause-within c =
     let f = the_view c.self.inside in
     let other = the_view c.other.inside in
     let skipped = c.steps_to-skipped.result in
-    let first = first-is c.self.inside.first c.other.inside.first skipped c.self.invariant.first
-    (c.steps_to-skipped.ensures.value ∙ ap (λ (h : Steps). h.first +ℤ pos skipped) (sym c.other.view_is)) in
-    let before = subst (λ (h : Steps). last_place f ≤ℤ last_place h) (sym c.other.view_is)
-    (subst (λ (h : Steps). last_place h ≤ℤ last_place c.args.other.now) (sym c.self.view_is) c.requires.before) in
-    subst (λ xs. skipped + steps_of f.runs ≤ steps_of xs) (sym c.deref.ensures.value) (steps-left f other skipped first before)
+    subst (λ xs. skipped + steps_of f.runs ≤ steps_of xs) (sym c.deref.ensures.value)
+    (steps-left f other skipped
+    (first-is f.first other.first skipped c.self.invariant.first (c.steps_to-skipped.ensures.value ∙ ap (λ (h : Steps). h.first +ℤ pos skipped) (sym c.other.view_is)))
+    (ends f other c.args.self.now c.args.other.now c.self.view_is c.other.view_is c.requires.before))
 
 pub add_runs-requires-clause-other_lengths : goal.add_runs-requires-clause-other_lengths
 add_runs-requires-clause-other_lengths c = subst HaveSteps (sym c.deref.ensures.value) c.other.invariant.steps
@@ -74,18 +82,11 @@ pub invariant_of-self : goal.invariant_of-self
 invariant_of-self c =
     let f = the_view c.self.inside in
     let other = the_view c.other.inside in
-    let skipped = c.steps_to-skipped.result in
-    let first = first-is c.self.inside.first c.other.inside.first skipped c.self.invariant.first
-    (c.steps_to-skipped.ensures.value ∙ ap (λ (h : Steps). h.first +ℤ pos skipped) (sym c.other.view_is)) in
-    let before = subst (λ (h : Steps). last_place f ≤ℤ last_place h) (sym c.other.view_is)
-    (subst (λ (h : Steps). last_place h ≤ℤ last_place c.args.other.now) (sym c.self.view_is) c.requires.before) in
     let new = c.add_runs.new.runs in
-    let is = added-on f other c.deref.result.now new.items skipped c.height.result c.self.invariant first before
-    (c.height.ensures.value ∙ ap (λ (h : Steps). height h.value h.runs skipped) (sym c.other.view_is)) c.height.ensures.small c.deref.ensures.value c.add_runs.ensures.added in
-    let v = to_z w128 (of_z w128 (to_z w128 (of_z w128 c.self.inside.value) +ℤ to_z w128 (of_z w128 c.height.result))) in
-    let small = owed other f c.args.self.now c.self.view_is
-    (subst (λ (h : Steps). (p : ℤ) → IsPlace c.args.self.now p → IsSmall (value_at c.args.self.now p +ℤ value_at h p)) (sym c.other.view_is) c.requires.size) in
-    sum-kept f other new.items skipped v (vec_capacity new) is c.self.invariant c.other.invariant.rising c.add_runs.ensures.lengths small
+    sum-kept f other new.items c.steps_to-skipped.result _ (vec_capacity new) (added (goal.at.invariant_of-self c).After-add_runs) c.self.invariant c.other.invariant.rising
+    c.add_runs.ensures.lengths
+    (owed f c.args.self.now (value_at other) c.self.view_is
+    (subst (λ (h : Steps). (p : ℤ) → IsPlace c.args.self.now p → IsSmall (value_at c.args.self.now p +ℤ value_at h p)) (sym c.other.view_is) c.requires.size))
 
 pub returns-clause-last : goal.returns-clause-last
 returns-clause-last c =
@@ -94,17 +95,9 @@ returns-clause-last c =
 pub returns-clause-value : goal.returns-clause-value
 returns-clause-value c =
     let f = the_view c.self.inside in
-    let other = the_view c.other.inside in
-    let skipped = c.steps_to-skipped.result in
-    let first = first-is c.self.inside.first c.other.inside.first skipped c.self.invariant.first
-    (c.steps_to-skipped.ensures.value ∙ ap (λ (h : Steps). h.first +ℤ pos skipped) (sym c.other.view_is)) in
-    let before = subst (λ (h : Steps). last_place f ≤ℤ last_place h) (sym c.other.view_is)
-    (subst (λ (h : Steps). last_place h ≤ℤ last_place c.args.other.now) (sym c.self.view_is) c.requires.before) in
     let new = c.add_runs.new.runs in
-    let is = added-on f other c.deref.result.now new.items skipped c.height.result c.self.invariant first before
-    (c.height.ensures.value ∙ ap (λ (h : Steps). height h.value h.runs skipped) (sym c.other.view_is)) c.height.ensures.small c.deref.ensures.value c.add_runs.ensures.added in
     let v = to_z w128 (of_z w128 (to_z w128 (of_z w128 c.self.inside.value) +ℤ to_z w128 (of_z w128 c.height.result))) in
     let g : Steps = record f { value = v; runs = new.items; room = vec_capacity new } in
     subst (λ (h : Steps). (p : ℤ) → IsPlace g p → value_at g p ≡ value_at c.args.self.now p +ℤ value_at h p) c.other.view_is
-    (subst (λ (h : Steps). (p : ℤ) → IsPlace g p → value_at g p ≡ value_at h p +ℤ value_at other p) c.self.view_is
-    (values-made f g 0 (value_at other) (sum-made f other new.items skipped v (vec_capacity new) is)))
+    (told f g c.args.self.now 0 (value_at (the_view c.other.inside)) c.self.view_is
+    (sum-made f (the_view c.other.inside) new.items c.steps_to-skipped.result v (vec_capacity new) (added (goal.at.returns-clause-value c).After-add_runs)))

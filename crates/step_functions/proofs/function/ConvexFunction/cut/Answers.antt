@@ -7,6 +7,7 @@ use Rattle.std.proofs.lemmas.Int.{ints, clamps}
 use Rattle.uc_model.proofs.Sizes.{narrow}
 use Rattle.step_functions.specs.Functions.{IsPlace, IsWithin, MAX_PLACE, last_place}
 use Rattle.step_functions.proofs.function.ConvexFunction.cut.Goals as goal
+use Rattle.step_functions.proofs.function.ConvexFunction.cut.Goals.{After-last-last, After-max, After-min}
 use Rattle.step_functions.proofs.function.ConvexFunction.cut.Goals.{then-high-low-via-then-high-low, then-high-low-via-else-high-low+then-high-first, then-high-low-via-else-high-low+else-high-first+then-last-low}
 
 -- ---- what the comparisons say
@@ -34,6 +35,16 @@ record AreEnds (f l first last low high : ℤ) : Type 0 where
   pub low_within : IsWithin low
   pub high_within : IsWithin high
 
+ends : (c : After-last-last) → AreEnds c.args.self.now.first (last_place c.args.self.now) c.first-first.result c.last-last.result c.args.low c.args.high
+ends c = record {
+  first_is = c.first-first.ensures.value;
+  last_is = c.last-last.ensures.value;
+  first_within = c.first-first.ensures.within;
+  last_within = c.last-last.ensures.within;
+  low_within = c.requires.low;
+  high_within = c.requires.high;
+}
+
 -- it has a place between
 meets : (f l first last low high : ℤ) → AreEnds f l first last low high → lt_z (to_z w64 (of_z w64 high)) (to_z w64 (of_z w64 low)) ≡ false
     → lt_z (to_z w64 (of_z w64 high)) (to_z w64 (of_z w64 first)) ≡ false → lt_z (to_z w64 (of_z w64 last)) (to_z w64 (of_z w64 low)) ≡ false
@@ -58,6 +69,14 @@ right-is l last high m same own other is = omega (arith, ints, clamps)
 left-is : (f first low m : ℤ) → first ≡ f → IsWithin first → IsWithin low → m ≡ int_max (to_z w64 (of_z w64 low)) (to_z w64 (of_z w64 first))
     → to_z w64 (of_z w64 m) ≡ int_max f low
 left-is f first low m same own other is = omega (arith, ints, clamps)
+
+right : (c : After-min) → to_z w64 (of_z w64 c.min.result) ≡ int_min (last_place c.args.self.now) c.args.high
+right c =
+    right-is (last_place c.args.self.now) c.last-last.result c.args.high c.min.result c.last-last.ensures.value c.last-last.ensures.within c.requires.high c.min.ensures.value
+
+left : (c : After-max) → to_z w64 (of_z w64 c.max.result) ≡ int_max c.args.self.now.first c.args.low
+left c =
+    left-is c.args.self.now.first c.first-first.result c.args.low c.max.result c.first-first.ensures.value c.first-first.ensures.within c.requires.low c.max.ensures.value
 
 right-low : (f l high : ℤ) (n : ℕ) → l ≡ f +ℤ pos n → f ≤ℤ high → f ≤ℤ int_min l high
 right-low f l high n is h = omega (arith, ints, clamps)
@@ -95,12 +114,7 @@ returns-then-high-low-clause-last c = λ t. absurd (false≢true t)
 
 -- ---- all between
 pub returns-then-last-high-clause-some : goal.returns-then-last-high-clause-some
-returns-then-last-high-clause-some c = (
-  λ t. meets c.args.self.now.first (last_place c.args.self.now) c.first-first.result c.last-last.result c.args.low c.args.high
-      (record { first_is = c.first-first.ensures.value; last_is = c.last-last.ensures.value; first_within = c.first-first.ensures.within; last_within = c.last-last.ensures.within; low_within = c.requires.low; high_within = c.requires.high })
-      c.if-high-low.false c.if-high-first.false c.if-last-low.false,
-  λ h. refl,
-)
+returns-then-last-high-clause-some c = (λ t. meets _ _ _ _ _ _ (ends (goal.at.returns-then-last-high-clause-some c).After-last-last) c.if-high-low.false c.if-high-first.false c.if-last-low.false, λ h. refl)
 
 pub returns-then-last-high-clause-first : goal.returns-then-last-high-clause-first
 returns-then-last-high-clause-first c = λ t.
@@ -115,53 +129,44 @@ returns-then-last-high-clause-last c = λ t.
 -- ---- cut
 pub cut_right-requires-clause-place : goal.cut_right-requires-clause-place
 cut_right-requires-clause-place c =
+    let at = goal.at.cut_right-requires-clause-place c in
     let f = c.args.self.now.first in
     let l = last_place c.args.self.now in
-    let some = meets c.args.self.now.first (last_place c.args.self.now) c.first-first.result c.last-last.result c.args.low c.args.high
-    (record { first_is = c.first-first.ensures.value; last_is = c.last-last.ensures.value; first_within = c.first-first.ensures.within; last_within = c.last-last.ensures.within; low_within = c.requires.low; high_within = c.requires.high })
-    c.if-high-low.false c.if-high-first.false c.if-last-low.false in
-    let is = right-is (last_place c.args.self.now) c.last-last.result c.args.high c.min.result c.last-last.ensures.value c.last-last.ensures.within c.requires.high c.min.ensures.value in
-    record { low = subst (λ z. f ≤ℤ z) (sym is) (right-low f l c.args.high _ refl some.1); high = subst (λ z. z ≤ℤ l) (sym is) (right-high l c.args.high) }
+    let some = meets _ _ _ _ _ _ (ends at.After-last-last) c.if-high-low.false c.if-high-first.false c.if-last-low.false in
+    let is = sym (right at.After-min) in
+    record { low = subst (λ z. f ≤ℤ z) is (right-low f l c.args.high _ refl some.1); high = subst (λ z. z ≤ℤ l) is (right-high l c.args.high) }
 
 pub cut_left-requires-clause-place : goal.cut_left-requires-clause-place
 cut_left-requires-clause-place c =
+    let at = goal.at.cut_left-requires-clause-place c in
     let f = c.args.self.now.first in
     let l = last_place c.args.self.now in
-    let some = meets c.args.self.now.first (last_place c.args.self.now) c.first-first.result c.last-last.result c.args.low c.args.high
-    (record { first_is = c.first-first.ensures.value; last_is = c.last-last.ensures.value; first_within = c.first-first.ensures.within; last_within = c.last-last.ensures.within; low_within = c.requires.low; high_within = c.requires.high })
-    c.if-high-low.false c.if-high-first.false c.if-last-low.false in
-    let right = c.cut_right.ensures.last ∙ right-is (last_place c.args.self.now) c.last-last.result c.args.high c.min.result c.last-last.ensures.value c.last-last.ensures.within c.requires.high c.min.ensures.value in
-    let left = left-is c.args.self.now.first c.first-first.result c.args.low c.max.result c.first-first.ensures.value c.first-first.ensures.within c.requires.low c.max.ensures.value in
+    let some = meets _ _ _ _ _ _ (ends at.After-last-last) c.if-high-low.false c.if-high-first.false c.if-last-low.false in
+    let is = sym (left at.After-max) in
     record {
-      low = subst (λ z. z ≤ℤ to_z w64 (of_z w64 c.max.result)) (sym c.cut_right.ensures.first) (subst (λ z. f ≤ℤ z) (sym left) (left-low f c.args.low));
-      high = subst (λ z. to_z w64 (of_z w64 c.max.result) ≤ℤ z) (sym right)
-          (subst (λ z. z ≤ℤ int_min l c.args.high) (sym left) (left-high f l c.args.low c.args.high _ refl some.0 some.1 some.2));
+      low = subst (λ z. z ≤ℤ to_z w64 (of_z w64 c.max.result)) (sym c.cut_right.ensures.first) (subst (λ z. f ≤ℤ z) is (left-low f c.args.low));
+      high = subst (λ z. to_z w64 (of_z w64 c.max.result) ≤ℤ z) (sym (c.cut_right.ensures.last ∙ right at.After-min))
+          (subst (λ z. z ≤ℤ int_min l c.args.high) is (left-high f l c.args.low c.args.high _ refl some.0 some.1 some.2));
     }
 
 pub returns-clause-some : goal.returns-clause-some
-returns-clause-some c = (
-  λ t. meets c.args.self.now.first (last_place c.args.self.now) c.first-first.result c.last-last.result c.args.low c.args.high
-      (record { first_is = c.first-first.ensures.value; last_is = c.last-last.ensures.value; first_within = c.first-first.ensures.within; last_within = c.last-last.ensures.within; low_within = c.requires.low; high_within = c.requires.high })
-      c.if-high-low.false c.if-high-first.false c.if-last-low.false,
-  λ h. refl,
-)
+returns-clause-some c = (λ t. meets _ _ _ _ _ _ (ends (goal.at.returns-clause-some c).After-last-last) c.if-high-low.false c.if-high-first.false c.if-last-low.false, λ h. refl)
 
 pub returns-clause-none : goal.returns-clause-none
 returns-clause-none c = λ e. absurd (true≢false e)
 
 pub returns-clause-first : goal.returns-clause-first
-returns-clause-first c = λ t. c.cut_left.ensures.first ∙ left-is c.args.self.now.first c.first-first.result c.args.low c.max.result c.first-first.ensures.value c.first-first.ensures.within c.requires.low c.max.ensures.value
+returns-clause-first c = λ t. c.cut_left.ensures.first ∙ left (goal.at.returns-clause-first c).After-max
 
 pub returns-clause-last : goal.returns-clause-last
-returns-clause-last c = λ t. c.cut_left.ensures.last ∙ c.cut_right.ensures.last ∙ right-is (last_place c.args.self.now) c.last-last.result c.args.high c.min.result c.last-last.ensures.value c.last-last.ensures.within c.requires.high c.min.ensures.value
+returns-clause-last c = λ t. c.cut_left.ensures.last ∙ c.cut_right.ensures.last ∙ right (goal.at.returns-clause-last c).After-min
 
 pub returns-clause-value : goal.returns-clause-value
 returns-clause-value c = λ t p at.
     let f = c.args.self.now.first in
-    let left = c.cut_left.ensures.first ∙ left-is c.args.self.now.first c.first-first.result c.args.low c.max.result c.first-first.ensures.value c.first-first.ensures.within c.requires.low c.max.ensures.value in
-    let above : f ≤ℤ p = within-left f c.args.low c.cut_left.new.self.first p left at.low in
+    let is = c.cut_left.ensures.first ∙ left (goal.at.returns-clause-value c).After-max in
     let mid : IsPlace c.cut_right.new.self p = record {
-      low = subst (λ z. z ≤ℤ p) (sym c.cut_right.ensures.first) above;
+      low = subst (λ z. z ≤ℤ p) (sym c.cut_right.ensures.first) (within-left f c.args.low c.cut_left.new.self.first p is at.low);
       high = subst (λ z. p ≤ℤ z) c.cut_left.ensures.last at.high;
     } in
     c.cut_left.ensures.value p at ∙ c.cut_right.ensures.value p mid

@@ -1,6 +1,5 @@
 -- The steps go on by those of the run.
-use Rattle.std.proofs.Common.{◌≡◌, ℕ, ◌+◌, ◌<◌, ◌≤◌, List, [], ◌∷◌, ◌++◌, sym, subst, ◌∙◌, ℤ, pos, ◌+ℤ◌, ◌*ℤ◌, ◌≤ℤ◌, to_z, of_z, vec_capacity}
-use mir.Val.{SFits}
+use Rattle.std.proofs.Common.{◌≡◌, ℕ, ◌+◌, ◌<◌, ◌≤◌, [], ◌∷◌, ◌++◌, sym, subst, ◌∙◌, ℤ, pos, ◌+ℤ◌, ◌*ℤ◌, ◌≤ℤ◌, vec_capacity}
 use Rattle.std.specs.Int.{w128}
 use Rattle.std.proofs.lemmas.Int.{to_z-of_z}
 use Rattle.step_functions.specs.contracts.function.ConvexFunction.{the_view}
@@ -9,55 +8,54 @@ use Rattle.step_functions.specs.Functions.{Steps, IsPlace, IsSmall, IsWithin, la
 use Rattle.step_functions.specs.inside.Kept.{IsKept}
 use Rattle.step_functions.proofs.Extended.{extended-old, extended-new, extended-before, extended-after, extended-kept}
 use Rattle.step_functions.proofs.function.ConvexFunction.extend.Goals as goal
+use Rattle.step_functions.proofs.function.ConvexFunction.extend.Goals.{After-push_reserved}
 
 -- the run that is pushed, its slope written as its bits
-pushed : (runs new : List Run) (length : ℕ) (slope : ℤ) → SFits w128 slope → new ≡ runs ++ (record { length = length; slope = to_z w128 (of_z w128 slope) }) ∷ []
-    → new ≡ runs ++ (record { length = length; slope = slope }) ∷ []
-pushed runs new length slope fits is = is ∙ (λ t. runs ++ (record { length = length; slope = to_z-of_z w128 slope fits t }) ∷ [])
+abbrev run_of : After-push_reserved → Run
+run_of c = record { length = c.args.length; slope = c.args.slope }
+
+pushed : (c : After-push_reserved) → c.push_reserved.new.self.items ≡ c.self.inside.runs.items ++ run_of c ∷ []
+pushed c = c.push_reserved.ensures.items ∙ (λ t. c.self.inside.runs.items ++ (record { length = c.args.length; slope = to_z-of_z w128 c.args.slope c.ranges.slope t }) ∷ [])
 
 pub invariant_of-self : goal.invariant_of-self
 invariant_of-self c =
+    let at = (goal.at.invariant_of-self c).After-push_reserved in
     let f = the_view c.self.inside in
-    let run : Run = record { length = c.args.length; slope = c.args.slope } in
     let room = vec_capacity c.push_reserved.new.self in
-    let is = pushed c.self.inside.runs.items c.push_reserved.new.self.items c.args.length c.args.slope c.ranges.slope c.push_reserved.ensures.items in
-    subst (λ xs. IsKept (record f { runs = xs; room = room })) (sym is)
-    (extended-kept f run room c.self.invariant c.requires.length
+    subst (λ xs. IsKept (record f { runs = xs; room = room })) (sym (pushed at))
+    (extended-kept f (run_of at) room c.self.invariant c.requires.length
     (subst (λ (g : Steps). (k : ℕ) → k < steps_of g.runs → slope_at g.runs k ≤ℤ c.args.slope) (sym c.self.view_is) c.requires.rising)
     (subst (λ (g : Steps). IsWithin (last_place g +ℤ pos c.args.length)) (sym c.self.view_is) c.requires.place)
     (subst (λ (g : Steps). IsSmall (value_at g (last_place g) +ℤ pos c.args.length *ℤ c.args.slope)) (sym c.self.view_is) c.requires.size))
 
 pub returns-clause-before : goal.returns-clause-before
 returns-clause-before c =
+    let at = (goal.at.returns-clause-before c).After-push_reserved in
     let f = the_view c.self.inside in
-    let run : Run = record { length = c.args.length; slope = c.args.slope } in
     let room = vec_capacity c.push_reserved.new.self in
-    let is = pushed c.self.inside.runs.items c.push_reserved.new.self.items c.args.length c.args.slope c.ranges.slope c.push_reserved.ensures.items in
-    let g : Steps = record f { runs = c.push_reserved.new.self.items; room = room } in
-    subst (λ (h : Steps). (p : ℤ) → IsPlace h p → value_at g p ≡ value_at h p) c.self.view_is
-    (subst (λ xs. (p : ℤ) → IsPlace f p → value_at (record f { runs = xs; room = room }) p ≡ value_at f p) (sym is) (extended-before f run room))
+    subst (λ (h : Steps). (p : ℤ) → IsPlace h p → value_at (record f { runs = c.push_reserved.new.self.items; room = room }) p ≡ value_at h p) c.self.view_is
+    (subst (λ xs. (p : ℤ) → IsPlace f p → value_at (record f { runs = xs; room = room }) p ≡ value_at f p) (sym (pushed at)) (extended-before f (run_of at) room))
 
 pub returns-clause-after : goal.returns-clause-after
 returns-clause-after c =
+    let at = (goal.at.returns-clause-after c).After-push_reserved in
     let f = the_view c.self.inside in
-    let run : Run = record { length = c.args.length; slope = c.args.slope } in
     let room = vec_capacity c.push_reserved.new.self in
-    let is = pushed c.self.inside.runs.items c.push_reserved.new.self.items c.args.length c.args.slope c.ranges.slope c.push_reserved.ensures.items in
     let g : Steps = record f { runs = c.push_reserved.new.self.items; room = room } in
     subst (λ (h : Steps). (k : ℕ) → k ≤ c.args.length → value_at g (last_place h +ℤ pos k) ≡ value_at h (last_place h) +ℤ pos k *ℤ c.args.slope) c.self.view_is
-    (subst (λ xs. (k : ℕ) → k ≤ c.args.length → value_at (record f { runs = xs; room = room }) (last_place f +ℤ pos k) ≡ value_at f (last_place f) +ℤ pos k *ℤ c.args.slope) (sym is)
-    (extended-after f run room))
+    (subst (λ xs. (k : ℕ) → k ≤ c.args.length → value_at (record f { runs = xs; room = room }) (last_place f +ℤ pos k) ≡ value_at f (last_place f) +ℤ pos k *ℤ c.args.slope) (sym (pushed at))
+    (extended-after f (run_of at) room))
 
 pub returns-clause-old_steps : goal.returns-clause-old_steps
 returns-clause-old_steps c =
-    let run : Run = record { length = c.args.length; slope = c.args.slope } in
-    let is = pushed c.self.inside.runs.items c.push_reserved.new.self.items c.args.length c.args.slope c.ranges.slope c.push_reserved.ensures.items in
+    let at = (goal.at.returns-clause-old_steps c).After-push_reserved in
     subst (λ (h : Steps). (k : ℕ) → k < steps_of h.runs → slope_at c.push_reserved.new.self.items k ≡ slope_at h.runs k) c.self.view_is
-    (subst (λ xs. (k : ℕ) → k < steps_of c.self.inside.runs.items → slope_at xs k ≡ slope_at c.self.inside.runs.items k) (sym is) (extended-old c.self.inside.runs.items run))
+    (subst (λ xs. (k : ℕ) → k < steps_of c.self.inside.runs.items → slope_at xs k ≡ slope_at c.self.inside.runs.items k) (sym (pushed at))
+    (extended-old c.self.inside.runs.items (run_of at)))
 
 pub returns-clause-new_steps : goal.returns-clause-new_steps
 returns-clause-new_steps c =
-    let run : Run = record { length = c.args.length; slope = c.args.slope } in
-    let is = pushed c.self.inside.runs.items c.push_reserved.new.self.items c.args.length c.args.slope c.ranges.slope c.push_reserved.ensures.items in
+    let at = (goal.at.returns-clause-new_steps c).After-push_reserved in
     subst (λ (h : Steps). (k : ℕ) → k < c.args.length → slope_at c.push_reserved.new.self.items (steps_of h.runs + k) ≡ c.args.slope) c.self.view_is
-    (subst (λ xs. (k : ℕ) → k < c.args.length → slope_at xs (steps_of c.self.inside.runs.items + k) ≡ c.args.slope) (sym is) (extended-new c.self.inside.runs.items run))
+    (subst (λ xs. (k : ℕ) → k < c.args.length → slope_at xs (steps_of c.self.inside.runs.items + k) ≡ c.args.slope) (sym (pushed at))
+    (extended-new c.self.inside.runs.items (run_of at)))
