@@ -1,7 +1,7 @@
 -- What a row is where its numbers stand in columns that rise.
 -- Cite by `use Rattle.pivot_run.proofs.EntryLists.{entry_spread}`.
-use Rattle.std.proofs.Common.{◌≡◌, ◌≢◌, ◌==◌, ◌⊎◌, ⊎_elim, inl, inr, ℕ, zero, suc, ◌+◌, ◌<◌, ◌≤◌, true, false, refl, sym, ap, ◌∙◌, arith, List, [], ◌∷◌, length, map, ℤ, pos}
-use Rattle.std.proofs.lemmas.Bool.{cases_Bool, cases_eq, cases_lt, cond-true, cond-false, eqb-true}
+use Rattle.std.proofs.Common.{◌≡◌, ◌≢◌, ◌==◌, ◌⊎◌, ⊎_elim, inl, inr, ℕ, zero, suc, ◌<◌, ◌≤◌, true, false, refl, sym, ap, ◌∙◌, arith, List, [], ◌∷◌, length, map, ℤ, pos}
+use Rattle.std.proofs.lemmas.Bool.{cases_Bool, cases_lt, cond-true, cond-false, eqb-true}
 use Rattle.std.proofs.lemmas.List.{ext_get_or, length-map, get_or-map, get_or_past}
 use Rattle.std.proofs.lemmas.List.FromFn.{length-map-range_with_len, get_or-map-range_with_len}
 use Rattle.pivot_run.specs.Rows.{entry}
@@ -107,25 +107,3 @@ split_elsewhere ks xs k c are split other = number_of_none ks xs c are.lengths (
     (cases_lt i k))
 
 -- ---- the next split
-pub split_past : (ks : List ℕ) (k c : ℕ) → Rise ks → IsSplit ks k c → k < length ks → column ks k ≡ c → IsSplit ks (k + 1) (c + 1)
-split_past ks k c rise split h e = record {
-  within = omega arith;
-  before = λ i l. ⊎_elim
-      (λ (less : i < k). omega (arith, split.before i less))
-      (λ (most : k ≤ i). let here : i ≡ k = omega arith in omega (arith, ap (column ks) here, e))
-      (cases_lt i k);
-  after = λ i l m. omega (arith, rise k i (omega arith) m, e);
-}
-
-pub split_stays : (ks : List ℕ) (k c : ℕ) → Rise ks → IsSplit ks k c → (k < length ks → column ks k ≢ c) → IsSplit ks k (c + 1)
-split_stays ks k c rise split other = record {
-  within = split.within;
-  before = λ i l. omega (arith, split.before i l);
-  after = λ i l m. ⊎_elim
-      (λ (more : k < i). omega (arith, rise k i more m, split.after k (omega arith) (omega arith)))
-      (λ (least : i ≤ k). let here : i ≡ k = omega arith in ⊎_elim
-      (λ (same : column ks i ≡ c). absurd (other (omega arith) (ap (column ks) (sym here) ∙ same)))
-      (λ (apart : column ks i ≢ c). omega (arith, split.after i l m, apart))
-      (cases_eq (column ks i) c))
-      (cases_lt k i);
-}

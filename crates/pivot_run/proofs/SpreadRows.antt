@@ -1,8 +1,7 @@
 -- What is found in the numbers of a row is found in the row.
 -- Cite by `use Rattle.pivot_run.proofs.SpreadRows.{spread_reduced}`.
-use Rattle.std.proofs.Common.{◌≡◌, ◌⊎◌, ⊎_elim, inl, inr, ℕ, ◌*◌, ◌^◌, ◌<◌, ◌≤◌, Bool, true, false, Option, None, Some, refl, sym, ap, subst, ◌∙◌, arith, lit<, zero-mul, List, length, map, take, position, ℤ, pos, ◌-ℤ◌, ◌*ℤ◌, int_div, nat_lt, unsigned_abs}
+use Rattle.std.proofs.Common.{◌≡◌, ◌⊎◌, ⊎_elim, inl, inr, ℕ, ◌*◌, ◌^◌, ◌<◌, ◌≤◌, Bool, true, false, Option, None, Some, refl, sym, ap, subst, ◌∙◌, arith, List, length, map, take, position, ℤ, pos, ◌-ℤ◌, ◌*ℤ◌, int_div, nat_lt, unsigned_abs}
 use Rattle.std.specs.Int.{◌∣◌}
-use Rattle.std.proofs.lemmas.Nat.{mul-le}
 use Rattle.std.proofs.lemmas.Nat.Gcd.{dvd-zero}
 use Rattle.std.specs.List.{position_or_len}
 use Rattle.std.proofs.lemmas.Grind.{common_steps}
@@ -12,7 +11,7 @@ use Rattle.std.proofs.lemmas.List.{get_or-take, get_or_past, length-take}
 use Rattle.std.proofs.lemmas.List.Sums.{fails_before_first, position_or_len_is}
 use Rattle.std.proofs.lemmas.List.Quantifiers.{position-Some}
 use Rattle.pivot_run.specs.Rows.{IsLargest, IsSmall, entry, reduced, cleared, divisor_of, total_size}
-use Rattle.pivot_run.specs.Pivots.{ClearingForms, IsNarrow, IsWide}
+use Rattle.pivot_run.specs.Pivots.{ClearingForms, IsNarrow}
 use Rattle.pivot_run.specs.inside.Entries.{AreBelow, AreEntries, CombiningForms, IsCombined, Rise, column, column_within, number_at, spread}
 use Rattle.pivot_run.proofs.EntryLists.{entry_spread, length_spread, map_spread, number_cases, number_of_entry, spread_is}
 use Rattle.pivot_run.proofs.Clearing.{entry-combined, length-combined}
@@ -268,30 +267,6 @@ cleared_forms row pivot ks xs ls ys j p e a b own other same pivots factor forms
 -- other numbers in the same columns
 pub entries_changed : (ks : List ℕ) (xs ys : List ℤ) → AreEntries ks xs → length ys ≡ length xs → IsSmall ys → AreEntries ks ys
 entries_changed ks xs ys are same small = record { lengths = are.lengths ∙ sym same; rise = are.rise; small = small }
-
--- the products that clearing a row forms where it is 0 in the pivot column: that of the largest number tells
-pub narrow_by_largest : (pivot : List ℤ) (j : ℕ) (row : List ℤ) (largest p : ℤ) → entry row j ≡ pos 0 → p ≡ entry pivot j → ((k : ℕ) → unsigned_abs (entry row k) ≤ unsigned_abs largest)
-    → unsigned_abs largest * unsigned_abs p < 2 ^ 126 → IsNarrow (ClearingForms pivot j row)
-narrow_by_largest pivot j row largest p zero by is small a b forms = ⊎_elim
-    (λ first.
-    let size = mul-le (unsigned_abs (entry row forms.0)) (unsigned_abs (entry pivot j)) (unsigned_abs largest) (unsigned_abs (entry pivot j)) (is forms.0) (omega arith) in
-    let least = subst (λ z. unsigned_abs largest * unsigned_abs z < 2 ^ 126) by small in
-    subst (λ x. unsigned_abs x * unsigned_abs b < 2 ^ 126) (sym first.0)
-    (subst (λ y. unsigned_abs (entry row forms.0) * unsigned_abs y < 2 ^ 126) (sym first.1) (omega (arith, size, least))))
-    (λ second. subst (λ x. unsigned_abs x * unsigned_abs b < 2 ^ 126) (sym second.0)
-    (subst (λ x. unsigned_abs x * unsigned_abs b < 2 ^ 126) (sym zero) (subst (λ n. n < 2 ^ 126) (sym (zero-mul (unsigned_abs b))) (lit< tt))))
-    forms.2
-
--- no product with 0 is wide, so the largest number of a product that is stands in the row
-pub wide_by_largest : (pivot : List ℤ) (j : ℕ) (row : List ℤ) (a b largest p : ℤ) → p ≡ entry pivot j → (largest ≡ pos 0) ⊎ ((c : ℕ) × (c < length row) × (largest ≡ entry row c))
-    → a ≡ largest → b ≡ p → IsWide a b → ClearingForms pivot j row a b
-wide_by_largest pivot j row a b largest p by number first second wide = ⊎_elim
-    (λ (zero : largest ≡ pos 0).
-    let none : unsigned_abs a * unsigned_abs b ≡ 0 = ap (λ x. unsigned_abs x * unsigned_abs b) (first ∙ zero) ∙ zero-mul (unsigned_abs b) in
-    let limit : 0 < 2 ^ 126 = lit< tt in
-    absurd (omega (arith, none, wide, limit)))
-    (λ there. (there.0, there.1, inl (first ∙ there.2, second ∙ by)))
-    number
 
 -- ---- entries that are the same
 pub view_of : (n : ℕ) (ks ls : List ℕ) (xs ys row : List ℤ) → ls ≡ ks → ys ≡ xs → spread n ks xs ≡ row → spread n ls ys ≡ row
