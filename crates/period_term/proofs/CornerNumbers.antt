@@ -7,12 +7,16 @@ use Rattle.uc_model.specs.Points.{point_of}
 use Rattle.uc_model.specs.declared.limits.TheConstants.{MAX_POWER, MAX_COST}
 use Rattle.uc_model.proofs.Ring.{linear, spread, mul_comm, mul_assoc, neg-mul}
 use Rattle.uc_model.proofs.Quotients.{IsFloor-add, IsCeiling-neg}
-use Rattle.uc_model.proofs.Sizes.{narrow, wide, wide-size, scaled-size, sum-size, sum-is, product-size, product-is}
+use Rattle.uc_model.proofs.Sizes.{abs_narrow, narrow, wide, wide-size, scaled-size, sum-size, sum-is, product-size, product-is}
 use Rattle.dual_model.specs.TableValue.{IsLawfulScale}
 use Rattle.dual_model.specs.declared.limits.TheConstants.{MAX_UNIT_PRICE}
 use Rattle.cost_curves.specs.LowerHull.{AreLawfulCorners}
 use Rattle.cost_curves.proofs.CornerSizes.{ceiling-size}
 use Rattle.period_term.specs.inside.Places.{Point, MAX_CORNER_COST, MAX_RISE, MAX_OVER}
+
+-- a number of 64 bits, as it is passed
+pub passed-size : (z : ℤ) (m : ℕ) → unsigned_abs z ≤ m → unsigned_abs (to_z w64 (of_z w64 z)) ≤ m
+passed-size z m h = omega (arith, abs_narrow z)
 
 pub scale-size : (k : ℤ) → IsLawfulScale k → unsigned_abs k ≤ 10 ^ 9
 scale-size k scale = omega (arith, ints, scale.low, scale.high)

@@ -1,10 +1,13 @@
 -- The term at the least corner, or on the segment that holds the cap.
-use Rattle.std.proofs.Common.{sym, subst, ◌∙◌, lit<, pos, arith}
+use Rattle.std.proofs.Common.{sym, subst, ◌∙◌, lit<, pos, ◌≤ℤ◌, arith}
+use Rattle.std.specs.Int.{w64}
 use Rattle.std.proofs.lemmas.Int.{to_z-of_z}
 use Rattle.uc_model.proofs.Tests.{int_le-true}
 use Rattle.uc_model.proofs.Sizes.{wide}
 use Rattle.dual_model.specs.Term.{IsTerm}
 use Rattle.period_term.specs.inside.Places.{MAX_CORNER_COST, MAX_LEAST}
+use Rattle.dual_model.specs.declared.limits.TheConstants.{MAX_CAP}
+use Rattle.period_term.proofs.CornerNumbers.{passed-size}
 use Rattle.period_term.proofs.LeastPlaces.{corner_term, segment_term, beyond}
 use Rattle.period_term.proofs.cell.least_cost.Goals as goal
 
@@ -18,6 +21,15 @@ returns-then-is_within-clause-term c = λ points whole.
     (sym (wide c.corner_cost.result MAX_CORNER_COST c.corner_cost.ensures.size (lit< tt) ∙ c.corner_cost.ensures.value))
     (corner_term points c.args.corners.now k a c.args.cap c.args.place whole c.requires.prices.scale.low c.requires.sign c.requires.place
     (int_le-true _ _ (sym within ∙ c.if-is_within.true)))
+
+pub cap_place-requires-clause-sign : goal.cap_place-requires-clause-sign
+cap_place-requires-clause-sign c = subst (λ z. pos 0 ≤ℤ z) (sym (to_z-of_z w64 c.args.cap c.ranges.cap)) c.requires.sign
+
+pub cap_place-requires-clause-right : goal.cap_place-requires-clause-right
+cap_place-requires-clause-right c = beyond _ _ (sym c.is_within.ensures ∙ c.if-is_within.false)
+
+pub segment_cost-requires-clause-cap : goal.segment_cost-requires-clause-cap
+segment_cost-requires-clause-cap c = passed-size c.args.cap MAX_CAP c.requires.cap
 
 pub segment_cost-requires-clause-segment : goal.segment_cost-requires-clause-segment
 segment_cost-requires-clause-segment c = record {

@@ -1,5 +1,5 @@
 -- Each of the four terms, by the place that was found once.
-use Rattle.std.proofs.Common.{◌<◌, sym, subst, lit<, ℤ, List, to_z, of_z, slice_index_or, pos, ◌≤◌, Option, IfSome, unsigned_abs}
+use Rattle.std.proofs.Common.{sym, subst, lit<, ℤ, List, to_z, of_z, slice_index_or, pos, ◌≤◌, Option, IfSome, unsigned_abs}
 use Rattle.std.specs.Int.{w64}
 use Rattle.uc_model.specs.declared.instance.Point.{Point}
 use Rattle.uc_model.proofs.Sizes.{narrow}
@@ -7,6 +7,7 @@ use Rattle.dual_model.specs.declared.limits.TheConstants.{MAX_CAP}
 use Rattle.dual_model.specs.TableValue.{IsCellTerm}
 use Rattle.uc_model.specs.declared.limits.TheConstants.{MAX_TERM}
 use Rattle.cost_curves.specs.LowerHull.{IsLowerHull}
+use Rattle.period_term.proofs.CornerNumbers.{passed-size}
 use Rattle.period_term.proofs.FreedTerms.{freed_bits, of_freed, each_of_four}
 use Rattle.period_term.proofs.cell.row_terms.Goals as goal
 
@@ -14,6 +15,18 @@ use Rattle.period_term.proofs.cell.row_terms.Goals as goal
 of_cap : (points : List Point) (k a b cap : ℤ) (term : Option ℤ) → unsigned_abs cap ≤ MAX_CAP → IsCellTerm points k a b (to_z w64 (of_z w64 cap)) term
     → IsCellTerm points k a b cap term
 of_cap points k a b cap term small = subst (λ z. IsCellTerm points k a b z term) (narrow cap MAX_CAP small (lit< tt))
+
+pub cell_term-requires-clause-cap : goal.cell_term-requires-clause-cap
+cell_term-requires-clause-cap c = passed-size (slice_index_or c.args.caps.now 0 (pos 0)) MAX_CAP (c.requires.caps 0 (lit< tt))
+
+pub cell_term-requires-2-clause-cap : goal.cell_term-requires-2-clause-cap
+cell_term-requires-2-clause-cap c = passed-size (slice_index_or c.args.caps.now 1 (pos 0)) MAX_CAP (c.requires.caps 1 (lit< tt))
+
+pub cell_term-requires-3-clause-cap : goal.cell_term-requires-3-clause-cap
+cell_term-requires-3-clause-cap c = passed-size (slice_index_or c.args.caps.now 2 (pos 0)) MAX_CAP (c.requires.caps 2 (lit< tt))
+
+pub cell_term-requires-4-clause-cap : goal.cell_term-requires-4-clause-cap
+cell_term-requires-4-clause-cap c = passed-size (slice_index_or c.args.caps.now 3 (pos 0)) MAX_CAP (c.requires.caps 3 (lit< tt))
 
 pub returns-clause-term : goal.returns-clause-term
 returns-clause-term c = λ points i hull inside.

@@ -1,13 +1,25 @@
 -- The cost at the left end, the price of what lies between, and the part of the rise.
-use Rattle.std.proofs.Common.{◌≡◌, ◌+◌, ◌*◌, ◌≤◌, suc, ap, ◌∙◌, arith, lit<, to_z, of_z, ◌+ℤ◌, ◌*ℤ◌, unsigned_abs}
-use Rattle.std.specs.Int.{w128}
+use Rattle.std.proofs.Common.{◌≡◌, ◌+◌, ◌*◌, ◌≤◌, suc, sym, ap, subst, ◌∙◌, arith, lit<, to_z, of_z, ◌+ℤ◌, ◌*ℤ◌, unsigned_abs}
+use Rattle.std.specs.Int.{w64, w128}
 use Rattle.std.proofs.lemmas.Int.{to_z-of_z}
 use Rattle.uc_model.specs.Points.{point_of, output_of}
-use Rattle.uc_model.proofs.Sizes.{sum-fits}
-use Rattle.dual_model.specs.declared.limits.TheConstants.{MAX_UNIT_PRICE}
-use Rattle.period_term.specs.inside.Places.{over_of, MAX_CORNER_COST, MAX_OVER, MAX_RISE}
-use Rattle.period_term.proofs.CornerNumbers.{sum_is, product_is, level_is, segment_floor}
+use Rattle.uc_model.proofs.Sizes.{product-fits, sum-fits}
+use Rattle.dual_model.specs.declared.limits.TheConstants.{MAX_CAP, MAX_UNIT_PRICE}
+use Rattle.period_term.specs.inside.Places.{LiesOnSegment, over_of, MAX_CORNER_COST, MAX_OVER, MAX_RISE}
+use Rattle.period_term.proofs.CornerNumbers.{passed-size, sum_is, product_is, level_is, segment_floor}
 use Rattle.period_term.proofs.cell.segment_cost.Goals as goal
+
+pub over-requires-clause-cap : goal.over-requires-clause-cap
+over-requires-clause-cap c = passed-size c.args.cap MAX_CAP c.requires.cap
+
+pub product-price-requires : goal.product-price-requires
+product-price-requires c = product-fits c.args.prices.now.a c.over.result (2 * MAX_UNIT_PRICE) MAX_OVER c.requires.prices.output c.over.ensures.size (lit< tt)
+
+pub rise_down-requires-clause-cap : goal.rise_down-requires-clause-cap
+rise_down-requires-clause-cap c = passed-size c.args.cap MAX_CAP c.requires.cap
+
+pub rise_down-requires-clause-segment : goal.rise_down-requires-clause-segment
+rise_down-requires-clause-segment c = subst (λ z. LiesOnSegment c.args.corners.now z c.args.left) (sym (to_z-of_z w64 c.args.cap c.ranges.cap)) c.requires.segment
 
 pub sum-level-requires : goal.sum-level-requires
 sum-level-requires c =

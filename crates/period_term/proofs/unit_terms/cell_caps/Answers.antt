@@ -1,5 +1,5 @@
 -- Each place holds its cell's cap.
-use Rattle.std.proofs.Common.{◌≡◌, ℕ, ◌<◌, ◌≤◌, Bool, true, false, [], ◌∷◌, lit<, ℤ, pos, zero, suc, arith, subst, sym, ◌∙◌, to_z, of_z, slice_index_or, unsigned_abs}
+use Rattle.std.proofs.Common.{◌≡◌, ℕ, ◌<◌, ◌≤◌, Bool, true, false, [], ◌∷◌, lit<, ℤ, pos, zero, suc, arith, ◌∙◌, to_z, of_z, slice_index_or, unsigned_abs}
 use Rattle.std.specs.Int.{w64}
 use Rattle.uc_model.proofs.Sizes.{abs_narrow, narrow}
 use Rattle.uc_model.specs.declared.limits.TheConstants.{MAX_POWER}

@@ -1,5 +1,5 @@
 -- One period more.
-use Rattle.std.proofs.Common.{◌≡◌, ℕ, ◌+◌, ◌<◌, ◌≢◌, ◌⊎◌, ⊎_elim, Bool, List, [], length, arith, sym, subst, lit<, to_z, of_z, ℤ, pos, get_or-set_other, get_or-set_same, None, slice_index_or, slice_set, Option}
+use Rattle.std.proofs.Common.{◌≡◌, ℕ, ◌+◌, ◌<◌, ◌≢◌, ⊎_elim, Bool, List, [], length, arith, sym, subst, lit<, to_z, of_z, ℤ, pos, get_or-set_other, get_or-set_same, None, slice_index_or, slice_set, Option}
 use Rattle.std.specs.Int.{w64}
 use Rattle.std.proofs.lemmas.Int.{to_z-of_z}
 use Rattle.uc_model.specs.declared.instance.Thermal.{Thermal}
