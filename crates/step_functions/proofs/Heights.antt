@@ -97,13 +97,3 @@ level-to value runs m l k is level within same =
     absurd (omega (arith, linear)))
     (λ (more : k ≤ l). more)
     (cases_lt l k)
-
-pub below-before : (runs : List Run) (m l : ℕ) → AreBelow runs (pos 0) m → AreBelow runs (pos 1) l → m ≤ l
-below-before runs m l is level =
-    ⊎_elim
-    (λ (less : l < m).
-    let a = is.below l less in
-    let b = level.next l (omega arith) (omega (arith, is.within)) in
-    absurd (omega (arith, linear)))
-    (λ (more : m ≤ l). more)
-    (cases_lt l m)

@@ -13,12 +13,6 @@ use Rattle.step_functions.specs.inside.Kept.{HaveSteps}
 use Rattle.step_functions.proofs.RunSteps.{steps-cons, steps-append, slope-first, slope-later, slope-append_left, slope-append_right, slope-run, around}
 
 -- ---- the same steps behind other runs
-pub same-refl : (xs : List Run) → SameSteps xs xs
-same-refl xs = record { count = refl; slopes = λ k. refl }
-
-pub same-trans : (xs ys zs : List Run) → SameSteps xs ys → SameSteps ys zs → SameSteps xs zs
-same-trans xs ys zs a b = record { count = b.count ∙ a.count; slopes = λ k. b.slopes k ∙ a.slopes k }
-
 -- a step lies in the first part of a list, or so many behind it
 split_at : (n k : ℕ) (P : ℕ → Type 0) → (k < n → P k) → ((j : ℕ) → P (n + j)) → P k
 split_at n k P before after = ⊎_elim before (λ (more : n ≤ k). subst P (omega arith) (after (k - n))) (cases_lt k n)
