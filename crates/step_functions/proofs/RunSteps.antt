@@ -1,5 +1,5 @@
 -- The steps of runs: of a list in two parts, and of a run by its number.
-use Rattle.std.proofs.Common.{◌≡◌, ℕ, ◌+◌, ◌-◌, ◌<◌, ◌≤◌, ⊎_elim, cond, List, [], ◌∷◌, ◌++◌, length, take, drop, refl, sym, ap, ◌∙◌, arith, pos, ◌+ℤ◌, ◌*ℤ◌, unsigned_abs}
+use Rattle.std.proofs.Common.{◌≡◌, ℕ, ◌+◌, ◌-◌, ◌<◌, ◌≤◌, ⊎_elim, cond, List, [], ◌∷◌, ◌++◌, length, take, drop, sym, ap, ◌∙◌, arith, pos, ◌+ℤ◌, ◌*ℤ◌, unsigned_abs}
 use Rattle.std.proofs.lemmas.Int.{ints}
 use Rattle.std.proofs.lemmas.Bool.{lt-ltb, le-ltb, cases_lt}
 use Rattle.std.proofs.lemmas.List.{take-append-drop, drop_more, take_all, take-take, drop-take, get_or-drop}
@@ -39,12 +39,6 @@ slope-append_right (x ∷ xs) ys k =
     slope-later x (xs ++ ys) (steps_of (x ∷ xs) + k) (omega arith)
     ∙ ap (slope_at (xs ++ ys)) (omega arith)
     ∙ slope-append_right xs ys k
-
-pub slope-past : (xs : List Run) (k : ℕ) → steps_of xs ≤ k → slope_at xs k ≡ pos 0
-slope-past [] k h = refl
-slope-past (x ∷ xs) k h =
-    let count = steps-cons x xs in
-    slope-later x xs k (omega arith) ∙ slope-past xs (k - x.length) (omega arith)
 
 -- ---- of a run by its number
 pub steps-take-more : (runs : List Run) (i : ℕ) → i < length runs → steps_of (take (i + 1) runs) ≡ steps_of (take i runs) + (run_of runs i).length

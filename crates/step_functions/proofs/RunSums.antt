@@ -7,7 +7,7 @@ use Rattle.step_functions.specs.Functions.{MAX_VALUE}
 use Rattle.step_functions.specs.inside.Edits.{IsSteeper, AreAdded}
 use Rattle.step_functions.specs.inside.Kept.{HaveSteps, HaveSmallSlopes}
 pub use Rattle.step_functions.specs.declared.runs.Place.{Place}
-use Rattle.step_functions.proofs.RunSteps.{steps-take-more, steps-take-all, steps-take-drop, steps-within, slope-run, slope-append_right}
+use Rattle.step_functions.proofs.RunSteps.{steps-take-more, steps-take-drop, steps-within, slope-run, slope-append_right}
 use Rattle.step_functions.proofs.RunEdits.{run-slope}
 
 -- the others before the one of this number are added, up to the run `from`; `rest` steps are left, to the first of which that
@@ -90,17 +90,6 @@ added-more old others now new skipped used from to rest number length is h other
           let at : before + length + (k - (before + length)) ≡ k = omega arith in
           subst (λ i. slope_at new i ≡ slope_at now i) at (steeper.back (k - (before + length))) ∙ is.back k (omega arith);
       count = omega (arith, is.count);
-    }
-
-pub added-all : (old others now : List Run) (skipped used from rest number : ℕ) → IsAddedTo old others now skipped used from rest number
-    → length others ≤ number → skipped + steps_of old ≤ steps_of others → AreAdded old others now skipped
-added-all old others now skipped used from rest number is past within =
-    let all = steps-take-all others number past in
-    let none : rest ≡ 0 =
-    ⊎_elim (λ (e : rest < 1). omega arith) (λ (some : 1 ≤ rest). absurd (omega (arith, is.place (omega arith), is.done))) (cases_lt rest 1) in
-    record {
-      count = is.total;
-      slopes = λ k h. is.front k (omega (arith, is.done));
     }
 
 -- ---- the others from a step on
