@@ -84,13 +84,6 @@ number_beyond : (ks : List ℕ) (xs : List ℤ) (c k : ℕ) → AreEntries ks xs
 number_beyond ks xs c k are below h = number_of_none ks xs k are.lengths (λ i l. λ e. absurd (omega (arith, below i l, e)))
 
 -- ---- those of a row
-pub none_of : (row : List ℤ) → AreEntriesOf row [] [] 0
-none_of row = record {
-  entries = record { lengths = refl; rise = λ i j h l. absurd (omega arith); small = λ c. lit< tt };
-  below = λ i h. absurd (omega arith);
-  values = λ k h. absurd (omega arith);
-}
-
 of_more : (row : List ℤ) (ks : List ℕ) (xs : List ℤ) (c : ℕ) (x : ℤ) → AreEntriesOf row ks xs c → x ≡ entry row c → unsigned_abs x < 2 ^ 127
     → AreEntriesOf row (ks ++ c ∷ []) (xs ++ x ∷ []) (c + 1)
 of_more row ks xs c x before value size =
