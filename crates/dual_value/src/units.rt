@@ -3,13 +3,18 @@
 ghost use Rattle.std.specs.Prelude.{◌≡◌, ◌<◌, ◌≤◌, IfOk, IfErr, length, unsigned_abs};
 ghost use Rattle.uc_model.specs.Limits.{IsLawfulInstance, IsLawfulThermal};
 ghost use Rattle.uc_model.specs.Schedule.{thermal_count, thermal_unit};
-ghost use Rattle.dual_model.specs.Fixings.{IsNodeOf};
+ghost use Rattle.uc_model.specs.PatternBits.{commitment_of};
+ghost use Rattle.dual_model.specs.Fixings.{IsFixOf, IsNodeOf};
+ghost use Rattle.dual_model.specs.NodeValue.{constant_at};
 ghost use Rattle.dual_model.specs.Prices.{HasSizeOf, IsWithinLimits};
 ghost use Rattle.dual_model.specs.TableValue.{AreTermsOf};
 ghost use Rattle.uc_model.specs.Terms.{period_count};
 ghost use Rattle.dual_model.specs.UnitTerms.{AreSizedTerms};
+ghost use Rattle.dual_model.specs.UnitValue.{IsBestPattern};
+ghost use Rattle.dual_model.specs.declared.node.Node.{Node};
 ghost use Rattle.dual_value.specs.NodeAnswer.{Instance, IsPartFault, IsPartOfKind, MAX_PART};
 ghost use Rattle.dual_value.specs.Rooms.{IsPlaceIn, IsRoomFor, keeps_ramps};
+ghost use Rattle.dual_value.specs.inside.Parts.{IsSizedPart};
 
 use crate::exact_part::{Priced, part_with_ramps};
 use crate::fixes::fix_of;
@@ -65,10 +70,38 @@ pub(crate) fn unit_part(
             pattern: &pattern,
         },
     };
-    match &mut room.exact {
-        None => Ok((priced.part(), pattern)),
-        Some(exact) => part_with_ramps(exact, instance, &room.curves[g], table, number, &priced),
-    }
+    part_in(room, instance, table, g, &priced)
+}
+
+// What the unit adds, of the kind that the room is for, where this is what it adds with ramps priced.
+fn part_in(
+    room: &mut Room,
+    instance: &Instance,
+    table: &Table,
+    g: usize,
+    priced: &Priced,
+) -> Result<(i128, Pattern), ValueFault>
+    requires lawful { IsLawfulInstance instance.now }
+    requires unit { g < thermal_count instance.now }
+    requires size { HasSizeOf instance.now table.now }
+    requires limits { IsWithinLimits table.now }
+    requires room { IsRoomFor (keeps_ramps room.old) instance.now room.old }
+    requires terms { AreTermsOf instance.now table.now g priced.now.plain.terms.now }
+    requires sized { AreSizedTerms (thermal_unit instance.now g) priced.now.plain.terms.now }
+    requires constant { priced.now.constant ≡ constant_at instance.now table.now g }
+    requires numbers { IsSizedPart priced.now }
+    ensures kept { room.new ≡ room.old }
+    ensures part { (node : Node) → IsFixOf instance.now.periods node g priced.now.plain.fix.now
+        → IsBestPattern instance.now node table.now g (commitment_of priced.now.plain.pattern.now) priced.now.value
+        → IfOk result (λ part. IsPartOfKind (keeps_ramps room.old) instance.now node table.now g part.0 part.1) }
+    ensures fault { (node : Node) → IsFixOf instance.now.periods node g priced.now.plain.fix.now
+        → IfErr result (IsPartFault (keeps_ramps room.old) instance.now node g) }
+    ensures size { IfOk result (λ part. unsigned_abs part.0 ≤ MAX_PART) }
+{
+    let Some(exact) = &mut room.exact else {
+        return Ok((priced.part(), *priced.plain.pattern));
+    };
+    part_with_ramps(exact, instance, &room.curves[g], table, g as u32, priced)
 }
 
 // The terms of thermal unit g at the table.
