@@ -1,11 +1,13 @@
 -- The lists hold the uplifts, and what the others leave of the gap is the ramp slack.
-use Rattle.std.proofs.Common.{◌≤◌, FitsSigned, List, length, sym, subst, ◌∙◌, rules, ℤ, ◌+ℤ◌, ◌-ℤ◌, to_z, of_z, unsigned_abs, All}
+use Rattle.std.proofs.Common.{◌*◌, ◌≤◌, lit<, FitsSigned, List, length, sym, ap, subst, ◌∙◌, rules, ℤ, ◌+ℤ◌, ◌-ℤ◌, to_z, of_z, unsigned_abs, All}
 use Rattle.std.specs.Int.{w128}
 use Rattle.std.proofs.lemmas.Int.{to_z-of_z}
 use Rattle.uc_model.specs.Schedule.{renewable_count, thermal_count}
 use Rattle.uc_model.specs.Sums.{sum_below}
 use Rattle.schedule_check.proofs.Priced.{priced}
-use Rattle.uplift.specs.Sizes.{MAX_UNITS, MAX_UPLIFT}
+use Rattle.uc_model.proofs.Sizes.{sum-fits, sum-size, wide-size}
+use Rattle.dual_model.specs.NodeAnswer.{MAX_PART, MAX_VALUE}
+use Rattle.uplift.specs.Sizes.{MAX_GAP, MAX_KNOWN, MAX_PERIODS, MAX_SHORTAGE, MAX_SLACK, MAX_UNITS, MAX_UPLIFT}
 use Rattle.uplift.specs.inside.Lists.{AreRenewableUplifts, AreThermalUplifts, renewable_uplift_at, sum_in, uplift_by}
 use Rattle.uplift.proofs.Answered.{uplifts_are}
 use Rattle.uplift.proofs.Lists.{few_and_small}
@@ -13,6 +15,29 @@ use Rattle.uplift.proofs.uplifts.of.Goals as goal
 
 pub thermal_uplifts-requires-clause-prices : goal.thermal_uplifts-requires-clause-prices
 thermal_uplifts-requires-clause-prices c = priced c.args.instance.now c.args.printed.now c.requires.lawful c.requires.whole c.requires.obeys
+
+pub thermal_uplifts-requires-clause-parts : goal.thermal_uplifts-requires-clause-parts
+thermal_uplifts-requires-clause-parts c = ap length c.as_slice-parts.ensures ∙ c.in_ok-valued.ensures.value.parts
+
+pub thermal_uplifts-requires-clause-part : goal.thermal_uplifts-requires-clause-part
+thermal_uplifts-requires-clause-part c =
+    subst (λ (xs : List ℤ). All (λ n. unsigned_abs n ≤ MAX_PART) xs) (sym c.as_slice-parts.ensures) c.in_ok-valued.ensures.sizes.parts
+
+pub gap-total-requires-clause-value : goal.gap-total-requires-clause-value
+gap-total-requires-clause-value c = wide-size c.in_ok-valued.valued.total MAX_VALUE c.in_ok-valued.ensures.value.size
+
+pub sum-requires : goal.sum-requires
+sum-requires c =
+    sum-fits c.shed_uplift-shed.result c.reserve_slack-reserve_slack.result (MAX_PERIODS * MAX_SHORTAGE) (MAX_PERIODS * MAX_SLACK) c.shed_uplift-shed.ensures.size
+    c.reserve_slack-reserve_slack.ensures.size (lit< tt)
+
+pub rest-ramp_slack-requires-clause-total : goal.rest-ramp_slack-requires-clause-total
+rest-ramp_slack-requires-clause-total c = wide-size c.gap-total.result MAX_GAP c.gap-total.ensures.size
+
+pub rest-ramp_slack-requires-clause-known : goal.rest-ramp_slack-requires-clause-known
+rest-ramp_slack-requires-clause-known c =
+    wide-size c.sum.result MAX_KNOWN (sum-size c.shed_uplift-shed.result c.reserve_slack-reserve_slack.result c.sum.result (MAX_PERIODS * MAX_SHORTAGE) (MAX_PERIODS * MAX_SLACK)
+    c.sum.ensures c.shed_uplift-shed.ensures.size c.reserve_slack-reserve_slack.ensures.size)
 
 pub rest-ramp_slack-requires-clause-first : goal.rest-ramp_slack-requires-clause-first
 rest-ramp_slack-requires-clause-first c =
