@@ -106,8 +106,8 @@ impl Ends {
     // The ends by these heights and weights.
     fn of(heights: &[i128], weights: &[i64]) -> Ends {
         let mut ends = Ends::none();
-        for (k, (height, weight)) in heights.iter().zip(weights).enumerate() {
-            ends.see(k, *height, *weight);
+        for k in 0..heights.len().min(weights.len()) {
+            ends.see(k, heights[k], weights[k]);
         }
         ends
     }
@@ -165,9 +165,9 @@ impl Shift {
 // The weighted mean of a cut's products with all cuts.
 fn mean_product(row: &[i64], weights: &[i64]) -> i64 {
     let mut sum: i128 = 0;
-    for (product, weight) in row.iter().zip(weights) {
-        if *weight != 0 {
-            sum = sum.wrapping_add(times(*product, *weight));
+    for k in 0..row.len().min(weights.len()) {
+        if weights[k] != 0 {
+            sum = sum.wrapping_add(times(row[k], weights[k]));
         }
     }
     word(sum / i128::from(WHOLE))
@@ -300,9 +300,9 @@ impl Bundle {
     // one which would end at or above its cap to that.
     fn moves(&self, alloc: Global, field: &Field) -> Result<Vec<i64>, NoMemory> {
         let mut moves = self.sums(alloc, field)?;
-        let prices = field.places.iter().zip(&field.prices);
-        for (own, (i, price)) in moves.iter_mut().zip(prices) {
-            *own = self.move_of(*i, *price, *own);
+        let (places, prices) = (field.places.as_slice(), field.prices.as_slice());
+        for k in 0..moves.len().min(places.len()).min(prices.len()) {
+            moves[k] = self.move_of(places[k], prices[k], moves[k]);
         }
         Ok(moves)
     }
@@ -323,9 +323,10 @@ impl Bundle {
     // The weighted sum of the cuts' slopes in each price of a field.
     fn sums(&self, alloc: Global, field: &Field) -> Result<Vec<i64>, NoMemory> {
         let mut sums = vec![in alloc; 0_i64; field.places.len()]?;
-        for (cut, slopes) in self.cuts.iter().zip(&field.slopes) {
-            if cut.weight > 0 {
-                add_multiple(&mut sums, slopes, cut.weight);
+        let (cuts, slopes) = (self.cuts.as_slice(), field.slopes.as_slice());
+        for k in 0..cuts.len().min(slopes.len()) {
+            if cuts[k].weight > 0 {
+                add_multiple(&mut sums, &slopes[k], cuts[k].weight);
             }
         }
         Ok(sums)
@@ -355,8 +356,8 @@ impl Bundle {
             shift.take(&mut weights);
             ends = self.shifted(&mut heights, &weights, shift);
         }
-        for (cut, weight) in self.cuts.iter_mut().zip(&weights) {
-            cut.weight = *weight;
+        for k in 0..self.cuts.len().min(weights.len()) {
+            self.cuts[k].weight = weights[k];
         }
         Ok(())
     }
@@ -379,12 +380,13 @@ impl Bundle {
         active: &mut Vec<usize>,
         stopped: &mut Vec<(usize, i64)>,
     ) -> Result<(), NoMemory> {
-        let prices = field.places.iter().zip(&field.prices);
-        for (by, (i, price)) in moves.iter().zip(prices) {
-            if !self.is_at_end(*i, price.saturating_add(*by)) {
-                active.push(*i)?;
-            } else if *by != 0 {
-                stopped.push((*i, *by))?;
+        let (places, prices) = (field.places.as_slice(), field.prices.as_slice());
+        for k in 0..moves.len().min(places.len()).min(prices.len()) {
+            let (i, by) = (places[k], moves[k]);
+            if !self.is_at_end(i, prices[k].saturating_add(by)) {
+                active.push(i)?;
+            } else if by != 0 {
+                stopped.push((i, by))?;
             }
         }
         Ok(())
@@ -399,9 +401,11 @@ impl Bundle {
         reach: i64,
     ) -> Result<Vec<i128>, NoMemory> {
         let mut heights = Vec::with_capacity(alloc, self.cuts.len())?;
-        for (cut, row) in self.cuts.iter().zip(&self.products.rows) {
-            let fixed = self.fixed(cut, stopped);
-            heights.push(fixed.saturating_add(along(mean_product(row, weights), reach)))?;
+        let (cuts, rows) = (self.cuts.as_slice(), self.products.rows.as_slice());
+        for k in 0..cuts.len().min(rows.len()) {
+            let fixed = self.fixed(&cuts[k], stopped);
+            let mean = mean_product(&rows[k], weights);
+            heights.push(fixed.saturating_add(along(mean, reach)))?;
         }
         Ok(heights)
     }
@@ -409,9 +413,14 @@ impl Bundle {
     // Whether nearly the same of a field's prices end at 0 or at their caps, in proportion to so many prices in all.
     fn are_same_bounds(&self, field: &Field, first: &[i64], second: &[i64], all: usize) -> bool {
         let mut changed: usize = 0;
-        let prices = field.places.iter().zip(&field.prices);
-        for ((i, price), (a, b)) in prices.zip(first.iter().zip(second)) {
-            if self.is_one_at_end(*i, price.saturating_add(*a), price.saturating_add(*b)) {
+        let (places, prices) = (field.places.as_slice(), field.prices.as_slice());
+        let count = places.len().min(prices.len());
+        for k in 0..count.min(first.len()).min(second.len()) {
+            let (one, other) = (
+                prices[k].saturating_add(first[k]),
+                prices[k].saturating_add(second[k]),
+            );
+            if self.is_one_at_end(places[k], one, other) {
                 changed = changed.saturating_add(1);
             }
         }
@@ -447,12 +456,17 @@ impl Bundle {
     // Moves the heights by a shift, after which these are the weights, and finds the ends anew.
     fn shifted(&self, heights: &mut [i128], weights: &[i64], shift: Shift) -> Ends {
         let mut ends = Ends::none();
-        let products = self.products.row(shift.low).iter();
-        let products = products.zip(self.products.row(shift.high));
-        let heights = heights.iter_mut().zip(weights).enumerate();
-        for ((k, (height, weight)), (low, high)) in heights.zip(products) {
-            *height = height.wrapping_add(shift.rise(*low, *high));
-            ends.see(k, *height, *weight);
+        let low = self.products.row(shift.low);
+        let high = self.products.row(shift.high);
+        let count = heights
+            .len()
+            .min(weights.len())
+            .min(low.len())
+            .min(high.len());
+        for k in 0..count {
+            let height = heights[k].wrapping_add(shift.rise(low[k], high[k]));
+            heights[k] = height;
+            ends.see(k, height, weights[k]);
         }
         ends
     }
@@ -749,9 +763,9 @@ fn by_place(alloc: Global, numbers: &[i64]) -> Result<Vec<(usize, i64)>, NoMemor
 // The moves that aren't 0, by the places of their prices.
 fn moved(alloc: Global, places: &[usize], moves: &[i64]) -> Result<Vec<(usize, i64)>, NoMemory> {
     let mut moved = Vec::new(alloc);
-    for (i, by) in places.iter().zip(moves) {
-        if *by != 0 {
-            moved.push((*i, *by))?;
+    for k in 0..places.len().min(moves.len()) {
+        if moves[k] != 0 {
+            moved.push((places[k], moves[k]))?;
         }
     }
     Ok(moved)

@@ -23,8 +23,9 @@ impl Field {
         free: usize,
     ) -> Result<Field, NoMemory> {
         let mut places = Vec::new(alloc);
-        for (i, highest) in highest(alloc, cuts, center)?.iter().enumerate() {
-            if i < free || *highest > 0 {
+        let highest = highest(alloc, cuts, center)?;
+        for i in 0..highest.len() {
+            if i < free || highest[i] > 0 {
                 places.push(i)?;
             }
         }
@@ -45,8 +46,9 @@ impl Field {
 fn highest(alloc: Global, cuts: &[Cut], center: &[i64]) -> Result<Vec<i64>, NoMemory> {
     let mut highest = center.to_vec(alloc)?;
     for cut in cuts {
-        for (own, slope) in highest.iter_mut().zip(&cut.slopes) {
-            *own = (*own).max(*slope);
+        let slopes = cut.slopes.as_slice();
+        for i in 0..highest.len().min(slopes.len()) {
+            highest[i] = highest[i].max(slopes[i]);
         }
     }
     Ok(highest)

@@ -53,8 +53,8 @@ impl Products {
 
     // Counts price i, or counts it no longer. The cuts' slopes in it go into a list that is lent.
     fn turn(&mut self, cuts: &[Cut], i: usize, counts: bool, slopes: &mut [i64]) {
-        for (own, cut) in slopes.iter_mut().zip(cuts) {
-            *own = at(&cut.slopes, i);
+        for k in 0..slopes.len().min(cuts.len()) {
+            slopes[k] = at(&cuts[k].slopes, i);
         }
         for (row, slope) in self.rows.iter_mut().zip(slopes.iter()) {
             let slope = if counts { *slope } else { slope.wrapping_neg() };
@@ -71,8 +71,8 @@ impl Products {
         for cut in cuts {
             row.push(product_over(&self.counted, &newest.slopes, &cut.slopes))?;
         }
-        for (own, product) in self.rows.iter_mut().zip(&row) {
-            own.push(*product)?;
+        for k in 0..self.rows.len().min(row.len()) {
+            self.rows[k].push(row[k])?;
         }
         self.rows.push(row)?;
         Ok(())
@@ -147,7 +147,7 @@ fn product_over(places: &[usize], first: &[i64], second: &[i64]) -> i64 {
 
 /// Adds numbers times a weight.
 pub(crate) fn add_multiple(sums: &mut [i64], numbers: &[i64], weight: i64) {
-    for (sum, number) in sums.iter_mut().zip(numbers) {
-        *sum = sum.wrapping_add(weight.wrapping_mul(*number));
+    for i in 0..sums.len().min(numbers.len()) {
+        sums[i] = sums[i].wrapping_add(weight.wrapping_mul(numbers[i]));
     }
 }
