@@ -19,7 +19,8 @@ pub(crate) struct Leeway {
     pub lent: i64,
 }
 
-/// That of a unit that is off, or behind the last period.
+/// That of a period in which the unit is off, and of what lies behind the last one: it can give neither more nor less there, no ramp bounds
+/// what it gives in the period before, and no head hangs on it.
 pub(crate) const FREE: Leeway = Leeway {
     up: 0,
     up_rate: 0,

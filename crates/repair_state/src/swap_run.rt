@@ -1,11 +1,11 @@
 //! Runs of periods over which a unit gives more and another as much less: where that gains, and how far it goes.
 //!
-//! Of a period the spare is by how much its reserve is more than wanted.
+//! Gains are rates, those of a watt in each period of a run added up. The spare of a period is by how much its reserve is more than wanted.
 
 use crate::leeway::{FREE, Leeway};
 use crate::window::Window;
 
-/// A run of periods, and what a watt gains there in all of them.
+/// The periods from `first` to `last`, and what a watt gains in all of them.
 #[derive(Clone, Copy)]
 pub(crate) struct Run {
     pub first: usize,
@@ -13,19 +13,20 @@ pub(crate) struct Run {
     pub gain: i64,
 }
 
-/// No period.
+/// A run that gains nothing.
 pub(crate) const NO_RUN: Run = Run {
     first: 0,
     last: 0,
     gain: 0,
 };
 
-// The leeway of a period, and all past the last one.
+// The leeway of a period, and `FREE` past the last one.
 fn leeway_at(leeways: &[Leeway], t: usize) -> Leeway {
     if t < leeways.len() { leeways[t] } else { FREE }
 }
 
-/// A run over which much is gained where the first unit gives more and the second less.
+/// The run that gains most where the first unit gives more and the second less, or `NO_RUN`. A run that has gained nothing so far is left
+/// for one that begins later.
 pub(crate) fn best_run(more: &[Leeway], less: &[Leeway], spares: &[i64]) -> Run {
     let mut best = NO_RUN;
     let mut run = NO_RUN;
@@ -64,7 +65,7 @@ fn may_end(more: &[Leeway], less: &[Leeway], t: usize) -> bool {
     leeway_at(more, next).fall > 0 && leeway_at(less, next).rise > 0
 }
 
-// By how much the reserve of a period is more than wanted; not below 0, and as much as any past the last one.
+// The spare of a period, which counts as at least 0; past the last one no reserve is wanted, and the spare is without end.
 fn spare_at(spares: &[i64], t: usize) -> i64 {
     if t < spares.len() {
         spares[t].max(0)
@@ -73,7 +74,7 @@ fn spare_at(spares: &[i64], t: usize) -> i64 {
     }
 }
 
-/// How many watts a swap over a run can have at these rates.
+/// How many watts can be swapped over a run at the rates of its gain, within the ramps at its ends and the spares.
 pub(crate) fn watts_of(more: &[Leeway], less: &[Leeway], spares: &[i64], run: &Run) -> i64 {
     let first = leeway_at(more, run.first)
         .rise
@@ -92,7 +93,8 @@ pub(crate) fn watts_of(more: &[Leeway], less: &[Leeway], spares: &[i64], run: &R
     watts
 }
 
-/// Takes from the spares what the heads of two units lose by so many watts over a run.
+/// Takes from the spares behind each period of a run what the second unit's head loses there by so many watts, and adds what the first one's
+/// wins.
 pub(crate) fn take_spares(
     more: &[Leeway],
     less: &[Leeway],
@@ -110,7 +112,7 @@ pub(crate) fn take_spares(
     }
 }
 
-/// Moves the centres of a unit's windows over a run.
+/// Raises the centres of unit g's windows by so many watts over a run.
 pub(crate) fn shift_row(rows: &mut [Vec<Window>], g: usize, run: &Run, watts: i64) {
     if g < rows.len() {
         let row = rows[g].as_mut_slice();

@@ -95,11 +95,12 @@ impl Committed<'_> {
         }
     }
 
-    // Whether the ramps of one of two units can bind.
-    fn is_ramped(&self, g: usize, h: usize) -> bool {
-        g < self.units.len()
-            && h < self.units.len()
-            && (self.units[g].is_ramped || self.units[h].is_ramped)
+    // Whether the ramps of a unit can bind, if there is one.
+    fn is_ramped(&self, g: Option<usize>) -> bool {
+        match g {
+            Some(g) => g < self.units.len() && self.units[g].is_ramped,
+            None => false,
+        }
     }
 
     // The reserve that unit g can give in period t.
@@ -182,9 +183,10 @@ impl Swaps {
 
     // Fills in anew what the mover at a place can give.
     fn refill(&mut self, committed: &Committed, place: usize, rows: &[Vec<Window>]) {
-        if place < self.leeways.len() {
-            let g = at_place(&self.movers, place);
-            committed.fill(g, rows, &mut self.leeways[place]);
+        if let Some(g) = at_place(&self.movers, place) {
+            if place < self.leeways.len() {
+                committed.fill(g, rows, &mut self.leeways[place]);
+            }
         }
     }
 
@@ -194,7 +196,7 @@ impl Swaps {
         for i in 0..self.movers.len() {
             for j in 0..i {
                 let (g, h) = (at_place(&self.movers, i), at_place(&self.movers, j));
-                if committed.is_ramped(g, h) {
+                if committed.is_ramped(g) || committed.is_ramped(h) {
                     let swapped = self.swap_pair(committed, i, j, rows);
                     has_swapped = has_swapped || swapped;
                 }
@@ -241,6 +243,12 @@ impl Swaps {
     // Makes a swap, if it gains, and tells whether it does.
     fn swap(&mut self, committed: &Committed, swap: &Swap, rows: &mut [Vec<Window>]) -> bool {
         let Swap { more, less, run } = *swap;
+        let Some(g) = at_place(&self.movers, more) else {
+            return false;
+        };
+        let Some(h) = at_place(&self.movers, less) else {
+            return false;
+        };
         if run.gain < LEAST || more >= self.leeways.len() || less >= self.leeways.len() {
             return false;
         }
@@ -250,13 +258,8 @@ impl Swaps {
             return false;
         }
         take_spares(up, down, &run, watts, &mut self.spares);
-        shift_row(rows, at_place(&self.movers, more), &run, watts);
-        shift_row(
-            rows,
-            at_place(&self.movers, less),
-            &run,
-            watts.saturating_neg(),
-        );
+        shift_row(rows, g, &run, watts);
+        shift_row(rows, h, &run, watts.saturating_neg());
         self.refill(committed, more, rows);
         self.refill(committed, less, rows);
         true
@@ -287,12 +290,12 @@ fn set_spans(committed: &Committed, rows: &[Vec<Window>], own: &mut [Leeway], sp
     }
 }
 
-// The unit at a place of a list, and none of any list past its end.
-fn at_place(movers: &[usize], i: usize) -> usize {
+// The unit at a place of a list, and none past its end.
+fn at_place(movers: &[usize], i: usize) -> Option<usize> {
     if i < movers.len() {
-        movers[i]
+        Some(movers[i])
     } else {
-        usize::MAX
+        None
     }
 }
 
