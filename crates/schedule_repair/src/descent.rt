@@ -8,7 +8,9 @@ ghost use Rattle.schedule_check.specs.Accepted.{IsAcceptedIfFound};
 use crate::accepted::accepted;
 use crate::kept::cost_of_state;
 use crate::kicks::kick;
-use crate::passes::{Units, pass, pass_outputs, set_full_prices, set_soft_prices, soft_price};
+use crate::passes::{
+    Units, pass, pass_hard, pass_outputs, set_full_prices, set_soft_prices, soft_price,
+};
 use crate::printing::printed_of;
 use crate::room::Repair;
 use crate::rounding::round;
@@ -20,11 +22,14 @@ use uc_model::{Instance, NoMemory, Printed};
 /// this order.
 pub(crate) const THRESHOLDS: [i64; 4] = [13107, 32768, 3277, 66];
 
-/// The passes in which missing reserve is cheap, from one to the next half as cheap, and the most after them in which it has its full
-/// price, each with one over the outputs behind it.
+/// The passes in which missing reserve is cheap, at twice the least price from one to the next.
 const SOFT_PASSES: u32 = 8;
 
+/// The most passes after them, in which missing reserve has its full price.
 const HARD_PASSES: u32 = 6;
+
+/// The passes over the outputs behind each of those that changes a pattern.
+const OUTPUTS: u32 = 1;
 
 /// The passes over the outputs alone with which a descent begins, so that patterns are judged beside outputs that suit them.
 const FIRST_OUTPUTS: u32 = 3;
@@ -190,12 +195,5 @@ fn descend(room: &mut Repair, instance: &Instance, table: &Table) -> Result<(), 
         pass(room, instance, Units::All)?;
         least = least.saturating_mul(2);
     }
-    set_full_prices(&mut room.state.periods, &room.plant.market);
-    for _ in 0..HARD_PASSES {
-        if !pass(room, instance, Units::All)? {
-            break;
-        }
-        pass_outputs(room, instance, 1)?;
-    }
-    Ok(())
+    pass_hard(room, instance, Units::All, HARD_PASSES, OUTPUTS)
 }

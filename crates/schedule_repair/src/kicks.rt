@@ -12,7 +12,7 @@ use dual_model::Table;
 use repair_state::Decided;
 use uc_model::{Instance, NoMemory};
 
-/// The most passes of a kick in which missing reserve has its full price.
+/// The most passes of a kick in which missing reserve has its full price. No pass over the outputs follows them.
 const PASSES: u32 = 2;
 
 /// Turns that cost more than this part of the best state's cost are left alone; in a small system, those that cost more than all of it.
@@ -93,7 +93,7 @@ fn kick_once(room: &mut Repair, instance: &Instance, table: &Table) -> Result<()
     turn_unit(room, instance, turn.unit, Some(&turn.fix))?;
     pass(room, instance, Units::ListedBut(turn.unit))?;
     turn_unit(room, instance, turn.unit, None)?;
-    pass_hard(room, instance, Units::Listed, PASSES)?;
+    pass_hard(room, instance, Units::Listed, PASSES, 0)?;
     let cost = cost_of_state(&room.plant, &mut room.state, instance);
     if room.kept.keep_cheaper(&room.state, cost) {
         room.walk.begin(&room.kept);

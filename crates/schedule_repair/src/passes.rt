@@ -41,12 +41,14 @@ pub(crate) fn pass(room: &mut Repair, instance: &Instance, units: Units) -> Resu
     Ok(has_changed)
 }
 
-/// Makes passes at full prices until none gains, at most so many. The only error is `NoMemory`.
+/// Makes passes at full prices until one changes no pattern, at most so many, with so many over the outputs behind each that does. The
+/// only error is `NoMemory`.
 pub(crate) fn pass_hard(
     room: &mut Repair,
     instance: &Instance,
     units: Units,
     most: u32,
+    outputs: u32,
 ) -> Result<(), NoMemory>
     requires lawful { IsLawfulInstance instance.now }
 {
@@ -55,6 +57,7 @@ pub(crate) fn pass_hard(
         if !pass(room, instance, units)? {
             break;
         }
+        pass_outputs(room, instance, outputs)?;
     }
     Ok(())
 }
