@@ -41,12 +41,12 @@ pub(crate) fn number_at(numbers: &[i64], i: usize) -> i64 {
     if i < numbers.len() { numbers[i] } else { 0 }
 }
 
-/// The entries of a list from a place on. An iterator would step there one by one.
-pub(crate) fn behind(numbers: &[i64], first: usize) -> &[i64] {
-    if first < numbers.len() {
-        &numbers[first..]
+/// The entry of a list, and this one past its end.
+pub(crate) fn entry_or<T: Copy + Drop>(entries: &[T], i: usize, missing: T) -> T {
+    if i < entries.len() {
+        entries[i]
     } else {
-        &[]
+        missing
     }
 }
 

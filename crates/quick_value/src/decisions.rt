@@ -1,6 +1,5 @@
 //! What a node decides of each cell.
 
-use crate::amounts::put;
 use dual_model::Node;
 use std::alloc::Global;
 use uc_model::{Instance, NoMemory};
@@ -47,24 +46,16 @@ impl Decisions {
 
     /// Whether both are left to the cell of unit g in period t.
     pub fn is_open(&self, g: usize, t: usize) -> bool {
-        match self.rows.get(g) {
-            Some(row) => match row.get(t) {
-                Some(choice) => choice.on && choice.off,
-                None => false,
-            },
-            None => false,
-        }
+        g < self.rows.len() && t < self.rows[g].len() && self.rows[g][t].on && self.rows[g][t].off
     }
 }
 
 // Decides the cell of period t.
 fn decide(row: &mut [Choice], t: usize, on: bool) {
-    let Some(own) = row.get(t) else {
-        return;
-    };
-    let choice = Choice {
-        on: own.on && on,
-        off: own.off && !on,
-    };
-    put(row, t, choice);
+    if t < row.len() {
+        row[t] = Choice {
+            on: row[t].on && on,
+            off: row[t].off && !on,
+        };
+    }
 }

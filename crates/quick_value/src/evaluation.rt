@@ -1,6 +1,6 @@
 //! What an evaluation finds, and how units add to it.
 
-use crate::amounts::{behind, number_at, times};
+use crate::amounts::{number_at, times};
 use crate::caps::Caps;
 use crate::outputs::Output;
 use crate::unit::Unit;
@@ -158,9 +158,9 @@ impl Evaluation {
 // So many watts at each of so many prices of the list from `first` on.
 fn sum_of(prices: &[i64], first: usize, count: usize, watts: i64) -> i128 {
     let mut sum: i128 = 0;
-    for price in behind(prices, first).iter().take(count) {
-        if *price != 0 {
-            sum = sum.saturating_add(times(*price, watts));
+    for i in first..first.saturating_add(count).min(prices.len()) {
+        if prices[i] != 0 {
+            sum = sum.saturating_add(times(prices[i], watts));
         }
     }
     sum

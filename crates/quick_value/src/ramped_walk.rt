@@ -3,8 +3,8 @@
 //! Of each run that goes on the cost so far is kept as a function of the last output. A run is given up where another one that may stop no
 //! later costs no more whatever the output.
 
-use crate::amounts::{HARDLY, PART, number_at, put};
-use crate::cells::Cell;
+use crate::amounts::{HARDLY, PART, entry_or, number_at, put};
+use crate::cells::{Cell, IDLE};
 use crate::decisions::Choice;
 use crate::outputs::{NOTHING, Output};
 use crate::prices::{FREE, Price};
@@ -65,20 +65,12 @@ const NONE: Least = Least {
 impl Task<'_> {
     // The hour of period t under a cap, with an output of at most so much.
     fn hour(&self, cap: &Cap, t: usize, most: i64) -> Hour {
-        let price = if t < self.prices.len() {
-            self.prices[t]
-        } else {
-            FREE
-        };
-        Hour::of(self.unit, cap, &price, most)
+        Hour::of(self.unit, cap, &entry_or(self.prices, t, FREE), most)
     }
 
     // What period t costs at least before a stop.
     fn least_stop(&self, t: usize) -> i128 {
-        match self.cells.get(t) {
-            Some(cell) => i128::from(cell.stop).saturating_mul(PART),
-            None => 0,
-        }
+        cost_of(entry_or(self.cells, t, IDLE).stop)
     }
 }
 
@@ -99,11 +91,11 @@ impl Least {
 impl RampedWalk {
     /// Memory for so many periods. The only error is `NoMemory`.
     pub(crate) fn new(alloc: Global, periods: usize) -> Result<RampedWalk, NoMemory> {
+        let more = periods.saturating_add(1);
         let mut runs = Vec::new(alloc);
-        for _ in 0..=periods {
+        for _ in 0..more {
             runs.push(RunCost::new(alloc))?;
         }
-        let more = periods.saturating_add(1);
         Ok(RampedWalk {
             ways: Ways::new(alloc, periods)?,
             runs,
@@ -166,10 +158,7 @@ impl RampedWalk {
 
     // The run that stands there among those that go on, and no run past them.
     fn run_at(&self, i: usize) -> usize {
-        match self.living.get(i) {
-            Some(run) => *run,
-            None => self.runs.len(),
-        }
+        entry_or(&self.living, i, self.runs.len())
     }
 
     // The period in which a run began.
@@ -331,10 +320,7 @@ impl RampedWalk {
     fn beaten(&self, unit: &Unit, t: usize, run: usize, kept: usize) -> (usize, bool) {
         let mut left = kept;
         for _ in 0..kept {
-            let last = match self.living.get(left.saturating_sub(1)) {
-                Some(last) => *last,
-                None => break,
-            };
+            let last = self.run_at(left.saturating_sub(1));
             if self.is_within(last, run) {
                 return (left, false);
             }
@@ -405,7 +391,7 @@ impl RampedWalk {
             } else if own.on {
                 let end = t.saturating_add(1);
                 run = self.ways.rest_at(end).since.unwrap_or(self.periods());
-                let ending = self.ending_at(end);
+                let ending = entry_or(&self.endings, end, NO_ENDING);
                 own.power = ending.output;
                 before = ending.before;
             }
@@ -414,21 +400,11 @@ impl RampedWalk {
         }
         fill_reserves(outputs, task, stands);
     }
-
-    fn ending_at(&self, end: usize) -> Ending {
-        match self.endings.get(end) {
-            Some(ending) => *ending,
-            None => NO_ENDING,
-        }
-    }
 }
 
 // Whether the unit may rest in period t.
 fn may_rest(choices: &[Choice], t: usize) -> bool {
-    match choices.get(t) {
-        Some(choice) => choice.off,
-        None => false,
-    }
+    t < choices.len() && choices[t].off
 }
 
 // The output nearest to the one at which the cost so far is least from which the next one can be reached.

@@ -266,7 +266,7 @@ impl RunCost {
                 own.width = own.width.saturating_sub(skipped);
                 place = place.saturating_add(skipped);
             }
-            for _ in 0..=other.pieces.len() {
+            for _ in 0..other.pieces.len().saturating_add(1) {
                 if own.width <= 0 {
                     break;
                 }

@@ -1,5 +1,6 @@
 //! Units of the same data. At one list of prices those that are decided alike give the same, and one of them is walked for all.
 
+use crate::amounts::entry_or;
 use crate::decisions::{Choice, Decisions};
 use crate::outputs::{NOTHING, Output};
 use std::alloc::Global;
@@ -45,7 +46,7 @@ impl Twins {
 
     // The kind of a unit that turns out to have a twin.
     fn kind_of(&mut self, alloc: Global, g: usize, periods: usize) -> Result<usize, NoMemory> {
-        if let Some(kind) = self.kind_at(g) {
+        if let Some(kind) = entry_or(&self.kinds, g, None) {
             return Ok(kind);
         }
         let kind = self.found.len();
@@ -60,13 +61,6 @@ impl Twins {
         Ok(kind)
     }
 
-    fn kind_at(&self, g: usize) -> Option<usize> {
-        match self.kinds.get(g) {
-            Some(kind) => *kind,
-            None => None,
-        }
-    }
-
     /// Forgets what was found, since prices have changed.
     pub(crate) fn forget(&mut self) {
         for found in self.found.iter_mut() {
@@ -76,7 +70,7 @@ impl Twins {
 
     /// What was found of a unit like this one that is decided alike.
     pub(crate) fn find(&self, g: usize, decisions: &Decisions) -> Option<&Found> {
-        let found = self.found.get(self.kind_at(g)?)?;
+        let found = self.found.get(entry_or(&self.kinds, g, None)?)?;
         let rows = decisions.rows.as_slice();
         let own = rows.get(g)?;
         let other = rows.get(found.unit?)?;
@@ -89,7 +83,7 @@ impl Twins {
 
     /// Keeps what was found of a unit for others like it, unless this was done of one already.
     pub(crate) fn keep(&mut self, g: usize, amount: i64, outputs: &[Output]) {
-        let Some(kind) = self.kind_at(g) else {
+        let Some(kind) = entry_or(&self.kinds, g, None) else {
             return;
         };
         if kind < self.found.len() && self.found[kind].unit.is_none() {
@@ -144,19 +138,28 @@ fn has_limits_of(unit: &Thermal, other: &Thermal) -> bool {
 }
 
 fn are_points_alike(points: &[Point], others: &[Point]) -> bool {
+    for i in 0..points.len().min(others.len()) {
+        if points[i].mw != others[i].mw || points[i].cost != others[i].cost {
+            return false;
+        }
+    }
     points.len() == others.len()
-        && points.iter().zip(others).all(|(point, other)| point.mw == other.mw
-            && point.cost == other.cost)
 }
 
 fn are_starts_alike(rows: &[StartRow], others: &[StartRow]) -> bool {
+    for i in 0..rows.len().min(others.len()) {
+        if rows[i].lag != others[i].lag || rows[i].cost != others[i].cost {
+            return false;
+        }
+    }
     rows.len() == others.len()
-        && rows.iter().zip(others).all(|(row, other)| row.lag == other.lag
-            && row.cost == other.cost)
 }
 
 fn are_alike(row: &[Choice], other: &[Choice]) -> bool {
+    for t in 0..row.len().min(other.len()) {
+        if row[t].on != other[t].on || row[t].off != other[t].off {
+            return false;
+        }
+    }
     row.len() == other.len()
-        && row.iter().zip(other).all(|(choice, other)| choice.on == other.on
-            && choice.off == other.off)
 }

@@ -2,7 +2,7 @@
 //!
 //! Which runs go on is kept while the periods are walked over, like the rests.
 
-use crate::amounts::{HARDLY, NEVER, amount_at, number_at, put};
+use crate::amounts::{HARDLY, NEVER, amount_at, entry_or, number_at, put};
 use crate::cells::{Cell, IDLE};
 use crate::decisions::Choice;
 use crate::unit::Unit;
@@ -82,7 +82,7 @@ impl Walk {
 
     // The run that begins with the start of this amount in period t.
     fn run(&mut self, start: i64, t: usize) {
-        let cell = self.cell_at(t);
+        let cell = entry_or(&self.cells, t, IDLE);
         let after = number_at(&self.sums, t.saturating_add(1));
         let run = if start < HARDLY && cell.start < HARDLY {
             start.saturating_add(cell.start).saturating_sub(after)
@@ -90,13 +90,6 @@ impl Walk {
             NEVER
         };
         put(&mut self.runs, t, run);
-    }
-
-    fn cell_at(&self, t: usize) -> Cell {
-        match self.cells.get(t) {
-            Some(cell) => *cell,
-            None => IDLE,
-        }
     }
 
     // The run of more than one period that has lasted long enough in period t for the first time.
@@ -118,7 +111,7 @@ impl Walk {
 
     // The least way to a rest behind period t.
     fn stop(&self, unit: &Unit, running: &Running, t: usize) -> Way {
-        let cell = self.cell_at(t);
+        let cell = entry_or(&self.cells, t, IDLE);
         let before = number_at(&self.sums, t);
         let mut way = NO_WAY;
         if cell.stop < HARDLY {

@@ -3,7 +3,7 @@
 //! A run is a stretch of on periods that begins with a start, and a rest one of off periods that begins with a stop. Which rests go on is
 //! kept while the periods are walked over, so that only a warm start looks back, and no farther than its category's lag.
 
-use crate::amounts::{HARDLY, NEVER, amount_at, put};
+use crate::amounts::{HARDLY, NEVER, amount_at, entry_or, put};
 use crate::decisions::Choice;
 use crate::unit::Unit;
 use std::alloc::Global;
@@ -75,10 +75,7 @@ impl Ways {
 
     /// The initial state, and a stop in the first period, where the unit may stop there.
     pub(crate) fn begin(&mut self, unit: &Unit, choices: &[Choice], may_stop: bool) -> Resting {
-        let stops = match choices.first() {
-            Some(first) => first.off && unit.was_on && may_stop,
-            None => false,
-        };
+        let stops = !choices.is_empty() && choices[0].off && unit.was_on && may_stop;
         let rest = if stops && unit.first_stop == 0 {
             Way {
                 amount: 0,
@@ -114,10 +111,7 @@ impl Ways {
 
     /// The way that ends in a rest from this period on.
     pub(crate) fn rest_at(&self, since: usize) -> Way {
-        match self.rests.get(since) {
-            Some(way) => *way,
-            None => NO_WAY,
-        }
+        entry_or(&self.rests, since, NO_WAY)
     }
 
     /// Puts down the least way to a rest from this period on.
@@ -181,13 +175,13 @@ impl Ways {
         if first >= behind {
             return None;
         }
-        let late = match self.late.get(i) {
-            Some(late) if late.least >= first => *late,
-            _ => Late {
+        let mut late = entry_or(&self.late, i, UNSEEN);
+        if late.least < first {
+            late = Late {
                 least: first,
                 behind: first,
-            },
-        };
+            };
+        }
         let mut least = late.least;
         let mut amount = self.rest_at(least).amount;
         for since in late.behind..behind {
@@ -203,10 +197,7 @@ impl Ways {
 
     /// The amount of the least way into a run from period t on.
     pub(crate) fn start_amount(&self, t: usize) -> i64 {
-        match self.starts.get(t) {
-            Some(start) => start.amount,
-            None => NEVER,
-        }
+        entry_or(&self.starts, t, NO_WAY).amount
     }
 
     /// The least amount of a way, on which the unit stands as is put down.
@@ -244,10 +235,7 @@ impl Ways {
             let starts = way.since == Some(t);
             put(&mut self.stands, t, stand_of(starts, stops && t == last));
         }
-        match self.starts.get(way.since?) {
-            Some(start) => start.since,
-            None => None,
-        }
+        entry_or(&self.starts, way.since?, NO_WAY).since
     }
 }
 
