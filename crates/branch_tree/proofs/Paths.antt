@@ -227,12 +227,6 @@ way_on tree wanted reached parent found fixing from up =
       way = up.way ∙ ((λ i. Some (node_of ((same i).fixings ++ reverse found))) ∙ (λ i. Some (node_of (more i))));
     }
 
-pub way_ends : (tree : NumberedTree) (wanted reached : ℕ) (found : List Fixing) → IsNumbered tree → reached ≡ 0 → IsWayUp tree wanted reached found
-    → node_at tree wanted ≡ Some (node_of (reverse found))
-way_ends tree wanted reached found numbered top up =
-    let same = same_Some up.node root (sym up.is_node ∙ (ap (node_at tree) top ∙ root_node tree numbered)) in
-    up.way ∙ (λ i. Some (node_of ((same i).fixings ++ reverse found)))
-
 -- ---- whether some decisions are those of a node
 -- all are those of the one node exactly where the first ones are those of the other
 abbrev pub AreAlike : NumberedTree → ℕ → ℕ → List Fixing → ℕ → Type 0

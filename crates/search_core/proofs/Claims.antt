@@ -10,10 +10,9 @@ use Rattle.branch_tree.specs.TreeView.{IsOpenAt}
 use Rattle.branch_tree.proofs.Changes.{get-set_other, get-append}
 use Rattle.branch_tree.proofs.Subtrees.{one_here, none_here}
 use Rattle.branch_tree.proofs.Grown.{open_numbered}
-use Rattle.search_core.specs.Machine.{Holder, holder_in, IsHeldIn, Desk, no_desk, desk_in, Machine, IsHolding, holder_of}
+use Rattle.search_core.specs.Machine.{Holder, holder_in, IsHeldIn, Desk, no_desk, desk_in, Machine, IsHolding}
 use Rattle.search_core.specs.Orderly.{AreHoldersApart, held_count, times_at, times_in, IsEachTicketOnce, IsOrderly}
-use Rattle.search_core.specs.Steps.{with_desk, with_tickets, with_queued, without_first, first_queued, is_in_hand, taken, Claim, Commit, Look, Pop, Publish, Push, Steal, Event, committed_by, after}
-use Rattle.search_core.specs.Moves.{tickets_of}
+use Rattle.search_core.specs.Steps.{with_desk, with_tickets, with_queued, without_first, first_queued, is_in_hand, taken}
 
 -- ---- reading a list that was changed
 -- an item of a list with one more is one of the list, or the last
@@ -351,17 +350,9 @@ holdable m worker unit node orderly holding =
       tables = omega (arith, some, orderly.amounts.tables);
     }
 
--- ---- No event makes more or fewer desks.
-pub desks_stay : (m : Machine) (event : Event) → length (after m event).desks ≡ length m.desks
-desks_stay m (Claim worker node) = refl
-desks_stay m (Commit worker unit table exact outcome action) = by_holder (holder_of m unit)
-  where
-    by_holder : (holder : Option Holder) → length (committed_by m worker unit table exact outcome action holder).desks ≡ length m.desks
-    by_holder None = refl
-    by_holder (Some holder) =
-        length-set m.desks worker (with_tickets (desk_in m.desks worker) (tickets_of m.tree action))
-desks_stay m (Publish worker cost) = length-set m.desks worker _
-desks_stay m (Look worker) = length-set m.desks worker _
-desks_stay m (Push worker node) = length-set m.desks worker _
-desks_stay m (Pop worker) = length-set _ worker _ ∙ length-set m.desks worker _
-desks_stay m (Steal worker victim) = length-set _ victim _ ∙ length-set m.desks worker _
+-- one node is held by a unit
+pub one_held : (m : Machine) (a b unit one other : ℕ) → IsHolding m a unit one → IsHolding m b unit other → one ≡ other
+one_held m a b unit one other first second =
+    let both : Some (record { worker = a; node = one }) ≡ Some (record { worker = b; node = other }) = sym first ∙ second in
+    let same : record { worker = a; node = one } ≡ record { worker = b; node = other } = cc in
+    ap (λ (h : Holder). h.node) same

@@ -106,16 +106,13 @@ both_grow a b c node first second = record {
 pub tree_grows : (tree : TreeView) (node : ℕ) (stored : Stored) (number : ℕ) (exact : Bool) (outcome : Outcome) (action : Move) → IsSound tree
     → IsOpenAt tree.nodes node → IsFreeFor tree node action
     → Grows tree (tree_after tree node stored number exact outcome action) node (length (tickets_of tree action))
-tree_grows tree node stored number exact outcome Again sound at free = closed_grows tree node (live_leaf stored) sound at
 tree_grows tree node stored number exact outcome (Split g t) sound at free =
     let l = live_leaf stored in
     let first = closed_grows tree node l sound at in
     both_grow tree (closed tree node l) (split (closed tree node l) node g t) node first
     (split_grows (closed tree node l) node g t first.sound (open_again tree node stored sound.placed at)
     (free_again tree node g t l sound.placed at free))
-tree_grows tree node stored number exact outcome (Prune seen) sound at free = closed_grows tree node (bound_leaf stored) sound at
-tree_grows tree node stored number exact outcome Ray sound at free = closed_grows tree node (ray_leaf exact number) sound at
-tree_grows tree node stored number exact outcome Empty sound at free = closed_grows tree node (empty_leaf exact (unit_of outcome)) sound at
+tree_grows tree node stored number exact outcome _ sound at free = closed_grows tree node _ sound at
 
 -- ---- What a move makes of a claim on each leaf: it holds of all leaves again where it holds of the new ones.
 -- the part that an open leaf is
@@ -175,8 +172,6 @@ pub after_holds : (P Q : Node → Leaf → Type 0) → ((n : Node) (l : Leaf) �
     (table : ℕ) (exact : Bool) (outcome : Outcome) (action : Move) → IsSound tree → EachLeaf P root (tree_of tree)
     → HoldsOfNew Q part.part.node stored table exact outcome action
     → EachLeaf Q root (tree_of (tree_after tree number stored table exact outcome action))
-after_holds P Q turn tree number at part stored table exact outcome Again sound each new =
-    closed_holds P Q turn tree number (leaf.Live at.table at.value at.exact) (live_leaf stored) part sound each new
 after_holds P Q turn tree number at part stored table exact outcome (Split g t) sound each new =
     let old = leaf.Live at.table at.value at.exact in
     let l = live_leaf stored in
@@ -189,12 +184,8 @@ after_holds P Q turn tree number at part stored table exact outcome (Split g t) 
     (split_leaf number g t (node_count middle.nodes) (suc (node_count middle.nodes)))
     (record { node = part.part.node; tree = EndAt number l }) l
     (are_apart middle.nodes grown.sound.placed.places grown.sound.placed.are) there refl first (new.1, new.2)
-after_holds P Q turn tree number at part stored table exact outcome (Prune seen) sound each new =
-    closed_holds P Q turn tree number (leaf.Live at.table at.value at.exact) (bound_leaf stored) part sound each new
-after_holds P Q turn tree number at part stored table exact outcome Ray sound each new =
-    closed_holds P Q turn tree number (leaf.Live at.table at.value at.exact) (ray_leaf exact table) part sound each new
-after_holds P Q turn tree number at part stored table exact outcome Empty sound each new =
-    closed_holds P Q turn tree number (leaf.Live at.table at.value at.exact) (empty_leaf exact (unit_of outcome)) part sound each new
+after_holds P Q turn tree number at part stored table exact outcome _ sound each new =
+    closed_holds P Q turn tree number (leaf.Live at.table at.value at.exact) _ part sound each new
 
 -- ---- What a replaced leaf keeps of the paths of a tree: each node that was there has its number again, and what stands there.
 -- ---- paths
@@ -255,38 +246,25 @@ closed_stays tree wanted l sound at number node e =
 pub node_after : (tree : TreeView) (wanted : ℕ) (stored : Stored) (table : ℕ) (exact : Bool) (outcome : Outcome) (action : Move) → IsSound tree
     → IsOpenAt tree.nodes wanted → IsFreeFor tree wanted action → (number : ℕ) (node : Node) → node_at tree.nodes number ≡ Some node
     → node_at (tree_after tree wanted stored table exact outcome action).nodes number ≡ Some node
-node_after tree wanted stored table exact outcome Again sound at free number node e =
-    closed_stays tree wanted (live_leaf stored) sound at number node e
 node_after tree wanted stored table exact outcome (Split g t) sound at free number node e =
     let middle = closed tree wanted (live_leaf stored) in
     let grown = tree_grows tree wanted stored table exact outcome (Split g t) sound at free in
     node_stays middle.nodes wanted (split_leaf wanted g t (node_count middle.nodes) (suc (node_count middle.nodes))) number node (λ x. refl)
     (are_apart (split middle wanted g t).nodes grown.sound.placed.places grown.sound.placed.are)
     (closed_stays tree wanted (live_leaf stored) sound at number node e)
-node_after tree wanted stored table exact outcome (Prune seen) sound at free number node e =
-    closed_stays tree wanted (bound_leaf stored) sound at number node e
-node_after tree wanted stored table exact outcome Ray sound at free number node e =
-    closed_stays tree wanted (ray_leaf exact table) sound at number node e
-node_after tree wanted stored table exact outcome Empty sound at free number node e =
-    closed_stays tree wanted (empty_leaf exact (unit_of outcome)) sound at number node e
+node_after tree wanted stored table exact outcome _ sound at free number node e = closed_stays tree wanted _ sound at number node e
 
 spot_after : (tree : TreeView) (wanted : ℕ) (stored : Stored) (table : ℕ) (exact : Bool) (outcome : Outcome) (action : Move) → IsSound tree
     → IsOpenAt tree.nodes wanted → (number : ℕ) (s : Spot) → number ≢ wanted → spot_at tree.nodes number ≡ Some s
     → spot_at (tree_after tree wanted stored table exact outcome action).nodes number ≡ Some s
-spot_after tree wanted stored table exact outcome Again sound at number s differ e =
-    closed_elsewhere tree.nodes wanted (live_leaf stored) number s sound.placed at differ e
 spot_after tree wanted stored table exact outcome (Split g t) sound at number s differ e =
     let l = live_leaf stored in
     let middle = closed tree wanted l in
     let grown = closed_grows tree wanted l sound at in
     split_elsewhere middle.nodes wanted g t number s grown.sound.placed (open_again tree wanted stored sound.placed at) differ
     (closed_elsewhere tree.nodes wanted l number s sound.placed at differ e)
-spot_after tree wanted stored table exact outcome (Prune seen) sound at number s differ e =
-    closed_elsewhere tree.nodes wanted (bound_leaf stored) number s sound.placed at differ e
-spot_after tree wanted stored table exact outcome Ray sound at number s differ e =
-    closed_elsewhere tree.nodes wanted (ray_leaf exact table) number s sound.placed at differ e
-spot_after tree wanted stored table exact outcome Empty sound at number s differ e =
-    closed_elsewhere tree.nodes wanted (empty_leaf exact (unit_of outcome)) number s sound.placed at differ e
+spot_after tree wanted stored table exact outcome _ sound at number s differ e =
+    closed_elsewhere tree.nodes wanted _ number s sound.placed at differ e
 
 -- a number below the count is that of a part
 part_below : (tree : TreeView) (number : ℕ) → IsSound tree → number < node_count tree.nodes

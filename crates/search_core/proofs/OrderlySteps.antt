@@ -11,13 +11,12 @@ use Rattle.branch_tree.specs.StoredTree.{lesser_bound}
 use Rattle.branch_tree.specs.declared.tree.Leaf.TheVariants as leaf
 use Rattle.branch_tree.proofs.Grown.{open_numbered, root_placed}
 use Rattle.branch_tree.proofs.Subtrees.{one_if}
-use Rattle.search_core.specs.Machine.{Entry, Table, Holder, Desk, Machine, holder_of, IsWorker, desk_in, IsHolding, no_desk, first_desk, start_of}
+use Rattle.search_core.specs.Machine.{Entry, Table, Holder, Desk, Machine, holder_of, IsWorker, desk_in, no_desk, first_desk, start_of}
 use Rattle.search_core.specs.declared.stored.Stored.{Stored}
-use Rattle.search_core.specs.Moves.{Again, Outcome, Split, Move, kept, tree_after, tickets_of, IsFreeFor, IsMoveLegal, children_by}
-use Rattle.search_core.specs.Steps.{Claim, Commit, Look, Pop, Publish, Push, Steal, Event, IsLegal, IsLegalBy, HasSeen, committed, committed_by, after, with_desk, with_tickets, IsClaimable, IsCommittable}
+use Rattle.search_core.specs.Moves.{children_by, Again, Outcome, Split, Move, kept, tree_after, tickets_of, IsFreeFor, IsMoveLegal}
+use Rattle.search_core.specs.Steps.{Claim, Commit, Look, Pop, Publish, Push, Steal, Event, IsLegalBy, committed, committed_by, after, with_desk, with_tickets, IsClaimable}
 use Rattle.search_core.specs.Orderly.{MAX_BUDGET, WHOLE_GAP, IsOrderly, AreHoldersApart, IsEachTicketOnce, held_count, times_at}
-use Rattle.search_core.specs.Fields.{Inside, view_of, IsKept}
-use Rattle.search_core.proofs.Claims.{holder_place, held_push, held_ended, holders_push, holders_ended, times_kept, tickets_queued, tickets_taken, tickets_more, tickets_same, holdable}
+use Rattle.search_core.proofs.Claims.{holder_place, held_push, held_ended, holders_push, holders_ended, times_kept, tickets_queued, tickets_taken, tickets_more, tickets_same}
 use Rattle.search_core.proofs.Growth.{IsSound, tree_grows}
 
 -- ---- the start
@@ -202,38 +201,7 @@ as_large_after m (Commit worker unit table exact outcome action) =
     committed_as_large m worker unit table exact outcome action (holder_of m unit)
 as_large_after m _ = record { units = refl; periods = refl }
 
--- ---- The fields after a step keep what they must.
-pub kept_by : (a b : Inside) (m : Machine) (event : Event) → view_of a ≡ m → IsKept a → IsLegal m event
-    → view_of b ≡ after (view_of a) event → b.count ≡ node_count b.tree.nodes → IsKept b
-kept_by a b m event seen kept legal view count = record {
-  orderly = subst IsOrderly (sym view)
-      (orderly_after HasSeen (view_of a) event kept.orderly (subst (λ (x : Machine). IsLegal x event) (sym seen) legal));
-  count = count;
-}
-
--- ---- How many nodes there are after a commit.
--- a move adds as many nodes, whichever numbers they have
-same_count : (a b c d : ℕ) (action : Move) → length (children_by (a ∷ b ∷ []) action) ≡ length (children_by (c ∷ d ∷ []) action)
+-- ---- a move adds as many nodes, whichever numbers they have
+pub same_count : (a b c d : ℕ) (action : Move) → length (children_by (a ∷ b ∷ []) action) ≡ length (children_by (c ∷ d ∷ []) action)
 same_count a b c d Again = refl
 same_count a b c d _ = refl
-
--- of the node that is held a split is free
-pub free_of_commit : (looked : ℤ → Type 0) (m : Machine) (worker unit node : ℕ) (table : Table) (exact : Bool) (outcome : Outcome) (action : Move)
-    → IsHolding m worker unit node → IsCommittable looked m worker unit table exact outcome action → IsFreeFor m.tree node action
-free_of_commit looked m worker unit node table exact outcome action holding legal =
-    let both : Some (record { worker = worker; node = legal.node }) ≡ Some (record { worker = worker; node = node }) = sym legal.holds ∙ holding in
-    let one : record { worker = worker; node = legal.node } ≡ record { worker = worker; node = node } = cc in
-    subst (λ n. IsFreeFor m.tree n action) (ap (λ (h : Holder). h.node) one)
-    (free_for looked m legal.node table exact outcome action legal.legal)
-
-pub commit_count : (looked : ℤ → Type 0) (m : Machine) (worker unit node : ℕ) (table : Table) (exact : Bool) (outcome : Outcome) (action : Move)
-    (stored : Stored) (number a b : ℕ) (new : TreeView) (children : List ℕ) → IsOrderly m → IsHolding m worker unit node
-    → IsCommittable looked m worker unit table exact outcome action
-    → new ≡ tree_after m.tree node stored number exact outcome action → children ≡ children_by (a ∷ b ∷ []) action
-    → node_count new.nodes ≡ node_count m.tree.nodes + length children
-commit_count looked m worker unit node table exact outcome action stored number a b new children orderly holding legal is added =
-    let held = holdable m worker unit node orderly holding in
-    let grows = tree_grows m.tree node stored number exact outcome action (sound_of m orderly) held.live
-    (free_of_commit looked m worker unit node table exact outcome action holding legal) in
-    ap (λ (t : TreeView). node_count t.nodes) is
-    ∙ (grows.count ∙ ap (λ n. node_count m.tree.nodes + n) (same_count _ _ a b action ∙ ap length (sym added)))

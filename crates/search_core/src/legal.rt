@@ -1,13 +1,10 @@
-//! Which nodes are open, and which moves a commit may make.
+//! Which spots are open leaves, and which outcomes a move may end a claim with.
 
-ghost use Rattle.std.specs.Prelude.{◌≡◌, ◌<◌, ◌↔◌, IsTrue, pos};
-ghost use Rattle.branch_tree.specs.NumberedTree.{node_count};
-ghost use Rattle.branch_tree.specs.TreeView.{IsOpenAt};
-ghost use Rattle.search_core.specs.Machine.{IsLive, IsHeldIn};
+ghost use Rattle.std.specs.Prelude.{◌≡◌, ◌↔◌, IsTrue, pos};
+ghost use Rattle.search_core.specs.Machine.{IsLive};
 ghost use Rattle.search_core.specs.Moves.{IsValue, IsPositive, IsEmpty};
 
-use crate::holder::{Holder, is_held};
-use branch_tree::{Leaf, Outcome, Spot, Tree};
+use branch_tree::{Leaf, Outcome, Spot};
 use dual_model::Table;
 
 /// Whether an open leaf stands there.
@@ -15,18 +12,6 @@ pub fn is_live(spot: &Spot) -> bool
     ensures { IsTrue result ↔ IsLive spot.now }
 {
     matches!(spot, Spot::Leaf(Leaf::Live { .. }))
-}
-
-/// Whether an open leaf has this number, among so many nodes, and isn't held.
-pub(crate) fn is_open(tree: &Tree, count: u32, claims: &[Option<Holder>], node: u32) -> bool
-    requires { count ≡ node_count tree.now.nodes }
-    ensures { IsTrue result ↔ (IsOpenAt tree.now.nodes node × (¬ IsHeldIn claims.now node)) }
-{
-    tree.keeps_cover();
-    if node >= count {
-        return false;
-    }
-    is_live(&tree.node(node)) && !is_held(claims, node)
 }
 
 /// Whether the outcome is a value.

@@ -4,7 +4,8 @@ ghost use Rattle.std.specs.Prelude.{◌≡◌, ◌<◌, length};
 
 use crate::acts::{Act, is_taken, start};
 use branch_tree::Outcome;
-use search_core::{Move, State};
+use search_core::Move;
+use search_state::State;
 use std::alloc::{AllocError, Global};
 use std::test::Fail;
 
