@@ -25,12 +25,12 @@ use Rattle.std.specs.Option.{IfSome}
 use Rattle.branch_tree.specs.declared.tree.Spot.TheVariants as spot
 use Rattle.search_core.specs.Moves.{kept, children_by, tickets_of, IsMoveLegal}
 use Rattle.search_core.specs.declared.event.Move.{Move}
-use Rattle.search_core.specs.declared.event.Move.TheVariants.{Again, Split, Prune, Ray, Empty}
+use Rattle.search_core.specs.declared.event.Move.TheVariants.{Again, Prune}
 use Rattle.search_core.specs.declared.event.Event.TheVariants as event
 use Rattle.search_core.specs.Orderly.{IsOrderly}
 use Rattle.search_core.specs.Runs.{IsTrueOutcome, IsTrueEvent, IsTrueStart, TreeHoldsAt, TreeRunsHold}
 use Rattle.search_core.specs.Steps.{AnyCost, IsLegalBy}
-use Rattle.search_core.proofs.Claims.{IsHoldable, holdable, holder_place}
+use Rattle.search_core.proofs.Claims.{IsHoldable, holdable, holder_place, one_held}
 use Rattle.search_core.proofs.Growth.{tree_grows, leaf_part, holds_of_leaf}
 use Rattle.search_core.proofs.OrderlySteps.{free_for, sound_of}
 use Rattle.book.specs.BookView.{BookView, state_of, opened}
@@ -185,11 +185,8 @@ ended_count claims unit status = length-set claims (unit - 1) (record (claim_of 
 move_legal : (book : BookView) (worker node : ℕ) (table : Table) (exact : Bool) (outcome : Outcome) (action : Move)
     → IsMoveLegal (λ cost. Unit {0}) (state_of book) node table exact outcome action
     → IsMoveLegal (AnyCost (state_of book) worker) (state_of book) node table exact outcome action
-move_legal book worker node table exact outcome Again legal = legal
-move_legal book worker node table exact outcome (Split g t) legal = legal
 move_legal book worker node table exact outcome (Prune seen) legal = (legal.0, record { looked = tt; within = legal.1.within })
-move_legal book worker node table exact outcome Ray legal = legal
-move_legal book worker node table exact outcome Empty legal = legal
+move_legal book worker node table exact outcome _ legal = legal
 
 pub commit_legal : (book : BookView) (worker unit node : ℕ) (given : Node) (table : Table) (exact : Bool) (outcome : Outcome) (action : Move)
     → worker < 256 → IsHolding (state_of book) worker unit node → MayBe book node given table exact outcome action
@@ -210,10 +207,8 @@ commit_true : (instance : Instance) (book : BookView) (worker unit node : ℕ) (
     → IsTrueOutcome exact instance given table outcome
     → IsTrueEvent instance (state_of book) (event.Commit worker unit table exact outcome action)
 commit_true instance book worker unit node given table exact outcome action holds is_node told number found holding is_found =
-    let both : Some (record { worker = worker; node = node }) ≡ Some (record { worker = worker; node = number }) = sym holds ∙ holding in
-    let one : record { worker = worker; node = node } ≡ record { worker = worker; node = number } = cc in
     let here : node_at book.tree.nodes number ≡ Some given =
-    ap (λ n. node_at book.tree.nodes n) (sym (ap (λ (h : Holder). h.node) one)) ∙ is_node in
+    ap (λ n. node_at book.tree.nodes n) (sym (one_held (state_of book) worker worker unit node number holds holding)) ∙ is_node in
     let nodes : Some given ≡ Some found = sym here ∙ is_found in
     let same : given ≡ found = cc in
     subst (λ n. IsTrueOutcome exact instance n table outcome) same told
@@ -303,17 +298,6 @@ pub few_children : (a b : ℕ) (action : Move) → length (children_by (a ∷ b 
 few_children a b Again = omega arith
 few_children a b _ = omega arith
 
-pub same_children : (a b c d : ℕ) (action : Move) → length (children_by (a ∷ b ∷ []) action) ≡ length (children_by (c ∷ d ∷ []) action)
-same_children a b c d Again = refl
-same_children a b c d _ = refl
-
--- a worker holds one node by a unit
-pub holding_same : (m : Machine) (worker unit one other : ℕ) → IsHolding m worker unit one → IsHolding m worker unit other → one ≡ other
-holding_same m worker unit one other first second =
-    let both : Some (record { worker = worker; node = one }) ≡ Some (record { worker = worker; node = other }) = sym first ∙ second in
-    let same : record { worker = worker; node = one } ≡ record { worker = worker; node = other } = cc in
-    ap (λ (h : Holder). h.node) same
-
 pub held_is : (m : Machine) (worker unit node : ℕ) → IsHolding m worker unit node → IsHeldIn m.claims node
 held_is m worker unit node holds =
     let at = holder_place m.claims unit (record { worker = worker; node = node }) holds in
@@ -359,6 +343,12 @@ has_room law opening book rooms worker unit node kept_is holds =
       small = omega (arith, kept_is.tables, kept_is.budget, kept_is.begun.budget);
       room = omega (arith, amounts.room, kept_is.budget, kept_is.begun.budget);
     }
+
+-- the same of what contracts see
+pub room_of : TreeRunsHold → (opening : Opening) (book seen : BookView) (rooms : Rooms) (worker unit node : ℕ) → book ≡ seen → IsKept opening book rooms
+    → IsHolding (state_of seen) worker unit node → HasRoom book rooms node
+room_of law opening book seen rooms worker unit node same kept_is holds =
+    has_room law opening book rooms worker unit node kept_is (subst (λ (b : BookView). IsHolding (state_of b) worker unit node) (sym same) holds)
 
 -- the node that is held stores a table that is there
 pub stored_within : TreeRunsHold → (opening : Opening) (book : BookView) (rooms : Rooms) (worker unit node : ℕ) → IsKept opening book rooms

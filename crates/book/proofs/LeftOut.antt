@@ -111,11 +111,7 @@ weight_after m (event.Commit worker unit table exact outcome action) = by_holder
     by_holder : (holder : Option Holder) → length (committed_by m worker unit table exact outcome action holder).claims ≡ length m.claims + 0
     by_holder None = omega arith
     by_holder (Some holder) = omega (arith, length-set m.claims (unit - 1) None)
-weight_after m (event.Publish worker cost) = omega arith
-weight_after m (event.Look worker) = omega arith
-weight_after m (event.Push worker node) = omega arith
-weight_after m (event.Pop worker) = omega arith
-weight_after m (event.Steal worker victim) = omega arith
+weight_after m _ = omega arith
 
 pub weight_after_all : (m : Machine) (events : List Event) → length (after_all m events).claims ≡ length m.claims + claims_in events
 weight_after_all m [] = omega arith
@@ -133,11 +129,7 @@ stays_after m (event.Commit worker unit table exact outcome action) place e = by
         (λ (same : place ≡ unit - 1). subst (λ i. slice_get (set m.claims i None) place ≡ Some None) same (get-set_same m.claims place None None e))
         (λ (differ : place ≡ unit - 1 → ⊥). get-set_other m.claims (unit - 1) place None None differ e)
         (cases_eq place (unit - 1))
-stays_after m (event.Publish worker cost) place e = e
-stays_after m (event.Look worker) place e = e
-stays_after m (event.Push worker node) place e = e
-stays_after m (event.Pop worker) place e = e
-stays_after m (event.Steal worker victim) place e = e
+stays_after m _ place e = e
 
 stays_after_all : (m : Machine) (events : List Event) (place : ℕ) → slice_get m.claims place ≡ Some None
     → slice_get (after_all m events).claims place ≡ Some None
@@ -153,13 +145,8 @@ state_without place m = renamed (units_of place) (without m.claims place) m.desk
 
 -- the event with other units
 abbrev pub event_anew : (ℕ → ℕ) → Event → Event
-event_anew f (event.Claim worker node) = event.Claim worker node
 event_anew f (event.Commit worker unit table exact outcome action) = event.Commit worker (f unit) table exact outcome action
-event_anew f (event.Publish worker cost) = event.Publish worker cost
-event_anew f (event.Look worker) = event.Look worker
-event_anew f (event.Push worker node) = event.Push worker node
-event_anew f (event.Pop worker) = event.Pop worker
-event_anew f (event.Steal worker victim) = event.Steal worker victim
+event_anew f happens = happens
 
 abbrev pub run_anew : ℕ → List Event → List Event
 run_anew place events = map (event_anew (units_of place)) events
@@ -270,26 +257,9 @@ simulated instance place m (event.Commit worker unit table exact outcome action 
     (true_renamed instance f claims m.desks m worker unit table exact outcome action held legal run.1)
     step
     (simulated instance place (after m now) events run.2 (beside_more place m now events beside))
-simulated instance place m (event.Publish worker cost ∷ events) run beside =
-    let now = event.Publish worker cost in
-    simulated_more instance place m now events run.0 run.1 refl
-    (simulated instance place (after m now) events run.2 (beside_more place m now events beside))
-simulated instance place m (event.Look worker ∷ events) run beside =
-    let now = event.Look worker in
-    simulated_more instance place m now events run.0 run.1 refl
-    (simulated instance place (after m now) events run.2 (beside_more place m now events beside))
-simulated instance place m (event.Push worker node ∷ events) run beside =
-    let now = event.Push worker node in
-    simulated_more instance place m now events run.0 run.1 refl
-    (simulated instance place (after m now) events run.2 (beside_more place m now events beside))
-simulated instance place m (event.Pop worker ∷ events) run beside =
-    let now = event.Pop worker in
-    simulated_more instance place m now events run.0 run.1 refl
-    (simulated instance place (after m now) events run.2 (beside_more place m now events beside))
-simulated instance place m (event.Steal worker victim ∷ events) run beside =
-    let now = event.Steal worker victim in
-    simulated_more instance place m now events run.0 run.1 refl
-    (simulated instance place (after m now) events run.2 (beside_more place m now events beside))
+simulated instance place m (happens ∷ events) run beside =
+    simulated_more instance place m happens events run.0 run.1 refl
+    (simulated instance place (after m happens) events run.2 (beside_more place m happens events beside))
 
 -- ---- runs one after another
 pub after_all-append : (m : Machine) (first events : List Event) → after_all m (first ++ events) ≡ after_all (after_all m first) events

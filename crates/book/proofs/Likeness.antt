@@ -10,13 +10,14 @@ use Rattle.dual_model.specs.declared.table.Table.{Table}
 use Rattle.search_core.specs.declared.holder.Holder.{Holder}
 use Rattle.search_core.specs.declared.desk.Desk.{Desk}
 use Rattle.search_core.specs.Moves.{IsMoveLegal, tickets_of}
-use Rattle.search_core.specs.declared.event.Move.TheVariants.{Again, Split, Prune, Ray, Empty}
+use Rattle.search_core.specs.declared.event.Move.TheVariants.{Again, Prune}
 use Rattle.search_core.specs.declared.event.Move.{Move}
 use Rattle.branch_tree.specs.declared.found.Outcome.{Outcome}
 use Rattle.search_core.specs.Runs.{IsTrueEvent}
 use Rattle.uc_model.specs.declared.instance.Instance.{Instance}
 use Rattle.search_core.specs.Steps.{AnyCost, IsLegalBy, committed, committed_by, after, with_desk, with_tickets}
 use Rattle.search_core.specs.declared.event.Event.TheVariants as event
+use Rattle.search_core.proofs.Claims.{one_held}
 use Rattle.book.specs.Replay.{with_unit}
 
 -- the state with other claims and desks, and with its log's units renamed
@@ -52,11 +53,9 @@ move_renamed f claims desks m worker node table exact outcome Again legal = (
   legal.0,
   subst (λ n. (suc n < 100) ⊎ (¬ HasFreeCell m.tree node)) (sym (count_renamed f m.log node)) legal.1,
 )
-move_renamed f claims desks m worker node table exact outcome (Split g t) legal = legal
 move_renamed f claims desks m worker node table exact outcome (Prune seen) legal =
     (legal.0, record { looked = tt; within = legal.1.within })
-move_renamed f claims desks m worker node table exact outcome Ray legal = legal
-move_renamed f claims desks m worker node table exact outcome Empty legal = legal
+move_renamed f claims desks m worker node table exact outcome _ legal = legal
 
 pub legal_renamed : (f : ℕ → ℕ) (claims : List (Option Holder)) (desks : List Desk) (m : Machine) (worker unit : ℕ) (table : Table)
     (exact : Bool) (outcome : Outcome) (action : Move) → length m.desks ≡ length desks → StillHolds f claims m unit
@@ -83,10 +82,8 @@ pub true_renamed : (instance : Instance) (f : ℕ → ℕ) (claims : List (Optio
     → IsTrueEvent instance (renamed f claims desks m) (event.Commit worker (f unit) table exact outcome action)
 true_renamed instance f claims desks m worker unit table exact outcome action held legal told number node holding is_node =
     let own = legal.1.node in
-    let both : Some (record { worker = worker; node = own }) ≡ Some (record { worker = worker; node = number }) =
-    sym (held (record { worker = worker; node = own }) legal.1.holds) ∙ holding in
-    let one : record { worker = worker; node = own } ≡ record { worker = worker; node = number } = cc in
-    told number node (subst (IsHolding m worker unit) (ap (λ (h : Holder). h.node) one) legal.1.holds) is_node
+    let one = one_held (renamed f claims desks m) worker worker (f unit) own number (held (record { worker = worker; node = own }) legal.1.holds) holding in
+    told number node (subst (IsHolding m worker unit) one legal.1.holds) is_node
 
 -- what the commit leaves, where this holder has the unit
 pub after_commit : (m : Machine) (worker unit node : ℕ) (table : Table) (exact : Bool) (outcome : Outcome) (action : Move)

@@ -1,7 +1,6 @@
 -- The links of the log: with one entry more, and on the walk from entry to entry.
-use Rattle.std.proofs.Common.{◌≡◌, ◌≢◌, ℕ, suc, ◌+◌, ◌<◌, ◌≤◌, Bool, All, List, [], ◌∷◌, ◌++◌, length, set, refl, ap, sym, ◌∙◌, subst, arith, ⊎_elim, Some, slice_get, get_or, replicate, length-append, length-set, ◌==◌, cond, true, false, eq-eqb}
+use Rattle.std.proofs.Common.{◌≡◌, ◌≢◌, ℕ, suc, ◌+◌, ◌<◌, ◌≤◌, Bool, All, List, [], ◌∷◌, ◌++◌, length, set, refl, ap, sym, ◌∙◌, subst, arith, ⊎_elim, Some, slice_get, get_or, length-append, length-set, ◌==◌, cond, true, false, eq-eqb}
 use Rattle.std.proofs.lemmas.Bool.{cases_eq, cases_lt, ne_eqb}
-use Rattle.std.proofs.lemmas.List.{length-replicate, get_or-replicate}
 use Rattle.std.proofs.lemmas.List.Elements.{All-nil, All-cons}
 use Rattle.std.proofs.lemmas.Option.{slice_get_within, slice_get-get_or, get_or_from_slice_get}
 use Rattle.search_core.specs.Machine.{entries_of}
@@ -10,27 +9,6 @@ use Rattle.search_core.proofs.OwnSteps.{entries_own, entries_same, no_entries, a
 use Rattle.book.specs.inside.Chains.{Entry, Table, IsNewest, AreLinked, IsElsewhere, IsWalked}
 
 -- ---- no entry
-pub linked_none : (nodes : ℕ) → AreLinked [] [] (replicate nodes 0) (replicate nodes 0)
-linked_none nodes = record {
-  linked = refl;
-  counted = refl;
-  within = λ place entry e. absurd (cc);
-  latest = λ node link e. record {
-    within = omega (arith, zero_link node link e);
-    own = λ place entry is at. absurd (cc);
-    others = λ place entry low high at. absurd (cc);
-  };
-  earlier = λ place link entry e at. absurd (cc);
-  many = λ node count e. zero_link node count e;
-}
-  where
-    zero_link : (node link : ℕ) → slice_get (replicate nodes 0) node ≡ Some link → link ≡ 0
-    zero_link node link e =
-        let within = slice_get_within (replicate nodes 0) node link e in
-        let size : length (replicate {A = ℕ} nodes 0) ≡ nodes = length-replicate {A = ℕ} nodes 0 in
-        sym (get_or_from_slice_get (replicate nodes 0) node link 0 e)
-        ∙ get_or-replicate nodes node 0 0 (omega (arith, within, size))
-
 -- ---- one entry more
 newest_more : (entries : List Entry) (next : Entry) (bound node link : ℕ) → bound ≤ length entries → IsNewest entries bound node link
     → IsNewest (entries ++ next ∷ []) bound node link
@@ -159,23 +137,6 @@ entry_of P entries node place entry each at own =
     let within = slice_get_within entries place entry at in
     let here = get_or_from_slice_get entries place entry entry at in
     subst P here (all_of_node P entries node each place entry within (ap (λ (x : Entry). x.node) here ∙ own))
-
-pub walk_starts : (entries : List Entry) (tables : List Table) (table : Table) (exact : Bool) (node link : ℕ)
-    → IsNewest entries (length entries) node link → IsWalked entries tables table exact node link
-walk_starts entries tables table exact node link is = record {
-  within = is.within;
-  own = is.own;
-  clear = λ place entry above at own. absurd (is.others place entry above (slice_get_within entries place entry at) at own);
-}
-
--- a node that no entry is of
-pub walk_none : (entries : List Entry) (tables : List Table) (table : Table) (exact : Bool) (node nodes : ℕ) → nodes ≤ node
-    → ((place : ℕ) (entry : Entry) → slice_get entries place ≡ Some entry → entry.node < nodes) → IsWalked entries tables table exact node 0
-walk_none entries tables table exact node nodes past within = record {
-  within = omega arith;
-  own = λ place entry e at. absurd (cc);
-  clear = λ place entry above at own. absurd (omega (arith, within place entry at, own, past));
-}
 
 -- past an entry that isn't at the table
 pub walk_on : (entries : List Entry) (tables : List Table) (table : Table) (exact : Bool) (node place link : ℕ) (entry : Entry)

@@ -1,7 +1,7 @@
 -- Which nodes are held, after one claim more and after one that ended.
-use Rattle.std.proofs.Common.{◌≡◌, ◌≢◌, ℕ, ◌<◌, Bool, true, false, List, [], ◌∷◌, ◌++◌, length, set, refl, ap, sym, ◌∙◌, subst, arith, ⊎_elim, Option, Some, None, slice_get, slice_index_or, get_or-set_same, get_or-set_other, length-set, replicate}
+use Rattle.std.proofs.Common.{◌≡◌, ◌≢◌, ℕ, ◌<◌, Bool, true, false, List, [], ◌∷◌, ◌++◌, length, set, refl, ap, sym, ◌∙◌, subst, arith, ⊎_elim, Option, Some, None, slice_get, slice_index_or, get_or-set_same, get_or-set_other, length-set}
 use Rattle.std.proofs.lemmas.Bool.{cases_eq}
-use Rattle.std.proofs.lemmas.List.{map-append, length-replicate, get_or-replicate}
+use Rattle.std.proofs.lemmas.List.{map-append}
 use Rattle.search_core.specs.Machine.{IsHeldIn}
 use Rattle.search_core.specs.declared.holder.Holder.{Holder}
 use Rattle.search_core.proofs.Claims.{get_push_cases, get_set_cases, held_more, held_new, held_before, still_held, was_held}
@@ -49,17 +49,6 @@ unheld_ended claims place holder once e held = ⊎_elim
     (get_set_cases claims place held.claim None (Some (record { worker = held.worker; node = holder.node })) held.holds)
 
 -- ---- what is noted
-pub noted_none : (nodes : ℕ) → AreNoted [] (replicate nodes false)
-noted_none nodes = record {
-  once = once_none;
-  held = λ node within e.
-      let no_one : slice_index_or (replicate nodes false) node false ≡ false =
-      get_or-replicate nodes node false false (omega (arith, within, length-replicate nodes false)) in
-      let both : false ≡ true = sym no_one ∙ e in
-      absurd (cc);
-  unheld = λ node within e held. let at = held.holds in absurd (cc);
-}
-
 -- the holders of claims with one more
 pub holders_push : (claims : List Claim) (next : Claim) → holders (claims ++ next ∷ []) ≡ holders claims ++ holder_of next ∷ []
 holders_push claims next = map-append holder_of claims (next ∷ [])

@@ -46,6 +46,12 @@ held_still book unit holder holds = holder_anew book.claims unit holder holds
 
 -- ---- a claim
 -- the commits of the log, and its units, whatever claim comes behind the others
+same_unit : (claims : List Claim) (next : Claim) (tables : ℕ) (entry : Entry) → IsMarked claims tables entry
+    → number_of (claims ++ next ∷ []) entry.unit ≡ number_of claims entry.unit
+same_unit claims next tables entry mark =
+    ap (unit_anew entry.unit) (map-append stays claims (next ∷ []))
+    ∙ anew_push entry.unit (are_kept claims) (stays next) (omega (arith, marked_within claims tables entry mark, length-map claims stays))
+
 same_commits : (claims : List Claim) (next : Claim) (tables : List Table) (log : List Entry) → All (IsMarked claims (length tables)) log
     → map (commit_event (claims ++ next ∷ []) tables) log ≡ map (commit_event claims tables) log
 same_commits claims next tables log marked =
@@ -53,20 +59,12 @@ same_commits claims next tables log marked =
     (λ entry mark. λ i. event.Commit entry.worker (same_unit claims next (length tables) entry mark i) (table_at tables entry.table) entry.exact
     entry.outcome
     (push_move claims next (length tables) entry mark i))
-  where
-    same_unit : (claims : List Claim) (next : Claim) (tables : ℕ) (entry : Entry) → IsMarked claims tables entry
-        → number_of (claims ++ next ∷ []) entry.unit ≡ number_of claims entry.unit
-    same_unit claims next tables entry mark =
-        ap (unit_anew entry.unit) (map-append stays claims (next ∷ []))
-        ∙ anew_push entry.unit (are_kept claims) (stays next) (omega (arith, marked_within claims tables entry mark, length-map claims stays))
 
 same_units : (claims : List Claim) (next : Claim) (tables : ℕ) (log : List Entry) → All (IsMarked claims tables) log
     → map (with_unit (number_of (claims ++ next ∷ []))) log ≡ map (with_unit (number_of claims)) log
 same_units claims next tables log marked =
     map_same (with_unit (number_of (claims ++ next ∷ []))) (with_unit (number_of claims)) (IsMarked claims tables) log marked
-    (λ entry mark. ap (λ unit. record entry { unit = unit })
-    (ap (unit_anew entry.unit) (map-append stays claims (next ∷ []))
-    ∙ anew_push entry.unit (are_kept claims) (stays next) (omega (arith, marked_within claims tables entry mark, length-map claims stays))))
+    (λ entry mark. ap (λ unit. record entry { unit = unit }) (same_unit claims next tables entry mark))
 
 pub claimed_replayed : (opening : Opening) (book : BookView) (worker node : ℕ) → IsReplayed opening book → worker < 256
     → length book.claims < book.budget → IsOpen (state_of book) node → IsReplayed opening (claimed book worker node)

@@ -1,163 +1,90 @@
 -- What is held is an open leaf, and there is room for its commit.
-use Rattle.std.proofs.Common.{◌≡◌, ◌+◌, ◌<◌, ap, sym, ◌∙◌, subst, arith}
-use Rattle.std.proofs.Common.{to_z, of_z}
+use Rattle.std.proofs.Common.{◌≡◌, ℕ, ℤ, ◌+◌, ◌<◌, suc, ◌∷◌, ◌++◌, [], length, ap, sym, ◌∙◌, subst, arith, to_z, of_z}
 use Rattle.std.specs.Int.{w64}
 use Rattle.std.proofs.lemmas.Int.{to_z-of_z}
 use Rattle.std.specs.Vec.{vec_capacity}
-use Rattle.search_core.specs.Machine.{IsHolding}
-use Rattle.book.specs.BookView.{BookView, state_of}
-use Rattle.book.specs.inside.Chains.{raised}
-use Rattle.book.specs.inside.Kept.{view_of, rooms_of}
-use Rattle.std.proofs.Common.{suc, ◌∷◌, ◌++◌, [], length}
 use Rattle.branch_tree.specs.NumberedTree.{node_count}
+use Rattle.search_core.specs.Machine.{IsHolding}
 use Rattle.search_core.specs.Moves.{kept, tree_after, tickets_of}
+use Rattle.search_core.proofs.OrderlySteps.{same_count}
+use Rattle.book.specs.BookView.{BookView, state_of}
 use Rattle.book.specs.Calls.{MayBe, committed}
-use Rattle.book.specs.inside.Kept.{IsKept}
-use Rattle.book.proofs.Books.{has_room, run_holds, few_children, same_children, kept_committed}
+use Rattle.book.specs.inside.Chains.{LogView, raised}
+use Rattle.book.specs.inside.Kept.{IsKept, view_of, rooms_of}
+use Rattle.book.proofs.Books.{room_of, run_holds, few_children, kept_committed}
 use Rattle.book.proofs.book.Book.enter.Goals as goal
 
 pub kept-kept-requires : goal.kept-kept-requires
 kept-kept-requires g c =
-    let a = c.self.inside in
-    let book = view_of a.budget a.gap a.tree a.tables.items a.log a.claims in
-    let rooms = rooms_of a.count (vec_capacity a.tables) a.log a.claims in
-    let holds = subst (λ (b : BookView). IsHolding (state_of b) c.args.worker c.args.unit c.args.number) (sym c.self.view_is) c.requires.holds in
-    let room = has_room c.tree_runs_hold.ensures g.C.Case.opening book rooms c.args.worker c.args.unit c.args.number c.self.invariant holds in
-    subst (λ (b : BookView). c.args.number < node_count b.tree.nodes) c.self.view_is room.below
+    subst (λ (b : BookView). c.args.number < node_count b.tree.nodes) c.self.view_is
+    (room_of c.tree_runs_hold.ensures g.C.Case.opening _ _ _ c.args.worker c.args.unit c.args.number c.self.view_is c.self.invariant c.requires.holds).below
 
 pub make-requires-clause-placed : goal.make-requires-clause-placed
 make-requires-clause-placed g c =
-    let a = c.self.inside in
-    let book = view_of a.budget a.gap a.tree a.tables.items a.log a.claims in
-    let rooms = rooms_of a.count (vec_capacity a.tables) a.log a.claims in
-    let holds = subst (λ (b : BookView). IsHolding (state_of b) c.args.worker c.args.unit c.args.number) (sym c.self.view_is) c.requires.holds in
-    let room = has_room c.tree_runs_hold.ensures g.C.Case.opening book rooms c.args.worker c.args.unit c.args.number c.self.invariant holds in
-    (run_holds c.tree_runs_hold.ensures g.C.Case.opening book c.self.invariant.begun c.self.invariant.replayed).1.placed
+    (run_holds c.tree_runs_hold.ensures g.C.Case.opening _ c.self.invariant.begun c.self.invariant.replayed).1.placed
 
 pub make-requires-clause-live : goal.make-requires-clause-live
 make-requires-clause-live g c =
-    let a = c.self.inside in
-    let book = view_of a.budget a.gap a.tree a.tables.items a.log a.claims in
-    let rooms = rooms_of a.count (vec_capacity a.tables) a.log a.claims in
-    let holds = subst (λ (b : BookView). IsHolding (state_of b) c.args.worker c.args.unit c.args.number) (sym c.self.view_is) c.requires.holds in
-    let room = has_room c.tree_runs_hold.ensures g.C.Case.opening book rooms c.args.worker c.args.unit c.args.number c.self.invariant holds in
-    room.live
+    (room_of c.tree_runs_hold.ensures g.C.Case.opening _ _ _ c.args.worker c.args.unit c.args.number c.self.view_is c.self.invariant c.requires.holds).live
 
 pub make-requires-clause-room : goal.make-requires-clause-room
 make-requires-clause-room g c =
-    let a = c.self.inside in
-    let book = view_of a.budget a.gap a.tree a.tables.items a.log a.claims in
-    let rooms = rooms_of a.count (vec_capacity a.tables) a.log a.claims in
-    let holds = subst (λ (b : BookView). IsHolding (state_of b) c.args.worker c.args.unit c.args.number) (sym c.self.view_is) c.requires.holds in
-    let room = has_room c.tree_runs_hold.ensures g.C.Case.opening book rooms c.args.worker c.args.unit c.args.number c.self.invariant holds in
-    room.nodes
+    (room_of c.tree_runs_hold.ensures g.C.Case.opening _ _ _ c.args.worker c.args.unit c.args.number c.self.view_is c.self.invariant c.requires.holds).nodes
 
 pub overflow_add-self : goal.overflow_add-self
 overflow_add-self g c =
-    let a = c.self.inside in
-    let book = view_of a.budget a.gap a.tree a.tables.items a.log a.claims in
-    let rooms = rooms_of a.count (vec_capacity a.tables) a.log a.claims in
-    let holds = subst (λ (b : BookView). IsHolding (state_of b) c.args.worker c.args.unit c.args.number) (sym c.self.view_is) c.requires.holds in
-    let room = has_room c.tree_runs_hold.ensures g.C.Case.opening book rooms c.args.worker c.args.unit c.args.number c.self.invariant holds in
+    let room = (room_of c.tree_runs_hold.ensures g.C.Case.opening _ _ _ c.args.worker c.args.unit c.args.number c.self.view_is c.self.invariant c.requires.holds) in
     record { fits = omega (arith, c.self.invariant.count, room.nodes, room.room, ap length c.children.ensures, few_children 0 0 c.args.action.now) }
 
 pub push_reserved-requires : goal.push_reserved-requires
 push_reserved-requires g c =
-    let a = c.self.inside in
-    let book = view_of a.budget a.gap a.tree a.tables.items a.log a.claims in
-    let rooms = rooms_of a.count (vec_capacity a.tables) a.log a.claims in
-    let holds = subst (λ (b : BookView). IsHolding (state_of b) c.args.worker c.args.unit c.args.number) (sym c.self.view_is) c.requires.holds in
-    let room = has_room c.tree_runs_hold.ensures g.C.Case.opening book rooms c.args.worker c.args.unit c.args.number c.self.invariant holds in
-    omega (arith, room.tables, a.tables.ok.0)
+    let room = (room_of c.tree_runs_hold.ensures g.C.Case.opening _ _ _ c.args.worker c.args.unit c.args.number c.self.view_is c.self.invariant c.requires.holds) in
+    omega (arith, room.tables, c.self.inside.tables.ok.0)
 
 pub push-requires-clause-room : goal.push-requires-clause-room
 push-requires-clause-room g c =
-    let a = c.self.inside in
-    let book = view_of a.budget a.gap a.tree a.tables.items a.log a.claims in
-    let rooms = rooms_of a.count (vec_capacity a.tables) a.log a.claims in
-    let holds = subst (λ (b : BookView). IsHolding (state_of b) c.args.worker c.args.unit c.args.number) (sym c.self.view_is) c.requires.holds in
-    let room = has_room c.tree_runs_hold.ensures g.C.Case.opening book rooms c.args.worker c.args.unit c.args.number c.self.invariant holds in
-    room.log
+    (room_of c.tree_runs_hold.ensures g.C.Case.opening _ _ _ c.args.worker c.args.unit c.args.number c.self.view_is c.self.invariant c.requires.holds).log
 
 pub push-requires-clause-node : goal.push-requires-clause-node
 push-requires-clause-node g c =
-    let a = c.self.inside in
-    let book = view_of a.budget a.gap a.tree a.tables.items a.log a.claims in
-    let rooms = rooms_of a.count (vec_capacity a.tables) a.log a.claims in
-    let holds = subst (λ (b : BookView). IsHolding (state_of b) c.args.worker c.args.unit c.args.number) (sym c.self.view_is) c.requires.holds in
-    let room = has_room c.tree_runs_hold.ensures g.C.Case.opening book rooms c.args.worker c.args.unit c.args.number c.self.invariant holds in
-    room.log_node
+    (room_of c.tree_runs_hold.ensures g.C.Case.opening _ _ _ c.args.worker c.args.unit c.args.number c.self.view_is c.self.invariant c.requires.holds).log_node
 
 pub end-requires-clause-node : goal.end-requires-clause-node
 end-requires-clause-node g c =
-    let a = c.self.inside in
-    let book = view_of a.budget a.gap a.tree a.tables.items a.log a.claims in
-    let rooms = rooms_of a.count (vec_capacity a.tables) a.log a.claims in
-    let holds = subst (λ (b : BookView). IsHolding (state_of b) c.args.worker c.args.unit c.args.number) (sym c.self.view_is) c.requires.holds in
-    let room = has_room c.tree_runs_hold.ensures g.C.Case.opening book rooms c.args.worker c.args.unit c.args.number c.self.invariant holds in
-    room.claims_node
+    (room_of c.tree_runs_hold.ensures g.C.Case.opening _ _ _ c.args.worker c.args.unit c.args.number c.self.view_is c.self.invariant c.requires.holds).claims_node
 
 pub invariant_of-self : goal.invariant_of-self
 invariant_of-self g c =
     let a = c.self.inside in
-    let book = view_of a.budget a.gap a.tree a.tables.items a.log a.claims in
+    let before = view_of a.budget a.gap a.tree a.tables.items a.log a.claims in
     let rooms = rooms_of a.count (vec_capacity a.tables) a.log a.claims in
     let holds = subst (λ (b : BookView). IsHolding (state_of b) c.args.worker c.args.unit c.args.number) (sym c.self.view_is) c.requires.holds in
-    let room = has_room c.tree_runs_hold.ensures g.C.Case.opening book rooms c.args.worker c.args.unit c.args.number c.self.invariant holds in
     let number = c.args.number in
     let table = c.args.table in
     let exact = c.args.exact in
     let outcome = c.args.outcome.now in
     let action = c.args.action.now in
     let may = subst (λ (b : BookView). MayBe b number c.args.node.now table exact outcome action) (sym c.self.view_is) c.requires.may in
-    let made = kept_committed c.tree_runs_hold.ensures g.C.Case.opening book rooms c.args.worker c.args.unit number c.args.node.now table exact outcome
+    let made = kept_committed c.tree_runs_hold.ensures g.C.Case.opening before rooms c.args.worker c.args.unit number c.args.node.now table exact outcome
     action c.self.invariant (omega (arith, c.ranges.worker.fits)) holds may c.requires.told in
     let place : c.len-place.result ≡ length a.tables.items = omega (arith, c.len-place.ensures, a.tables.ok.0) in
-    let stored : c.kept-kept.result ≡ kept (state_of book) number table exact outcome =
+    let stored : c.kept-kept.result ≡ kept (state_of before) number table exact outcome =
     c.kept-kept.ensures ∙ ap (λ (b : BookView). kept (state_of b) number table exact outcome) (sym c.self.view_is) in
-    let tree : c.make.new.tree ≡ tree_after a.tree number (kept (state_of book) number table exact outcome) (length a.tables.items) exact outcome action =
+    let tree : c.make.new.tree ≡ tree_after a.tree number (kept (state_of before) number table exact outcome) (length a.tables.items) exact outcome action =
     c.make.ensures ∙ (λ i. tree_after a.tree number (stored i) (place i) exact outcome action) in
     let passed = to_z w64 (of_z w64 c.k-scale.result) in
     let scale : passed ≡ table.k = to_z-of_z w64 c.k-scale.result (record { sfits = c.k-scale.type_inv }) ∙ c.k-scale.ensures in
-    let log : c.push.new.self ≡ record a.log {
-      entries = a.log.entries ++ (record {
-        unit = c.args.unit;
-        worker = c.args.worker;
-        node = number;
-        table = length a.tables.items;
-        exact = exact;
-        outcome = outcome;
-      }) ∷ [];
-      greatest = raised a.log.greatest number table.k;
-    } =
-    c.push.ensures
-    ∙ ap (λ n. record a.log {
-      entries = a.log.entries ++ (record {
-        unit = c.args.unit;
-        worker = c.args.worker;
-        node = number;
-        table = n;
-        exact = exact;
-        outcome = outcome;
-      }) ∷ [];
-      greatest = raised a.log.greatest number passed;
-    }) place
-    ∙ ap (λ z. record a.log {
-      entries = a.log.entries ++ (record {
-        unit = c.args.unit;
-        worker = c.args.worker;
-        node = number;
-        table = length a.tables.items;
-        exact = exact;
-        outcome = outcome;
-      }) ∷ [];
-      greatest = raised a.log.greatest number z;
-    }) scale in
+    let log_by : ℕ → ℤ → LogView =
+    λ n k. record a.log {
+      entries = a.log.entries ++ (record { unit = c.args.unit; worker = c.args.worker; node = number; table = n; exact = exact; outcome = outcome }) ∷ [];
+      greatest = raised a.log.greatest number k;
+    } in
+    let log : c.push.new.self ≡ log_by (length a.tables.items) table.k = c.push.ensures ∙ (λ i. log_by (place i) (scale i)) in
     let claims = c.end.ensures in
     let count : length c.children.result.now ≡ length (tickets_of a.tree action) =
-    ap length c.children.ensures ∙ same_children 0 0 (node_count a.tree.nodes) (suc (node_count a.tree.nodes)) action in
+    ap length c.children.ensures ∙ same_count 0 0 (node_count a.tree.nodes) (suc (node_count a.tree.nodes)) action in
     let view : view_of a.budget a.gap c.make.new.tree c.push_reserved.new.self.items c.push.new.self c.end.new.self
-    ≡ committed book c.args.worker c.args.unit number table exact outcome action = λ i. record {
+    ≡ committed before c.args.worker c.args.unit number table exact outcome action = λ i. record {
       budget = a.budget;
       gap = a.gap;
       tree = tree i;
@@ -177,4 +104,4 @@ invariant_of-self g c =
     } in
     subst (λ (b : BookView). IsKept g.C.Case.opening b (rooms_of (a.count + length c.children.result.now) (vec_capacity c.push_reserved.new.self)
     c.push.new.self c.end.new.self)) (sym view)
-    (subst (IsKept g.C.Case.opening (committed book c.args.worker c.args.unit number table exact outcome action)) (sym later) made)
+    (subst (IsKept g.C.Case.opening (committed before c.args.worker c.args.unit number table exact outcome action)) (sym later) made)

@@ -4,16 +4,12 @@ use Rattle.std.specs.Vec.{vec_capacity}
 use Rattle.search_core.specs.Machine.{IsHolding}
 use Rattle.book.specs.BookView.{BookView, state_of}
 use Rattle.book.specs.inside.Kept.{ClaimsView, view_of, rooms_of, IsKept}
-use Rattle.book.proofs.Books.{has_room, kept_given_back}
+use Rattle.book.proofs.Books.{room_of, kept_given_back}
 use Rattle.book.proofs.book.Book.give_back.Goals as goal
 
 pub end-requires-clause-node : goal.end-requires-clause-node
 end-requires-clause-node g c =
-    let a = c.self.inside in
-    let book = view_of a.budget a.gap a.tree a.tables.items a.log a.claims in
-    let rooms = rooms_of a.count (vec_capacity a.tables) a.log a.claims in
-    let holds = subst (λ (b : BookView). IsHolding (state_of b) c.args.worker c.args.unit c.args.node) (sym c.self.view_is) c.requires in
-    (has_room c.tree_runs_hold.ensures g.C.Case.opening book rooms c.args.worker c.args.unit c.args.node c.self.invariant holds).claims_node
+    (room_of c.tree_runs_hold.ensures g.C.Case.opening _ _ _ c.args.worker c.args.unit c.args.node c.self.view_is c.self.invariant c.requires).claims_node
 
 pub invariant_of-self : goal.invariant_of-self
 invariant_of-self g c =
