@@ -27,14 +27,20 @@ impl Model for Pool {
     ghost view = { λ pool. pool.seats.items };
 }
 
+/// A new deque.
+fn deque(alloc: Global, room: u64) -> Result<Own, NoMemory>
+    ensures { IfOk result (IsNew room) }
+{
+    Ok(Own::fifo_as(alloc, room as usize)?)
+}
+
 /// A new deque for each worker.
 fn deques(alloc: Global, workers: u8, room: u64) -> Result<Vec<Own>, NoMemory>
     ensures { IfOk result (λ made. (vec_len made ≡ workers) × All (IsNew room) made.items) }
 {
     let mut made = Vec::new(alloc);
     for _ in 0..workers {
-        let own = Own::fifo_as(alloc, room as usize)?;
-        made.push(own)?;
+        made.push(deque(alloc, room)?)?;
     }
     Ok(made)
 }
