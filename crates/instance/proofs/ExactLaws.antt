@@ -11,7 +11,7 @@ use Rattle.instance.specs.Scaled.{MILLION, scaled, is_rounded}
 use Rattle.instance.specs.InstanceOf.{Instance, MAX_PERIODS, MAX_POINTS, MAX_START_ROWS, MAX_TIME, MAX_UNITS, Renewable, Thermal, Pairs, Has, IsObject, IsNumber, IsPowerOf, IsCostOf, IsTimeOf, IsFlagOf, IsPeriodsOf, IsPowersOf, AreRowsOf, IsStartRowOf, IsPointOf, IsRising, IsLimitOf, IsMinimumTimeOf, IsThermalOf, IsRenewableOf, AreUnitsOf, HasFields, IsInstanceOf}
 use Rattle.uc_model.specs.declared.instance.Point.{Point}
 use Rattle.uc_model.specs.declared.instance.StartRow.{StartRow}
-use Rattle.instance.specs.FirstFault.{members_of_value, rounded_value, rounded_field, entries_field, members_field, rounded_array, rounded_start_row, rounded_point, rounded_startup, rounded_points, rounded_outputs, rounded_ramps, rounded_times, rounded_initial, rounded_thermal, rounded_renewable, rounded_thermal_units, rounded_renewable_units, rounded_totals, rounded_instance}
+use Rattle.instance.specs.FirstFault.{members_of_value, rounded_value, rounded_field, entries_field, members_field, rounded_array, rounded_start_row, rounded_point, rounded_startup, rounded_points, rounded_figures, rounded_outputs, rounded_ramps, rounded_times, rounded_initial, rounded_thermal, rounded_renewable, rounded_thermal_units, rounded_renewable_units, rounded_totals, rounded_instance}
 use Rattle.instance.proofs.UnitLaws.{parts_of, from_parts}
 
 -- The first holds exactly where the second does with a count of 0.
@@ -172,10 +172,10 @@ minimum_time_field field ms h = field_agrees field ms (IsMinimumTimeOf true h) (
 })
 
 abbrev thermal_count : Pairs → ℕ
-thermal_count ms = rounded_outputs ms + rounded_ramps ms + rounded_times ms + rounded_initial ms + rounded_startup ms + rounded_points ms
+thermal_count ms = rounded_figures ms + rounded_startup ms + rounded_points ms
 
 thermal_inside : (unit : Thermal) (ms : Pairs) → Agree (IsThermalOf true unit ms) (IsThermalOf false unit ms) (thermal_count ms)
-unfolding rounded_outputs rounded_ramps rounded_times rounded_initial
+unfolding rounded_figures rounded_outputs rounded_ramps rounded_times rounded_initial
 thermal_inside unit ms =
     let outputs = beside (unit.pmin ≤ℤ unit.pmax) (three (flag_field MustRun ms unit.must_run) (limit_field PowerOutputMinimum ms unit.pmin) (power_field PowerOutputMaximum ms unit.pmax)) in
     let ramps = four (limit_field RampUpLimit ms unit.ru) (limit_field RampDownLimit ms unit.rd) (limit_field RampStartupLimit ms unit.su) (limit_field RampShutdownLimit ms unit.sd) in
@@ -186,12 +186,12 @@ thermal_inside unit ms =
     record {
       is = λ h.
           let p = parts_of true unit ms h in
-          let a = all.is ((p.outputs, p.ramps, p.times, p.initial), (p.startup, p.points)) in
-          (from_parts false unit ms (record { outputs = a.0.0.0; ramps = a.0.0.1; times = a.0.0.2; initial = a.0.0.3; startup = a.0.1.0; points = a.0.1.1 }), omega (arith, a.1));
+          let a = all.is (p.figures, (p.startup, p.points)) in
+          (from_parts false unit ms (record { figures = a.0.0; startup = a.0.1.0; points = a.0.1.1 }), omega (arith, a.1));
       again = λ h z.
           let p = parts_of false unit ms h in
-          let a = all.again ((p.outputs, p.ramps, p.times, p.initial), (p.startup, p.points)) (omega (arith, z)) in
-          from_parts true unit ms (record { outputs = a.0.0; ramps = a.0.1; times = a.0.2; initial = a.0.3; startup = a.1.0; points = a.1.1 });
+          let a = all.again (p.figures, (p.startup, p.points)) (omega (arith, z)) in
+          from_parts true unit ms (record { figures = a.0; startup = a.1.0; points = a.1.1 });
     }
 
 thermal_agrees : (unit : Thermal) (v : Value) → Agree (IsObject v (IsThermalOf true unit)) (IsObject v (IsThermalOf false unit)) (rounded_thermal v)

@@ -8,7 +8,7 @@ use Rattle.std.proofs.lemmas.List.{length-map, take-map}
 use Rattle.decimal_json.specs.Value.{Decimal, Value, number, array, object, Items, no_items, item, Members, no_members, member, held_decimal}
 use Rattle.instance.specs.Fields.{Field, key_of, entries_of, pairs_of, entries_in, pairs_in, field_of}
 use Rattle.instance.specs.Scaled.{MILLION, size_of, scaled, is_rounded, wholes_of, is_below_zero, PAST_LIMITS, SaySame, MOST_DIGITS, IsShort, with_numbers, items_with, members_with, AllNumbers, AllItems, AllMembers}
-use Rattle.instance.specs.FirstFault.{Instance, MAX_COST, MAX_PERIODS, MAX_POWER, MAX_TIME, Refusal, ◌>>=◌, refusal, wanted, refused_if, number_at, amount_at, power_at, power_from, cost_at, whole_at, time_at, flag_at, periods_at, entries_at, rows_at, each_at, next_entry, power_entry, powers_at, maximum_entry, start_row, point_row, outputs_at, ramps_at, times_at, initial_at, startup_at, points_at, thermal_at, maxima_at, renewable_at, in_unit, units_at, thermal_member, renewable_member, thermal_units_at, renewable_units_at, totals_at, instance_at, rounded_value, rounded_field, entries_field, members_field, members_of_value, rounded_array, rounded_start_row, rounded_point, rounded_startup, rounded_points, rounded_outputs, rounded_ramps, rounded_times, rounded_initial, rounded_thermal, rounded_renewable, rounded_thermal_units, rounded_renewable_units, rounded_totals, rounded_instance}
+use Rattle.instance.specs.FirstFault.{Instance, MAX_COST, MAX_PERIODS, MAX_POWER, MAX_TIME, Refusal, ◌>>=◌, refusal, wanted, refused_if, number_at, amount_at, power_at, power_from, cost_at, whole_at, time_at, flag_at, periods_at, entries_at, rows_at, each_at, next_entry, power_entry, powers_at, maximum_entry, start_row, point_row, outputs_at, figures_at, ramps_at, times_at, initial_at, startup_at, points_at, thermal_at, maxima_at, renewable_at, in_unit, units_at, thermal_member, renewable_member, thermal_units_at, renewable_units_at, totals_at, instance_at, rounded_value, rounded_field, entries_field, members_field, members_of_value, rounded_array, rounded_start_row, rounded_point, rounded_startup, rounded_points, rounded_outputs, rounded_figures, rounded_ramps, rounded_times, rounded_initial, rounded_thermal, rounded_renewable, rounded_thermal_units, rounded_renewable_units, rounded_totals, rounded_instance}
 use Rattle.instance.specs.declared.fault.Place.{Place}
 use Rattle.uc_model.specs.declared.instance.StartRow.{StartRow}
 use Rattle.uc_model.specs.declared.instance.Point.{Point}
@@ -188,7 +188,7 @@ module _ (f : Decimal → Decimal) (same : Keeps f) where
 
   -- a thermal unit
   thermal_changed : (exact : Bool) (name : List ℕ) (v : Value) → thermal_at exact name (with_numbers f v) ≡ thermal_at exact name v
-  unfolding thermal_at outputs_at ramps_at times_at initial_at startup_at points_at
+  unfolding thermal_at figures_at outputs_at ramps_at times_at initial_at startup_at points_at
   thermal_changed exact name v =
       simp (
         looked_up,
@@ -287,7 +287,7 @@ module _ (f : Decimal → Decimal) (same : Keeps f) where
   point_same v = simp (members_changed, field_same)
 
   thermal_same : (v : Value) → rounded_thermal (with_numbers f v) ≡ rounded_thermal v
-  unfolding rounded_thermal rounded_outputs rounded_ramps rounded_times rounded_initial rounded_startup rounded_points
+  unfolding rounded_thermal rounded_figures rounded_outputs rounded_ramps rounded_times rounded_initial rounded_startup rounded_points
   thermal_same v =
       simp (members_changed, field_same, entries_same, sum_changed rounded_start_row (with_numbers f) start_row_same, sum_changed rounded_point (with_numbers f) point_same)
 

@@ -1,8 +1,10 @@
 -- What a loop over the entries of an array, or over the members of an object, has done up to a place.
-use Rattle.std.proofs.Common.{◌≡◌, ℕ, ◌+◌, ◌*◌, ◌<◌, ◌≤◌, List, [], ◌∷◌, ◌++◌, drop, take, map, length, get_or, Bool, Result, Ok, sum_by, ap, sym, ◌∙◌, arith}
+use Rattle.std.proofs.Common.{◌≡◌, ℕ, ◌+◌, ◌*◌, ◌<◌, ◌≤◌, List, [], ◌∷◌, ◌++◌, drop, take, map, length, get_or, Bool, Result, Ok, sum_by, ap, sym, ◌∙◌, arith, ◌-◌, ℤ, pos, neg_ℤ}
 use Rattle.std.proofs.lemmas.Grind.{common_steps}
-use Rattle.std.proofs.lemmas.List.{drop_more}
-use Rattle.instance.specs.FirstFault.{each_at}
+use Rattle.std.proofs.lemmas.List.{drop_more, length-append}
+use Rattle.std.proofs.Math.Seq.{get_or-append_seam}
+use Rattle.instance.specs.FirstFault.{MAX_POWER, each_at, last_output}
+use Rattle.uc_model.specs.declared.instance.Point.{Point}
 use Rattle.instance.specs.inside.Parts.{Reader, Counts}
 
 -- So many of the items were read, and their rounded numbers counted, at most so many in each.
@@ -28,3 +30,10 @@ read_more view reads rounds each old mid new done grown items index item x h lt 
       rounded = grind (arith, common_steps);
       few = grind (arith, common_steps);
     }
+
+-- a point at the end of a list
+pub last_of : (front : List Point) (p : Point) → last_output (front ++ p ∷ []) ≡ p.mw
+last_of front p =
+    let d : Point = record { mw = neg_ℤ (pos MAX_POWER); cost = pos 0 } in
+    let at_end : length (front ++ p ∷ []) - 1 ≡ length front = omega (arith, length-append front (p ∷ [])) in
+    ap (λ (k : ℕ). (get_or (front ++ p ∷ []) k d).mw) at_end ∙ ap (λ (q : Point). q.mw) (get_or-append_seam front p [] d)

@@ -1,7 +1,7 @@
 -- What is read is as the value says, and what the value says is read: numbers, arrays, rows, units and the instance.
 use Rattle.std.proofs.Common.{◌≡◌, ℕ, Bool, true, false, List, Option, Some, None, Result, Ok, Err, refl, sym, ap, subst, ◌∙◌, zero, suc, ◌*◌, ◌/◌, ◌%◌, ◌≤◌, cond, arith, ◌+◌, ◌-◌, [], ◌∷◌, ◌++◌, length, drop, get_or, append_assoc, take, max, ◌&&◌, ◌||◌, ◌==◌, nat_lt, IsTrue, ℤ, pos, ◌≤ℤ◌, int_lt, unsigned_abs, neg_ℤ, slice_index_or}
 use Rattle.std.specs.Option.{IsSomeAnd}
-use Rattle.instance.specs.FirstFault.{Demand, Instance, MAX_COST, MAX_PERIODS, MAX_POINTS, MAX_POWER, MAX_START_ROWS, MAX_TIME, MAX_UNITS, MustRun, NoField, PiecewiseProduction, PiecewiseProductionCost, PiecewiseProductionMw, PowerOutputMaximum, PowerOutputMinimum, PowerOutputT0, RampDownLimit, RampShutdownLimit, RampStartupLimit, RampUpLimit, Refusal, RenewableGenerators, Reserves, Startup, StartupCost, StartupLag, ThermalGenerators, TimeDownMinimum, TimeDownT0, TimePeriods, TimeUpMinimum, TimeUpT0, UnitOnT0, ◌>>=◌, wanted, refused_if, in_unit, number_at, amount_at, power_at, power_from, cost_at, whole_at, time_at, flag_at, periods_at, each_at, whole, next_entry, field_at, entries_at, rows_at, power_entry, powers_at, maximum_entry, maxima_at, start_row, point_row, startup_at, points_at, thermal_of, object_at, flag_field, time_field, power_field, output_field, outputs_at, ramps_at, times_at, initial_at, thermal_at, renewable_at, outside, units_at, thermal_member, renewable_member, thermal_units_at, renewable_units_at, totals_at, instance_at, last_output}
+use Rattle.instance.specs.FirstFault.{Demand, Instance, MAX_COST, MAX_PERIODS, MAX_POINTS, MAX_POWER, MAX_START_ROWS, MAX_TIME, MAX_UNITS, MustRun, NoField, PiecewiseProduction, PiecewiseProductionCost, PiecewiseProductionMw, PowerOutputMaximum, PowerOutputMinimum, PowerOutputT0, RampDownLimit, RampShutdownLimit, RampStartupLimit, RampUpLimit, Refusal, RenewableGenerators, Reserves, Startup, StartupCost, StartupLag, ThermalGenerators, TimeDownMinimum, TimeDownT0, TimePeriods, TimeUpMinimum, TimeUpT0, UnitOnT0, ◌>>=◌, wanted, refused_if, in_unit, number_at, amount_at, power_at, power_from, cost_at, whole_at, time_at, flag_at, periods_at, each_at, whole, next_entry, field_at, entries_at, rows_at, power_entry, powers_at, maximum_entry, maxima_at, start_row, point_row, startup_at, points_at, thermal_of, object_at, flag_field, time_field, power_field, output_field, outputs_at, ramps_at, times_at, initial_at, figures_at, thermal_at, renewable_at, outside, units_at, thermal_member, renewable_member, thermal_units_at, renewable_units_at, totals_at, instance_at, last_output}
 use Rattle.instance.specs.declared.fault.Place.{Place}
 use Rattle.uc_model.specs.declared.field_refusal.FieldRefusal.{FieldRefusal}
 use Rattle.uc_model.specs.declared.instance.StartRow.{StartRow}
@@ -12,6 +12,7 @@ use Rattle.instance.specs.declared.reader.thermal.Initial.{Initial}
 use Rattle.instance.specs.declared.reader.thermal.Times.{Times}
 use Rattle.instance.specs.declared.reader.thermal.Ramps.{Ramps}
 use Rattle.instance.specs.declared.reader.thermal.Outputs.{Outputs}
+use Rattle.instance.specs.declared.reader.thermal.Figures.{Figures}
 use Rattle.instance.specs.declared.reader.totals.Totals.{Totals}
 use Rattle.uc_model.specs.declared.field.Field.{Field}
 use Rattle.std.proofs.lemmas.Bool.{ltb-false, le-ltb, or_parts, or_from}
@@ -27,6 +28,7 @@ use Rattle.std.specs.List.{AllZip}
 use Rattle.std.proofs.lemmas.List.{append-nil, length-append, length-drop, nil_from_length, length-take}
 use Rattle.std.proofs.Math.Seq.{get_or-append_seam, drop-cons}
 use Rattle.std.proofs.lemmas.Slice.Zip.{AllZip-long}
+use Rattle.instance.proofs.Loops.{last_of}
 use Rattle.instance.proofs.StepLaws.{Exactly, ok_is, bind_ok, told, some_map, some_is, some_split, some_pull, wanted-exactly, refused-exactly, guarded, tested, two-exactly, more-exactly, three-exactly, four-exactly, in_unit-exactly}
 
 -- a number that is exact where it has to be, and what is read of it
@@ -206,12 +208,6 @@ Above_last front p = last_output front ≤ℤ p.mw
 abbrev Rises : ℤ → List Point → Type 0
 Rises least [] = Unit {0}
 Rises least (p ∷ ps) = (least ≤ℤ p.mw) × Rises p.mw ps
-
-last_of : (front : List Point) (p : Point) → last_output (front ++ p ∷ []) ≡ p.mw
-last_of front p =
-    let d : Point = record { mw = neg_ℤ (pos MAX_POWER); cost = pos 0 } in
-    let at_end : length (front ++ p ∷ []) - 1 ≡ length front = omega (arith, length-append front (p ∷ [])) in
-    ap (λ (k : ℕ). (get_or (front ++ p ∷ []) k d).mw) at_end ∙ ap (λ (q : Point). q.mw) (get_or-append_seam front p [] d)
 
 each_rises : (front ps : List Point) → Each Above_last front ps → Rises (last_output front) ps
 each_rises front [] e = tt
@@ -525,7 +521,27 @@ initial-exactly exact ms =
     told parts (λ x. HasInitial exact x ms)
     (λ x w. subst (λ (y : Initial). HasInitial exact y ms) w.2.2.4 (w.1, w.2.1, w.2.2.2, w.2.2.3)) (λ x h. (x.output, h.0, (x.on, h.1, (x.up, x.down, h.2, h.3, refl))))
 
+abbrev pub HasFigures : Bool → Figures → Pairs → Type 0
+HasFigures exact x ms = HasOutputs exact x.outputs ms × HasRamps exact x.ramps ms × HasTimes exact x.times ms × HasInitial exact x.initial ms
+
+figures-exactly : (exact : Bool) (ms : Pairs) → Exactly (figures_at exact ms) (λ x. HasFigures exact x ms)
+unfolding figures_at
+figures-exactly exact ms =
+    let make : Outputs → Ramps → Times → Initial → Figures = λ outputs ramps times initial. record { outputs = outputs; ramps = ramps; times = times; initial = initial } in
+    let parts = four-exactly (outputs-exactly exact ms) (ramps-exactly exact ms) (times-exactly exact ms) (initial-exactly exact ms) make in
+    told parts (λ x. HasFigures exact x ms)
+    (λ x w. subst (λ (y : Figures). HasFigures exact y ms) w.2.2.4 (w.1, w.2.1, w.2.2.2, w.2.2.3)) (λ x h. (x.outputs, h.0, (x.ramps, h.1, (x.times, x.initial, h.2, h.3, refl))))
+
 -- ---- a thermal unit
+
+-- the fields of a unit that are one number
+abbrev pub figures_of : Thermal → Figures
+figures_of unit = record {
+  outputs = record { must_run = unit.must_run; pmin = unit.pmin; pmax = unit.pmax };
+  ramps = record { ru = unit.ru; rd = unit.rd; su = unit.su; sd = unit.sd };
+  times = record { up = unit.ut; down = unit.dt };
+  initial = record { output = unit.p0; on = unit.on0; up = unit.ut0; down = unit.dt0 };
+}
 
 abbrev HasStartup : Bool → List StartRow → Pairs → Type 0
 HasStartup exact rows ms = Has Startup ms (AreRowsOf MAX_START_ROWS (IsStartRowOf exact) rows)
@@ -535,39 +551,33 @@ HasPoints exact points ms = Has PiecewiseProduction ms (AreRowsOf MAX_POINTS (Is
 
 -- what is read of a unit, part after part
 pub record HasParts (exact : Bool) (unit : Thermal) (ms : Pairs) : Type 0 where
-  pub outputs : HasOutputs exact (record { must_run = unit.must_run; pmin = unit.pmin; pmax = unit.pmax }) ms
-  pub ramps : HasRamps exact (record { ru = unit.ru; rd = unit.rd; su = unit.su; sd = unit.sd }) ms
-  pub times : HasTimes exact (record { up = unit.ut; down = unit.dt }) ms
-  pub initial : HasInitial exact (record { output = unit.p0; on = unit.on0; up = unit.ut0; down = unit.dt0 }) ms
+  pub figures : HasFigures exact (figures_of unit) ms
   pub startup : HasStartup exact unit.startup ms
   pub points : HasPoints exact unit.points ms
 
 pub parts_of : (exact : Bool) (unit : Thermal) (ms : Pairs) → IsThermalOf exact unit ms → HasParts exact unit ms
 parts_of exact unit ms h = record {
-  outputs = ((h.must_run, h.minimum, h.maximum), h.range);
-  ramps = (h.ramp_up, h.ramp_down, h.start_limit, h.stop_limit);
-  times = (h.time_up, h.time_down);
-  initial = (h.initial_output, h.initial_on, h.initial_time_up, h.initial_time_down);
+  figures = (((h.must_run, h.minimum, h.maximum), h.range), (h.ramp_up, h.ramp_down, h.start_limit, h.stop_limit), (h.time_up, h.time_down), (h.initial_output, h.initial_on, h.initial_time_up, h.initial_time_down));
   startup = h.startup;
   points = (h.points, h.rising);
 }
 
 pub from_parts : (exact : Bool) (unit : Thermal) (ms : Pairs) → HasParts exact unit ms → IsThermalOf exact unit ms
 from_parts exact unit ms p = record {
-  must_run = p.outputs.0.0;
-  minimum = p.outputs.0.1;
-  maximum = p.outputs.0.2;
-  range = p.outputs.1;
-  ramp_up = p.ramps.0;
-  ramp_down = p.ramps.1;
-  start_limit = p.ramps.2;
-  stop_limit = p.ramps.3;
-  time_up = p.times.0;
-  time_down = p.times.1;
-  initial_output = p.initial.0;
-  initial_on = p.initial.1;
-  initial_time_up = p.initial.2;
-  initial_time_down = p.initial.3;
+  must_run = p.figures.0.0.0;
+  minimum = p.figures.0.0.1;
+  maximum = p.figures.0.0.2;
+  range = p.figures.0.1;
+  ramp_up = p.figures.1.0;
+  ramp_down = p.figures.1.1;
+  start_limit = p.figures.1.2;
+  stop_limit = p.figures.1.3;
+  time_up = p.figures.2.0;
+  time_down = p.figures.2.1;
+  initial_output = p.figures.3.0;
+  initial_on = p.figures.3.1;
+  initial_time_up = p.figures.3.2;
+  initial_time_down = p.figures.3.3;
   startup = p.startup;
   points = p.points.0;
   rising = p.points.1;
@@ -584,22 +594,15 @@ named-exactly {A} name IsUnit kind m read h =
     (λ unit w. some_map (IsUnit unit) (λ ms. IsUnit unit ms × (name unit ≡ m.0)) (pairs_in m.1) (λ ms is. (is, w.0)) w.1))
 
 thermal-exactly : (exact : Bool) (name : List ℕ) (ms : Pairs)
-    → Exactly (outputs_at exact ms >>= λ o. ramps_at exact ms >>= λ r. times_at exact ms >>= λ t. initial_at exact ms >>= λ i. startup_at exact ms >>= λ s. points_at exact ms >>= λ p. Ok (thermal_of name o r t i s p))
-    (λ unit. IsThermalOf exact unit ms × (unit.name ≡ name))
+    → Exactly (figures_at exact ms >>= λ f. startup_at exact ms >>= λ s. points_at exact ms >>= λ p. Ok (thermal_of name f s p)) (λ unit. IsThermalOf exact unit ms × (unit.name ≡ name))
 thermal-exactly exact name ms =
-    let Last = λ (o : Outputs) (r : Ramps) (unit : Thermal). (t : Times) × HasTimes exact t ms × ((i : Initial) × HasInitial exact i ms × ((s : List StartRow) × (p : List Point) × HasStartup exact s ms × HasPoints exact p ms × (thermal_of name o r t i s p ≡ unit))) in
-    let parts = more-exactly (outputs-exactly exact ms) (λ o. ramps_at exact ms >>= λ r. times_at exact ms >>= λ t. initial_at exact ms >>= λ i. startup_at exact ms >>= λ s. points_at exact ms >>= λ p. Ok (thermal_of name o r t i s p))
-    (λ o unit. (r : Ramps) × HasRamps exact r ms × Last o r unit)
-    (λ o _. more-exactly (ramps-exactly exact ms) (λ r. times_at exact ms >>= λ t. initial_at exact ms >>= λ i. startup_at exact ms >>= λ s. points_at exact ms >>= λ p. Ok (thermal_of name o r t i s p))
-    (Last o) (λ r _. four-exactly (times-exactly exact ms) (initial-exactly exact ms) (startup-exactly exact ms) (points-exactly exact ms) (thermal_of name o r))) in
-    told parts (λ unit. IsThermalOf exact unit ms × (unit.name ≡ name))
+    told (three-exactly (figures-exactly exact ms) (λ _ _. startup-exactly exact ms) (λ _ _ _. points-exactly exact ms) (thermal_of name)) (λ unit. IsThermalOf exact unit ms × (unit.name ≡ name))
     (λ unit w.
-    let last = w.2.2.2.2 in
-    subst (λ (u : Thermal). IsThermalOf exact u ms × (u.name ≡ name)) last.4
-    (from_parts exact (thermal_of name w.0 w.2.0 w.2.2.0 w.2.2.2.0 last.0 last.1) ms (record { outputs = w.1; ramps = w.2.1; times = w.2.2.1; initial = w.2.2.2.1; startup = last.2; points = last.3 }), refl))
+    subst (λ (u : Thermal). IsThermalOf exact u ms × (u.name ≡ name)) w.2.4
+    (from_parts exact (thermal_of name w.0 w.2.0 w.2.1) ms (record { figures = w.1; startup = w.2.2; points = w.2.3 }), refl))
     (λ unit w.
     let p = parts_of exact unit ms w.0 in
-    (_, p.outputs, (_, p.ramps, (_, p.times, (_, p.initial, (unit.startup, unit.points, p.startup, p.points, λ i. record unit { name = sym w.1 i }))))))
+    (figures_of unit, p.figures, (unit.startup, unit.points, p.startup, p.points, λ i. record unit { name = sym w.1 i })))
 
 -- ---- a renewable unit
 

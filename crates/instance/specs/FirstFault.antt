@@ -21,6 +21,7 @@ use Rattle.instance.specs.declared.reader.thermal.Outputs.{Outputs}
 use Rattle.instance.specs.declared.reader.thermal.Ramps.{Ramps}
 use Rattle.instance.specs.declared.reader.thermal.Times.{Times}
 use Rattle.instance.specs.declared.reader.thermal.Initial.{Initial}
+use Rattle.instance.specs.declared.reader.thermal.Figures.{Figures}
 
 -- ---- the codes of a refusal, and the kinds of unit in one. Source: the lines I1 to I8 that the program prints
 -- The field is missing.
@@ -191,19 +192,29 @@ abbrev pub maximum_entry : Bool → List ℤ → List ℤ → Value → Result �
 maximum_entry exact minimum front v =
     power_from exact (next_entry PowerOutputMaximum front) (int_max (slice_index_or minimum (length front) (pos 0)) (pos 0)) v
 
+-- a time, a cost and a power with a least one, each at a place of a record
+abbrev pub time_in : Bool → Place → List (List ℕ × Value) → Result ℕ Refusal
+time_in exact place ms = field_at place ms >>= time_at exact place
+
+abbrev pub cost_in : Bool → Place → List (List ℕ × Value) → Result ℤ Refusal
+cost_in exact place ms = field_at place ms >>= cost_at exact place
+
+abbrev pub power_in : Bool → Place → ℤ → List (List ℕ × Value) → Result ℤ Refusal
+power_in exact place least ms = field_at place ms >>= power_from exact place least
+
 unfoldable pub start_row : Bool → List StartRow → Value → Result StartRow Refusal
 start_row exact front v = do
   ms ← object_at (next_entry Startup front) v
-  lag ← field_at (next_entry StartupLag front) ms >>= time_at exact (next_entry StartupLag front)
-  cost ← field_at (next_entry StartupCost front) ms >>= cost_at exact (next_entry StartupCost front)
+  lag ← time_in exact (next_entry StartupLag front) ms
+  cost ← cost_in exact (next_entry StartupCost front) ms
   Ok (record { lag = lag; cost = cost })
 
 -- a point is not below the one before it
 unfoldable pub point_row : Bool → List Point → Value → Result Point Refusal
 point_row exact front v = do
   ms ← object_at (next_entry PiecewiseProduction front) v
-  mw ← field_at (next_entry PiecewiseProductionMw front) ms >>= power_from exact (next_entry PiecewiseProductionMw front) (last_output front)
-  cost ← field_at (next_entry PiecewiseProductionCost front) ms >>= cost_at exact (next_entry PiecewiseProductionCost front)
+  mw ← power_in exact (next_entry PiecewiseProductionMw front) (last_output front) ms
+  cost ← cost_in exact (next_entry PiecewiseProductionCost front) ms
   Ok (record { mw = mw; cost = cost })
 
 -- ---- a thermal unit
@@ -212,10 +223,10 @@ abbrev pub flag_field : Bool → Field → List (List ℕ × Value) → Result B
 flag_field exact field ms = field_at (whole field) ms >>= flag_at exact (whole field)
 
 abbrev pub time_field : Bool → Field → List (List ℕ × Value) → Result ℕ Refusal
-time_field exact field ms = field_at (whole field) ms >>= time_at exact (whole field)
+time_field exact field = time_in exact (whole field)
 
 abbrev pub power_field : Bool → Field → ℤ → List (List ℕ × Value) → Result ℤ Refusal
-power_field exact field least ms = field_at (whole field) ms >>= power_from exact (whole field) least
+power_field exact field = power_in exact (whole field)
 
 -- a power of any sign
 abbrev pub output_field : Bool → Field → List (List ℕ × Value) → Result ℤ Refusal
@@ -261,23 +272,32 @@ points_at exact ms = do
   rows ← rows_at PiecewiseProduction MAX_POINTS ms
   each_at (point_row exact) [] rows
 
+-- the fields that are one number
+unfoldable pub figures_at : Bool → List (List ℕ × Value) → Result Figures Refusal
+figures_at exact ms = do
+  outputs ← outputs_at exact ms
+  ramps ← ramps_at exact ms
+  times ← times_at exact ms
+  initial ← initial_at exact ms
+  Ok (record { outputs = outputs; ramps = ramps; times = times; initial = initial })
+
 -- a unit of its name and its parts
-abbrev pub thermal_of : List ℕ → Outputs → Ramps → Times → Initial → List StartRow → List Point → Thermal
-thermal_of name outputs ramps times initial startup points = record {
+abbrev pub thermal_of : List ℕ → Figures → List StartRow → List Point → Thermal
+thermal_of name figures startup points = record {
   name = name;
-  must_run = outputs.must_run;
-  pmin = outputs.pmin;
-  pmax = outputs.pmax;
-  ru = ramps.ru;
-  rd = ramps.rd;
-  su = ramps.su;
-  sd = ramps.sd;
-  ut = times.up;
-  dt = times.down;
-  p0 = initial.output;
-  on0 = initial.on;
-  ut0 = initial.up;
-  dt0 = initial.down;
+  must_run = figures.outputs.must_run;
+  pmin = figures.outputs.pmin;
+  pmax = figures.outputs.pmax;
+  ru = figures.ramps.ru;
+  rd = figures.ramps.rd;
+  su = figures.ramps.su;
+  sd = figures.ramps.sd;
+  ut = figures.times.up;
+  dt = figures.times.down;
+  p0 = figures.initial.output;
+  on0 = figures.initial.on;
+  ut0 = figures.initial.up;
+  dt0 = figures.initial.down;
   startup = startup;
   points = points;
 }
@@ -285,13 +305,10 @@ thermal_of name outputs ramps times initial startup points = record {
 unfoldable pub thermal_at : Bool → List ℕ → Value → Result Thermal Refusal
 thermal_at exact name v = do
   ms ← object_at (whole NoField) v
-  outputs ← outputs_at exact ms
-  ramps ← ramps_at exact ms
-  times ← times_at exact ms
-  initial ← initial_at exact ms
+  figures ← figures_at exact ms
   startup ← startup_at exact ms
   points ← points_at exact ms
-  Ok (thermal_of name outputs ramps times initial startup points)
+  Ok (thermal_of name figures startup points)
 
 -- ---- a renewable unit
 
@@ -405,10 +422,13 @@ rounded_times ms = rounded_field TimeUpMinimum ms + rounded_field TimeDownMinimu
 unfoldable pub rounded_initial : List (List ℕ × Value) → ℕ
 rounded_initial ms = rounded_field PowerOutputT0 ms + rounded_field UnitOnT0 ms + rounded_field TimeUpT0 ms + rounded_field TimeDownT0 ms
 
+unfoldable pub rounded_figures : List (List ℕ × Value) → ℕ
+rounded_figures ms = rounded_outputs ms + rounded_ramps ms + rounded_times ms + rounded_initial ms
+
 unfoldable pub rounded_thermal : Value → ℕ
 rounded_thermal v =
     let ms = members_of_value v in
-    rounded_outputs ms + rounded_ramps ms + rounded_times ms + rounded_initial ms + rounded_startup ms + rounded_points ms
+    rounded_figures ms + rounded_startup ms + rounded_points ms
 
 unfoldable pub rounded_renewable : ℕ → Value → ℕ
 rounded_renewable periods v =

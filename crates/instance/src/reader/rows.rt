@@ -2,7 +2,7 @@
 
 ghost use Rattle.std.specs.Prelude.{◌≡◌, ◌+◌, ◌*◌, ◌<◌, ◌≤◌, ◌^◌, [], length, map, sum_by, OnOk, List};
 ghost use Rattle.decimal_json.specs.View.{view, pair_view};
-ghost use Rattle.instance.specs.FirstFault.{MAX_POINTS, MAX_START_ROWS, each_at, start_row, point_row, startup_at, points_at, last_output, rounded_start_row, rounded_point, rounded_startup, rounded_points};
+ghost use Rattle.instance.specs.FirstFault.{MAX_POINTS, MAX_START_ROWS, each_at, start_row, point_row, startup_at, points_at, last_output, time_in, cost_in, power_in, rounded_field, rounded_start_row, rounded_point, rounded_startup, rounded_points};
 ghost use Rattle.uc_model.specs.declared.instance.StartRow.{StartRow};
 ghost use Rattle.uc_model.specs.declared.instance.Point.{Point};
 ghost use Rattle.instance.specs.Answer.{Gives};
@@ -58,7 +58,7 @@ impl Reader {
         Ok(points)
     }
 
-    #[tactic(auto, unfolding(crate::specs::FirstFault::start_row, crate::specs::FirstFault::rounded_start_row, crate::specs::FirstFault::rounded_field))]
+    #[tactic(auto, unfolding(crate::specs::FirstFault::start_row, crate::specs::FirstFault::rounded_start_row))]
     fn start_row(&mut self, row: &Json, index: usize) -> Result<StartRow, PlacedFault>
         requires few { index < MAX_START_ROWS }
         requires room { self.old.rounded + 2 < 2 ^ 64 }
@@ -67,13 +67,12 @@ impl Reader {
     {
         let place = Place::entry(Field::Startup, index);
         let members = PlacedValue { value: row, place }.object()?;
-        let lag = self.time(placed::field_at(members, Place::entry(Field::StartupLag, index))?)?;
-        let cost = placed::field_at(members, Place::entry(Field::StartupCost, index))?;
-        let cost = self.amount(cost, MAX_COST)?;
+        let lag = self.time_in(members, Place::entry(Field::StartupLag, index))?;
+        let cost = self.cost_in(members, Place::entry(Field::StartupCost, index))?;
         Ok(StartRow { lag, cost })
     }
 
-    #[tactic(auto, unfolding(crate::specs::FirstFault::point_row, crate::specs::FirstFault::rounded_point, crate::specs::FirstFault::rounded_field))]
+    #[tactic(auto, unfolding(crate::specs::FirstFault::point_row, crate::specs::FirstFault::rounded_point))]
     fn point(&mut self, row: &Json, index: usize, least: i64) -> Result<Point, PlacedFault>
         requires few { index < MAX_POINTS }
         requires room { self.old.rounded + 2 < 2 ^ 64 }
@@ -82,10 +81,43 @@ impl Reader {
     {
         let place = Place::entry(Field::PiecewiseProduction, index);
         let members = PlacedValue { value: row, place }.object()?;
-        let output = placed::field_at(members, Place::entry(Field::PiecewiseProductionMw, index))?;
-        let mw = self.power_from(output, least)?;
-        let cost = placed::field_at(members, Place::entry(Field::PiecewiseProductionCost, index))?;
-        let cost = self.amount(cost, MAX_COST)?;
+        let output = Place::entry(Field::PiecewiseProductionMw, index);
+        let mw = self.power_in(members, output, least)?;
+        let cost = self.cost_in(members, Place::entry(Field::PiecewiseProductionCost, index))?;
         Ok(Point { mw, cost })
+    }
+
+    /// The time at a place of a record.
+    #[tactic(auto, unfolding(crate::specs::FirstFault::rounded_field))]
+    pub(crate) fn time_in(&mut self, members: &[Pair], place: Place) -> Result<u32, PlacedFault>
+        requires { self.old.rounded + 1 < 2 ^ 64 }
+        ensures read { Gives (λ h. h) result (time_in self.old.exact place (map pair_view members.now)) }
+        ensures counted { OnOk result (Counts self.old self.new (rounded_field place.field (map pair_view members.now)) 1) }
+    {
+        self.time(placed::field_at(members, place)?)
+    }
+
+    /// The power at a place of a record, no less than another one.
+    #[tactic(auto, unfolding(crate::specs::FirstFault::rounded_field))]
+    pub(crate) fn power_in(
+        &mut self,
+        members: &[Pair],
+        place: Place,
+        least: i64,
+    ) -> Result<i64, PlacedFault>
+        requires { self.old.rounded + 1 < 2 ^ 64 }
+        ensures read { Gives (λ z. z) result (power_in self.old.exact place least (map pair_view members.now)) }
+        ensures counted { OnOk result (Counts self.old self.new (rounded_field place.field (map pair_view members.now)) 1) }
+    {
+        self.power_from(placed::field_at(members, place)?, least)
+    }
+
+    #[tactic(auto, unfolding(crate::specs::FirstFault::rounded_field))]
+    fn cost_in(&mut self, members: &[Pair], place: Place) -> Result<i64, PlacedFault>
+        requires { self.old.rounded + 1 < 2 ^ 64 }
+        ensures read { Gives (λ z. z) result (cost_in self.old.exact place (map pair_view members.now)) }
+        ensures counted { OnOk result (Counts self.old self.new (rounded_field place.field (map pair_view members.now)) 1) }
+    {
+        self.amount(placed::field_at(members, place)?, MAX_COST)
     }
 }

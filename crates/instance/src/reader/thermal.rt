@@ -2,7 +2,7 @@
 
 ghost use Rattle.std.specs.Prelude.{◌≡◌, ◌+◌, ◌<◌, ◌^◌, map, max, OnOk};
 ghost use Rattle.decimal_json.specs.View.{view, pair_view};
-ghost use Rattle.instance.specs.FirstFault.{power_field, time_field, outputs_at, ramps_at, times_at, initial_at, thermal_at, rounded_field, rounded_outputs, rounded_ramps, rounded_times, rounded_initial, rounded_thermal};
+ghost use Rattle.instance.specs.FirstFault.{flag_field, output_field, power_field, time_field, outputs_at, ramps_at, times_at, initial_at, figures_at, thermal_at, rounded_field, rounded_outputs, rounded_ramps, rounded_times, rounded_initial, rounded_figures, rounded_thermal};
 ghost use Rattle.instance.specs.Answer.{Gives};
 ghost use Rattle.instance.specs.inside.Parts.{Counts, THERMAL_NUMBERS};
 
@@ -47,6 +47,15 @@ struct Initial {
     down: u32,
 }
 
+/// The fields that are one number.
+#[derive(Drop)]
+struct Figures {
+    outputs: Outputs,
+    ramps: Ramps,
+    times: Times,
+    initial: Initial,
+}
+
 impl Reader {
     /// The unit that a value is.
     #[tactic(auto, unfolding(crate::specs::FirstFault::thermal_at, crate::specs::FirstFault::rounded_thermal))]
@@ -62,61 +71,99 @@ impl Reader {
     {
         let place = Place::whole(Field::NoField);
         let members = PlacedValue { value, place }.object()?;
-        let outputs = self.outputs(members)?;
-        let ramps = self.ramps(members)?;
-        let times = self.times(members)?;
-        let initial = self.initial(members)?;
+        let figures = self.figures(members)?;
         let startup = self.startup(alloc, members)?;
         let points = self.points(alloc, members)?;
         Ok(Thermal {
             name: Name::from_string(String::from_str(alloc, name)?),
-            must_run: outputs.must_run,
-            pmin: outputs.pmin,
-            pmax: outputs.pmax,
-            ru: ramps.ru,
-            rd: ramps.rd,
-            su: ramps.su,
-            sd: ramps.sd,
-            ut: times.up,
-            dt: times.down,
-            p0: initial.output,
-            on0: initial.on,
-            ut0: initial.up,
-            dt0: initial.down,
+            must_run: figures.outputs.must_run,
+            pmin: figures.outputs.pmin,
+            pmax: figures.outputs.pmax,
+            ru: figures.ramps.ru,
+            rd: figures.ramps.rd,
+            su: figures.ramps.su,
+            sd: figures.ramps.sd,
+            ut: figures.times.up,
+            dt: figures.times.down,
+            p0: figures.initial.output,
+            on0: figures.initial.on,
+            ut0: figures.initial.up,
+            dt0: figures.initial.down,
             startup: List::from_vec(startup),
             points: List::from_vec(points),
         })
     }
 
+    #[tactic(auto, unfolding(crate::specs::FirstFault::figures_at, crate::specs::FirstFault::rounded_figures))]
+    fn figures(&mut self, members: &[Pair]) -> Result<Figures, PlacedFault>
+        requires { self.old.rounded + 13 < 2 ^ 64 }
+        ensures read { Gives (λ x. x) result (figures_at self.old.exact (map pair_view members.now)) }
+        ensures counted { OnOk result (Counts self.old self.new (rounded_figures (map pair_view members.now)) 13) }
+    {
+        let outputs = self.outputs(members)?;
+        let ramps = self.ramps(members)?;
+        let times = self.times(members)?;
+        let initial = self.initial(members)?;
+        Ok(Figures {
+            outputs,
+            ramps,
+            times,
+            initial,
+        })
+    }
+
     /// The power of a field, no less than another one.
-    #[tactic(auto, unfolding(crate::specs::FirstFault::rounded_field))]
-    fn power_in(&mut self, members: &[Pair], field: Field, least: i64) -> Result<i64, PlacedFault>
+    fn power_field(
+        &mut self,
+        members: &[Pair],
+        field: Field,
+        least: i64,
+    ) -> Result<i64, PlacedFault>
         requires { self.old.rounded + 1 < 2 ^ 64 }
         ensures read { Gives (λ z. z) result (power_field self.old.exact field least (map pair_view members.now)) }
         ensures counted { OnOk result (Counts self.old self.new (rounded_field field (map pair_view members.now)) 1) }
     {
-        self.power_from(placed::field(members, field)?, least)
+        self.power_in(members, Place::whole(field), least)
     }
 
     /// The time of a field.
-    #[tactic(auto, unfolding(crate::specs::FirstFault::rounded_field))]
-    fn time_in(&mut self, members: &[Pair], field: Field) -> Result<u32, PlacedFault>
+    fn time_field(&mut self, members: &[Pair], field: Field) -> Result<u32, PlacedFault>
         requires { self.old.rounded + 1 < 2 ^ 64 }
         ensures read { Gives (λ h. h) result (time_field self.old.exact field (map pair_view members.now)) }
         ensures counted { OnOk result (Counts self.old self.new (rounded_field field (map pair_view members.now)) 1) }
     {
-        self.time(placed::field(members, field)?)
+        self.time_in(members, Place::whole(field))
     }
 
-    #[tactic(auto, unfolding(crate::specs::FirstFault::outputs_at, crate::specs::FirstFault::rounded_outputs, crate::specs::FirstFault::rounded_field))]
+    /// The flag of a field.
+    #[tactic(auto, unfolding(crate::specs::FirstFault::rounded_field))]
+    fn flag_field(&mut self, members: &[Pair], field: Field) -> Result<bool, PlacedFault>
+        requires { self.old.rounded + 1 < 2 ^ 64 }
+        ensures read { Gives (λ b. b) result (flag_field self.old.exact field (map pair_view members.now)) }
+        ensures counted { OnOk result (Counts self.old self.new (rounded_field field (map pair_view members.now)) 1) }
+    {
+        self.flag(placed::field(members, field)?)
+    }
+
+    /// The power of a field, of any sign.
+    #[tactic(auto, unfolding(crate::specs::FirstFault::rounded_field))]
+    fn output_field(&mut self, members: &[Pair], field: Field) -> Result<i64, PlacedFault>
+        requires { self.old.rounded + 1 < 2 ^ 64 }
+        ensures read { Gives (λ z. z) result (output_field self.old.exact field (map pair_view members.now)) }
+        ensures counted { OnOk result (Counts self.old self.new (rounded_field field (map pair_view members.now)) 1) }
+    {
+        self.amount(placed::field(members, field)?, MAX_POWER)
+    }
+
+    #[tactic(auto, unfolding(crate::specs::FirstFault::outputs_at, crate::specs::FirstFault::rounded_outputs))]
     fn outputs(&mut self, members: &[Pair]) -> Result<Outputs, PlacedFault>
         requires { self.old.rounded + 3 < 2 ^ 64 }
         ensures read { Gives (λ x. x) result (outputs_at self.old.exact (map pair_view members.now)) }
         ensures counted { OnOk result (Counts self.old self.new (rounded_outputs (map pair_view members.now)) 3) }
     {
-        let must_run = self.flag(placed::field(members, Field::MustRun)?)?;
-        let pmin = self.power_in(members, Field::PowerOutputMinimum, 0)?;
-        let pmax = self.power_in(members, Field::PowerOutputMaximum, pmin)?;
+        let must_run = self.flag_field(members, Field::MustRun)?;
+        let pmin = self.power_field(members, Field::PowerOutputMinimum, 0)?;
+        let pmax = self.power_field(members, Field::PowerOutputMaximum, pmin)?;
         Ok(Outputs {
             must_run,
             pmin,
@@ -130,10 +177,10 @@ impl Reader {
         ensures read { Gives (λ x. x) result (ramps_at self.old.exact (map pair_view members.now)) }
         ensures counted { OnOk result (Counts self.old self.new (rounded_ramps (map pair_view members.now)) 4) }
     {
-        let ru = self.power_in(members, Field::RampUpLimit, 0)?;
-        let rd = self.power_in(members, Field::RampDownLimit, 0)?;
-        let su = self.power_in(members, Field::RampStartupLimit, 0)?;
-        let sd = self.power_in(members, Field::RampShutdownLimit, 0)?;
+        let ru = self.power_field(members, Field::RampUpLimit, 0)?;
+        let rd = self.power_field(members, Field::RampDownLimit, 0)?;
+        let su = self.power_field(members, Field::RampStartupLimit, 0)?;
+        let sd = self.power_field(members, Field::RampShutdownLimit, 0)?;
         Ok(Ramps { ru, rd, su, sd })
     }
 
@@ -143,24 +190,24 @@ impl Reader {
         ensures read { Gives (λ x. x) result (times_at self.old.exact (map pair_view members.now)) }
         ensures counted { OnOk result (Counts self.old self.new (rounded_times (map pair_view members.now)) 2) }
     {
-        let up = self.time_in(members, Field::TimeUpMinimum)?;
-        let down = self.time_in(members, Field::TimeDownMinimum)?;
+        let up = self.time_field(members, Field::TimeUpMinimum)?;
+        let down = self.time_field(members, Field::TimeDownMinimum)?;
         Ok(Times {
             up: up.max(1),
             down: down.max(1),
         })
     }
 
-    #[tactic(auto, unfolding(crate::specs::FirstFault::initial_at, crate::specs::FirstFault::rounded_initial, crate::specs::FirstFault::rounded_field))]
+    #[tactic(auto, unfolding(crate::specs::FirstFault::initial_at, crate::specs::FirstFault::rounded_initial))]
     fn initial(&mut self, members: &[Pair]) -> Result<Initial, PlacedFault>
         requires { self.old.rounded + 4 < 2 ^ 64 }
         ensures read { Gives (λ x. x) result (initial_at self.old.exact (map pair_view members.now)) }
         ensures counted { OnOk result (Counts self.old self.new (rounded_initial (map pair_view members.now)) 4) }
     {
-        let output = self.amount(placed::field(members, Field::PowerOutputT0)?, MAX_POWER)?;
-        let on = self.flag(placed::field(members, Field::UnitOnT0)?)?;
-        let up = self.time_in(members, Field::TimeUpT0)?;
-        let down = self.time_in(members, Field::TimeDownT0)?;
+        let output = self.output_field(members, Field::PowerOutputT0)?;
+        let on = self.flag_field(members, Field::UnitOnT0)?;
+        let up = self.time_field(members, Field::TimeUpT0)?;
+        let down = self.time_field(members, Field::TimeDownT0)?;
         Ok(Initial {
             output,
             on,
