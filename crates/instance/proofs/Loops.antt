@@ -1,5 +1,5 @@
 -- What a loop over the entries of an array, or over the members of an object, has done up to a place.
-use Rattle.std.proofs.Common.{◌≡◌, ℕ, ◌+◌, ◌*◌, ◌<◌, ◌≤◌, List, [], ◌∷◌, ◌++◌, drop, take, map, length, get_or, Bool, Result, Ok, sum_by, ap, sym, ◌∙◌, arith, ◌-◌, ℤ, pos, neg_ℤ}
+use Rattle.std.proofs.Common.{◌≡◌, ℕ, ◌+◌, ◌*◌, ◌<◌, ◌≤◌, List, [], ◌∷◌, ◌++◌, drop, take, map, length, get_or, Bool, Result, Ok, sum_by, ap, sym, ◌∙◌, arith, ◌-◌, pos, neg_ℤ}
 use Rattle.std.proofs.lemmas.Grind.{common_steps}
 use Rattle.std.proofs.lemmas.List.{drop_more, length-append}
 use Rattle.std.proofs.Math.Seq.{get_or-append_seam}

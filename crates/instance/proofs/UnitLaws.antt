@@ -1,5 +1,5 @@
 -- What is read is as the value says, and what the value says is read: numbers, arrays, rows, units and the instance.
-use Rattle.std.proofs.Common.{◌≡◌, ℕ, Bool, true, false, List, Option, Some, None, Result, Ok, Err, refl, sym, ap, subst, ◌∙◌, zero, suc, ◌*◌, ◌/◌, ◌%◌, ◌≤◌, cond, arith, ◌+◌, ◌-◌, [], ◌∷◌, ◌++◌, length, drop, get_or, append_assoc, take, max, ◌&&◌, ◌||◌, ◌==◌, nat_lt, IsTrue, ℤ, pos, ◌≤ℤ◌, int_lt, unsigned_abs, neg_ℤ, slice_index_or}
+use Rattle.std.proofs.Common.{◌≡◌, ℕ, Bool, true, false, List, Option, Some, None, Result, Ok, Err, refl, sym, ap, subst, ◌∙◌, zero, suc, ◌*◌, ◌/◌, ◌%◌, ◌≤◌, cond, arith, ◌+◌, [], ◌∷◌, ◌++◌, length, drop, get_or, append_assoc, take, max, ◌&&◌, ◌||◌, ◌==◌, nat_lt, IsTrue, ℤ, pos, ◌≤ℤ◌, int_lt, unsigned_abs, neg_ℤ, slice_index_or}
 use Rattle.std.specs.Option.{IsSomeAnd}
 use Rattle.instance.specs.FirstFault.{Demand, Instance, MAX_COST, MAX_PERIODS, MAX_POINTS, MAX_POWER, MAX_START_ROWS, MAX_TIME, MAX_UNITS, MustRun, NoField, PiecewiseProduction, PiecewiseProductionCost, PiecewiseProductionMw, PowerOutputMaximum, PowerOutputMinimum, PowerOutputT0, RampDownLimit, RampShutdownLimit, RampStartupLimit, RampUpLimit, Refusal, RenewableGenerators, Reserves, Startup, StartupCost, StartupLag, ThermalGenerators, TimeDownMinimum, TimeDownT0, TimePeriods, TimeUpMinimum, TimeUpT0, UnitOnT0, ◌>>=◌, wanted, refused_if, in_unit, number_at, amount_at, power_at, power_from, cost_at, whole_at, time_at, flag_at, periods_at, each_at, whole, next_entry, field_at, entries_at, rows_at, power_entry, powers_at, maximum_entry, maxima_at, start_row, point_row, startup_at, points_at, thermal_of, object_at, flag_field, time_field, power_field, output_field, outputs_at, ramps_at, times_at, initial_at, figures_at, thermal_at, renewable_at, outside, units_at, thermal_member, renewable_member, thermal_units_at, renewable_units_at, totals_at, instance_at, last_output}
 use Rattle.instance.specs.declared.fault.Place.{Place}
@@ -26,7 +26,7 @@ use Rattle.instance.specs.InstanceOf.{IsNumber, IsPowerOf, IsCostOf, IsTimeOf, I
 use Rattle.std.specs.Int.{int_max}
 use Rattle.std.specs.List.{AllZip}
 use Rattle.std.proofs.lemmas.List.{append-nil, length-append, length-drop, nil_from_length, length-take}
-use Rattle.std.proofs.Math.Seq.{get_or-append_seam, drop-cons}
+use Rattle.std.proofs.Math.Seq.{drop-cons}
 use Rattle.std.proofs.lemmas.Slice.Zip.{AllZip-long}
 use Rattle.instance.proofs.Loops.{last_of}
 use Rattle.instance.proofs.StepLaws.{Exactly, ok_is, bind_ok, told, some_map, some_is, some_split, some_pull, wanted-exactly, refused-exactly, guarded, tested, two-exactly, more-exactly, three-exactly, four-exactly, in_unit-exactly}
