@@ -197,9 +197,6 @@ number_begins outer front begun filler bs negative ds fs p f w d q g e ascii =
     token_begins outer front begun filler bs (number (decimal_from negative ds fs (is_down p) (written p))) f
     (record { negative = negative; ds = ds; fs = fs; exponent = p; is_whole = w; are_digits = d; is_power = q; value = refl; spelled = g }) e ascii
 
-with_point : (n ds : List ℕ) → ((n ++ ds) ++ 46 ∷ []) ++ 48 ∷ [] ≡ n ++ (ds ++ (46 ∷ 48 ∷ [] ++ []))
-with_point n ds = append_assoc (n ++ ds) (46 ∷ []) (48 ∷ []) ∙ append_assoc n ds (46 ∷ 48 ∷ [])
-
 with_mark : (n ds fs more : List ℕ) → ((n ++ ds) ++ fs) ++ more ≡ n ++ (ds ++ (fs ++ more))
 with_mark n ds fs more = simp append_assoc
 
@@ -210,7 +207,7 @@ numeral_begins outer (zero_first n) front begun bs f t e =
 numeral_begins outer (whole n ds) front begun bs f t e =
     number_begins outer front begun [] bs n ds [] no_power f (open_whole ds t.0) tt tt (append-nil begun ∙ (t.1 ∙ whole_text n ds)) e tt
 numeral_begins outer (point n ds) front begun bs f t e =
-    number_begins outer front begun (48 ∷ []) bs n ds (0 ∷ []) no_power f t.0 (lit< tt, tt) tt (ap (λ x. x ++ 48 ∷ []) t.1 ∙ with_point (negative_text n) (numerals ds)) e (lit< tt, tt)
+    number_begins outer front begun (48 ∷ []) bs n ds (0 ∷ []) no_power f t.0 (lit< tt, tt) tt (ap (λ x. x ++ 48 ∷ []) t.1 ∙ (append_assoc (negative_text n ++ numerals ds) (46 ∷ []) (48 ∷ []) ∙ append_assoc (negative_text n) (numerals ds) (46 ∷ 48 ∷ []))) e (lit< tt, tt)
 numeral_begins outer (fraction n ds fs) front begun bs f t e =
     number_begins outer front begun [] bs n ds fs no_power f t.0 (some_digits fs t.1) tt (append-nil begun ∙ (t.2 ∙ fraction_end n ds fs t.1)) e tt
 numeral_begins outer (mark n ds fs) front begun bs f t e =
@@ -540,9 +537,6 @@ is_no_json bytes k utf8 e s = record {
 arrives : (bytes : List ℕ) (v : Value) → IsText bytes v → whole_outcome bytes ≡ done v
 arrives bytes v t = ⊎_elim (λ e. e) (λ (r : Refuses true (whole_outcome bytes)). absurd (r.limits refl)) (text_arrives true v bytes t.1)
 
-one_value : (v w : Value) → done v ≡ done w → v ≡ w
-one_value v w e = cc
-
 no_value : (k kind : ℕ) (v : Value) → fault k kind ≡ done v → ⊥
 no_value k kind v e = cc
 
@@ -551,7 +545,7 @@ text_clause (Ok j) bytes utf8 g = (utf8, subst (λ (o : Outcome). IsSound bytes 
 text_clause (Err e) bytes utf8 g = tt
 
 pub only_clause : (r : Result Json JsonFault) (bytes : List ℕ) → Gives r (whole_outcome bytes) → (v : Value) → IsText bytes v → MatchResult r (λ j. view j ≡ v) (λ e. e ≡ NoMemory)
-only_clause (Ok j) bytes g v t = one_value (view j) v (sym g ∙ arrives bytes v t)
+only_clause (Ok j) bytes g v t = let same : done (view j) ≡ done v = sym g ∙ arrives bytes v t in cc
 only_clause (Err (At k kind)) bytes g v t = absurd (no_value k kind v (sym g ∙ arrives bytes v t))
 only_clause (Err NoMemory) bytes g v t = refl
 
@@ -571,14 +565,13 @@ not_utf8 bytes at no_text up = inl (refl, no_text, record { utf8 = up.front; lon
 one_place : (at k : ℕ) → (at < k → ⊥) → (k < at → ⊥) → at ≡ k
 one_place at k a b = ⊎_elim (λ (e : at ≡ k). e) (λ o. ⊎_elim (λ (lt : at < k). absurd (a lt)) (λ (lt : k < at). absurd (b lt)) o) (cases_order at k)
 
-same_no_json : (bytes : List ℕ) (at k : ℕ) → IsNoJson bytes at → IsNoJson bytes k → at ≡ k
-same_no_json bytes at k a b = one_place at k (λ lt. a.longest k lt b.within b.begins) (λ lt. b.longest at lt a.within a.begins)
-
 -- what the machine answers where the bytes are no JSON
 no_json_outcome : (bytes : List ℕ) (at : ℕ) (o : Outcome) → IsUtf8 bytes → IsNoJson bytes at → whole_outcome bytes ≡ o → IsSound bytes o → whole_outcome bytes ≡ fault at 2
 no_json_outcome bytes at (done v) utf8 a e s = absurd (a.no_text v (s.0, s.1, s.2, s.3, weaker 0 v s.1 s.4, s.5, s.6))
 no_json_outcome bytes at (fault k kind) utf8 a e (inl s) =
-    let two : whole_outcome bytes ≡ fault k 2 = e ∙ ap (fault k) s.0 in two ∙ ap (λ j. fault j 2) (sym (same_no_json bytes at k a (is_no_json bytes k utf8 two s.1)))
+    let two : whole_outcome bytes ≡ fault k 2 = e ∙ ap (fault k) s.0 in
+    let b = is_no_json bytes k utf8 two s.1 in
+    two ∙ ap (λ j. fault j 2) (sym (one_place at k (λ lt. a.longest k lt b.within b.begins) (λ lt. b.longest at lt a.within a.begins)))
 no_json_outcome bytes at (fault k kind) utf8 a e (inr (inl s)) = absurd (a.shallow k s.1)
 no_json_outcome bytes at (fault k kind) utf8 a e (inr (inr (inl s))) = absurd (a.no_repeat k s.1)
 no_json_outcome bytes at (fault k kind) utf8 a e (inr (inr (inr s))) = absurd (a.no_half k s.1)

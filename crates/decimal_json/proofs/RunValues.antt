@@ -259,9 +259,7 @@ unfolding pair_step
 pair_other outer p t back u v e = rw e refl
 
 no_such_letter : (l b : ℕ) → short_escape l ≡ Some b → l ≡ 117 → ⊥
-no_such_letter l b e is = none_some b (sym (ap short_escape is) ∙ e) where
-  none_some : (b : ℕ) → None ≡ Some b → ⊥
-  none_some b f = cc
+no_such_letter l b e is = let none : None ≡ Some b = sym (ap short_escape is) ∙ e in cc
 
 high_not_low : (u : ℕ) → is_high_surrogate u ≡ true → is_low_surrogate u ≡ false
 high_not_low u e = ⊎_elim (λ (f : is_low_surrogate u ≡ true). absurd (false≢true (sym (low_not_high u f) ∙ e))) (λ (f : is_low_surrogate u ≡ false). f) (cases_Bool (is_low_surrogate u))

@@ -23,13 +23,12 @@ letter_read bytes at i letters outer v lt e =
     ap (λ ls. scan bytes at outer (awaited v ls)) (byte_and_rest letters i lt)
     ∙ moved bytes at (get_or letters i 0) outer (literal v (get_or letters i 0 ∷ drop (i + 1) letters)) outer (awaited v (drop (i + 1) letters)) e (rw (eq-eqb (get_or letters i 0) (get_or letters i 0) refl) refl)
 
-misses : (bytes : List ℕ) (at l : ℕ) (outer : List Frame) (v : Value) (ls : List ℕ) → FailsAt (λ c. c == l) bytes at → scan bytes at outer (literal v (l ∷ ls)) ≡ fault at 2
-unfolding finish step literal_step
-misses bytes at l outer v ls fails = fails_there bytes at at 2 outer (literal v (l ∷ ls)) (λ c. c == l) fails refl (λ c e. rw e refl)
-
 pub letter_missing : (bytes : List ℕ) (at i : ℕ) (letters : List ℕ) (outer : List Frame) (v : Value) → i < length letters → FailsAt (λ c. c == get_or letters i 0) bytes at
     → scan bytes at outer (awaited v (drop i letters)) ≡ fault at 2
-letter_missing bytes at i letters outer v lt fails = ap (λ ls. scan bytes at outer (awaited v ls)) (byte_and_rest letters i lt) ∙ misses bytes at (get_or letters i 0) outer v (drop (i + 1) letters) fails
+unfolding finish step literal_step
+letter_missing bytes at i letters outer v lt fails =
+    ap (λ ls. scan bytes at outer (awaited v ls)) (byte_and_rest letters i lt)
+    ∙ fails_there bytes at at 2 outer (literal v (get_or letters i 0 ∷ drop (i + 1) letters)) (λ c. c == get_or letters i 0) fails refl (λ c e. rw e refl)
 
 -- what a first byte leads to
 abbrev pub Led : List ℕ → ℕ → ℕ → Spot → Type 0
@@ -54,27 +53,20 @@ text_behind source start end t led r = λ outer. led outer ∙ r outer for_value
 pub text_breaks : (source : List ℕ) (start : ℕ) (e : JsonFault) → BreaksText source (start + 1) e → Breaks source (start + 1) (quoted for_value (plain [])) e
 text_breaks source start e b = λ outer. b outer for_value
 
-fails_to_begin : (at c : ℕ) (outer : List Frame) → is_space c ≡ false → (c ≡ 34 → ⊥) → (c ≡ 91 → ⊥) → (c ≡ 123 → ⊥) → (c ≡ 116 → ⊥) → (c ≡ 102 → ⊥)
-    → (c ≡ 110 → ⊥) → (c ≡ 45 → ⊥) → is_digit c ≡ false → step at outer wanted c ≡ stop at 2
-unfolding step begin_step
-fails_to_begin at c outer space q b o t f n m d =
-    rw (space, ne_eqb c 34 q, ne_eqb c 91 b, ne_eqb c 123 o, ne_eqb c 116 t, ne_eqb c 102 f, ne_eqb c 110 n, ne_eqb c 45 m, ne_eqb c 48 (λ e. false≢true (sym d ∙ ap is_digit e)), d) refl
-
 -- a byte with which no value begins
 pub no_value : (source : List ℕ) (start c : ℕ) (e : JsonFault) → e ≡ At start 2 → StandsAt source start c → is_space c ≡ false → (c ≡ 34 → ⊥) → (c ≡ 91 → ⊥) → (c ≡ 123 → ⊥) → (c ≡ 116 → ⊥) → (c ≡ 102 → ⊥)
     → (c ≡ 110 → ⊥) → (c ≡ 45 → ⊥) → is_digit c ≡ false → Breaks source start wanted e
+unfolding step begin_step
 no_value source start c e is stands space q b o t f n m d = λ outer. subst (λ (e : JsonFault). Leads e (scan source start outer wanted)) (sym is)
     (stopped source start c outer wanted start 2 stands (stops outer)) where
       stops : (outer : List Frame) → step start outer wanted c ≡ stop start 2
-      stops outer = fails_to_begin start c outer space q b o t f n m d
-
--- the byte that stands at a place, by its index
-pub stands_index : (bytes : List ℕ) (at c : ℕ) → at < length bytes → StandsAt bytes at c → get_or bytes at 0 ≡ c
-stands_index bytes at c lt e = let f = byte_and_rest bytes at lt in cc
+      stops outer = rw (space, ne_eqb c 34 q, ne_eqb c 91 b, ne_eqb c 123 o, ne_eqb c 116 t, ne_eqb c 102 f, ne_eqb c 110 n, ne_eqb c 45 m, ne_eqb c 48 (λ e. false≢true (sym d ∙ ap is_digit e)), d) refl
 
 -- behind an ASCII byte a text may be cut
 pub boundary_behind : (source : List ℕ) (at c : ℕ) → IsUtf8 source → at < length source → StandsAt source at c → c < 128 → IsCharBoundary source (at + 1)
-boundary_behind source at c utf8 lt e low = IsCharBoundary-after_ascii source at utf8 lt (omega (arith, stands_index source at c lt e))
+boundary_behind source at c utf8 lt e low =
+    let here : get_or source at 0 ≡ c = let f = byte_and_rest source at lt in cc in
+    IsCharBoundary-after_ascii source at utf8 lt (omega (arith, here))
 
 -- a value, as it is seen in memory
 pub as_viewed : (source : List ℕ) (start end : ℕ) (v w : Value) → w ≡ v → Reads source start wanted end v → Reads source start wanted end w
