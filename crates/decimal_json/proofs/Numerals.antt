@@ -238,10 +238,6 @@ pub plain_quote : (at : ℕ) (outer : List Frame) (p : Purpose) (t : List ℕ) �
 unfolding step quoted_step
 plain_quote at outer p t = refl
 
-pub text_ends : (bytes : List ℕ) (at : ℕ) (outer : List Frame) (p : Purpose) (t : List ℕ) → drop at bytes ≡ [] → scan bytes at outer (quoted p (plain t)) ≡ fault at 2
-unfolding finish
-text_ends bytes at outer p t e = finished bytes at outer (quoted p (plain t)) e
-
 plain_control : (at c : ℕ) (outer : List Frame) (p : Purpose) (t : List ℕ) → is_plain c ≡ false → (c ≡ 34 → ⊥) → (c ≡ 92 → ⊥) → step at outer (quoted p (plain t)) c ≡ stop at 2
 unfolding step quoted_step
 plain_control at c outer p t e no_quote no_backslash =
@@ -249,11 +245,6 @@ plain_control at c outer p t e no_quote no_backslash =
     let b : (c == 92) ≡ false = ne_eqb c 92 no_backslash in
     let low : nat_le 32 c ≡ false = rw (a, b) at e in
     rw (a, b, low) refl
-
-pub control_breaks : (bytes : List ℕ) (at c : ℕ) (outer : List Frame) (p : Purpose) (t : List ℕ) → StandsAt bytes at c → FailsAt is_plain bytes at → (c ≡ 34 → ⊥) → (c ≡ 92 → ⊥)
-    → scan bytes at outer (quoted p (plain t)) ≡ fault at 2
-control_breaks bytes at c outer p t e fails no_quote no_backslash =
-    stopped bytes at c outer (quoted p (plain t)) at 2 e (plain_control at c outer p t (fails c (drop (at + 1) bytes) e) no_quote no_backslash)
 
 -- the text so far, up to a place
 pub record HasRead (bytes : List ℕ) (start at : ℕ) (t : List ℕ) : Type 0 where
@@ -272,16 +263,20 @@ reaches bytes source start at end t more new e r f g h = subst (λ (s : List ℕ
     (λ i outer p. r.same outer p ∙ (f outer p t ∙ ap (λ xs. scan bytes end outer (quoted p (plain xs))) (sym (h ∙ ap (λ xs. t ++ xs) i)))) g
 
 pub ends_early : (bytes source : List ℕ) (start end : ℕ) (t : List ℕ) (e : JsonFault) → bytes ≡ source → Reaches source start end t → e ≡ At end 2 → drop end bytes ≡ [] → BreaksText source start e
+unfolding finish
 ends_early bytes source start end t e same r is none = λ outer p. subst (λ (e : JsonFault). Leads e (scan source start outer (quoted p (plain [])))) (sym is)
-    (r outer p ∙ text_ends source end outer p t (subst (λ (s : List ℕ). drop end s ≡ []) same none))
+    (r outer p ∙ finished source end outer (quoted p (plain t)) (subst (λ (s : List ℕ). drop end s ≡ []) same none))
 
 pub ends_well : (bytes source : List ℕ) (start end c : ℕ) (t : List ℕ) → bytes ≡ source → Reaches source start end t → StandsAt bytes end c → c ≡ 34 → ReadsText source start (end + 1) t
 ends_well bytes source start end c t same r f is = λ outer p. r outer p ∙ (stepped source end 34 outer (quoted p (plain t)) (subst (λ (b : ℕ). StandsAt source end b) is (subst (λ (s : List ℕ). StandsAt s end c) same f)) ∙ ap (resumed source (end + 1)) (plain_quote end outer p t))
 
 pub ends_badly : (bytes source : List ℕ) (start end c : ℕ) (t : List ℕ) (e : JsonFault) → bytes ≡ source → Reaches source start end t → e ≡ At end 2 → StandsAt bytes end c → FailsAt is_plain bytes end
     → (c ≡ 34 → ⊥) → (c ≡ 92 → ⊥) → BreaksText source start e
-ends_badly bytes source start end c t e same r is f fails a b = λ outer p. subst (λ (e : JsonFault). Leads e (scan source start outer (quoted p (plain [])))) (sym is)
-    (r outer p ∙ control_breaks source end c outer p t (subst (λ (s : List ℕ). StandsAt s end c) same f) (subst (λ (s : List ℕ). FailsAt is_plain s end) same fails) a b)
+ends_badly bytes source start end c t e same r is f fails a b = λ outer p.
+    let stands : StandsAt source end c = subst (λ (s : List ℕ). StandsAt s end c) same f in
+    let no_plain : FailsAt is_plain source end = subst (λ (s : List ℕ). FailsAt is_plain s end) same fails in
+    subst (λ (e : JsonFault). Leads e (scan source start outer (quoted p (plain [])))) (sym is)
+    (r outer p ∙ stopped source end c outer (quoted p (plain t)) end 2 stands (plain_control end c outer p t (no_plain c (drop (end + 1) source) stands) a b))
 
 pub escape_ends : (bytes source : List ℕ) (start end : ℕ) (t : List ℕ) (e : JsonFault) → bytes ≡ source → Reaches source start end t → BreaksEscape bytes end e → BreaksText source start e
 escape_ends bytes source start end t e same r broken = λ outer p. subst (λ (o : Outcome). Leads e o) (sym (r outer p))
@@ -320,11 +315,6 @@ unit_fails : (bytes : List ℕ) (outer : List Frame) (p : Purpose) (t : List ℕ
     → scan bytes at outer (quoted p (unit t back h)) ≡ fault at 2
 unfolding step quoted_step finish
 unit_fails bytes outer p t back at h fails = fails_there bytes at at 2 outer (quoted p (unit t back h)) is_hex fails refl (λ c e. rw e refl)
-
-second_fails : (bytes : List ℕ) (outer : List Frame) (p : Purpose) (t : List ℕ) (back u at : ℕ) (h : Hex) → FailsAt is_hex bytes at
-    → scan bytes at outer (quoted p (high_unit t back u h)) ≡ fault back 5
-unfolding step quoted_step finish
-second_fails bytes outer p t back u at h fails = fails_there bytes at back 5 outer (quoted p (high_unit t back u h)) is_hex fails refl (λ c e. rw e refl)
 
 -- Up to a place there are these hexadecimal digits of a unit alone, or of the second of a pair.
 pub record HasHex (bytes : List ℕ) (start at : ℕ) (h : Hex) : Type 0 where
@@ -376,9 +366,10 @@ reads_unit bytes start a b d f i j k l =
     }
 
 pub breaks_unit : (bytes : List ℕ) (start at : ℕ) (h : Hex) (e : JsonFault) → HasHex bytes start at h → (e ≡ At at 2) × FailsAt is_hex bytes at → BreaksUnit bytes start e
+unfolding step quoted_step finish
 breaks_unit bytes start at h e so fails = record {
   alone = λ outer p t back. subst (λ (e : JsonFault). Leads e (scan bytes start outer (quoted p (unit t back no_digit)))) (sym fails.0) (so.alone outer p t back ∙ unit_fails bytes outer p t back at h fails.1);
-  second = λ outer p t back u. so.second outer p t back u ∙ second_fails bytes outer p t back u at h fails.1;
+  second = λ outer p t back u. so.second outer p t back u ∙ fails_there bytes at back 5 outer (quoted p (high_unit t back u h)) is_hex fails.1 refl (λ c e. rw e refl);
 }
 
 -- the second escape of a pair
@@ -387,11 +378,6 @@ pub no_backslash : (bytes : List ℕ) (at : ℕ) (outer : List Frame) (p : Purpo
 unfolding step quoted_step finish
 no_backslash bytes at outer p t back u fails = fails_there bytes at back 5 outer (quoted p (high t back u)) (λ c. c == 92) fails refl (λ c no_test. rw no_test refl)
 
-no_letter : (bytes : List ℕ) (at : ℕ) (outer : List Frame) (p : Purpose) (t : List ℕ) (back u : ℕ) → FailsAt (λ c. c == 117) bytes at
-    → scan bytes at outer (quoted p (high_escaped t back u)) ≡ fault back 5
-unfolding step quoted_step finish
-no_letter bytes at outer p t back u fails = fails_there bytes at back 5 outer (quoted p (high_escaped t back u)) (λ c. c == 117) fails refl (λ c no_test. rw no_test refl)
-
 high_backslash : (bytes : List ℕ) (at : ℕ) (outer : List Frame) (p : Purpose) (t : List ℕ) (back u : ℕ) → StandsAt bytes at 92
     → scan bytes at outer (quoted p (high t back u)) ≡ scan bytes (at + 1) outer (quoted p (high_escaped t back u))
 unfolding step quoted_step
@@ -399,7 +385,9 @@ high_backslash bytes at outer p t back u e = moved bytes at 92 outer (quoted p (
 
 pub no_u : (bytes : List ℕ) (at : ℕ) (outer : List Frame) (p : Purpose) (t : List ℕ) (back u : ℕ) → StandsAt bytes at 92 → FailsAt (λ c. c == 117) bytes (at + 1)
     → scan bytes at outer (quoted p (high t back u)) ≡ fault back 5
-no_u bytes at outer p t back u e fails = high_backslash bytes at outer p t back u e ∙ no_letter bytes (at + 1) outer p t back u fails
+unfolding step quoted_step finish
+no_u bytes at outer p t back u e fails =
+    high_backslash bytes at outer p t back u e ∙ fails_there bytes (at + 1) back 5 outer (quoted p (high_escaped t back u)) (λ c. c == 117) fails refl (λ c no_test. rw no_test refl)
 
 second_begins : (bytes : List ℕ) (at : ℕ) (outer : List Frame) (p : Purpose) (t : List ℕ) (back u : ℕ) → StandsAt bytes at 92 → StandsAt bytes (at + 1) 117
     → scan bytes at outer (quoted p (high t back u)) ≡ scan bytes (at + 2) outer (quoted p (high_unit t back u no_digit))

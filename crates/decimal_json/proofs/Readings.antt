@@ -514,13 +514,12 @@ ascii_at [] a i = lit< tt
 ascii_at (c ∷ cs) a zero = a.0
 ascii_at (c ∷ cs) a (suc i) = ascii_at cs a.1 i
 
-text_begins : (bs : List ℕ) → IsUtf8 bs → Begins bs → BeginsText bs
-text_begins bs utf8 t = (t.0, t.1, t.2, IsUtf8-append bs t.1 utf8 (IsUtf8-from_ascii t.1 (ascii_at t.1 t.3)))
-
 pub is_no_json : (bytes : List ℕ) (k : ℕ) → IsUtf8 bytes → whole_outcome bytes ≡ fault k 2 → Stops bytes k → IsNoJson bytes k
 is_no_json bytes k utf8 e s = record {
   within = within bytes k s;
-  begins = text_begins (take k bytes) (IsUtf8-take bytes k utf8 (stops_between bytes k utf8 (within bytes k s) (stuck bytes k s))) (subst Begins (sym (front_of bytes k s)) (begins s.outer s.spot s.front s.stands));
+  begins =
+      let t : Begins (take k bytes) = subst Begins (sym (front_of bytes k s)) (begins s.outer s.spot s.front s.stands) in
+      (t.0, t.1, t.2, IsUtf8-append (take k bytes) t.1 (IsUtf8-take bytes k utf8 (stops_between bytes k utf8 (within bytes k s) (stuck bytes k s))) (IsUtf8-from_ascii t.1 (ascii_at t.1 t.3)));
   longest = λ j lt le begins. ⊎_elim (λ (f : bytes ≡ s.front). omega (arith, s.place, ap length f, lt, le))
       (λ (r : (c : ℕ) × (cs : List ℕ) × (bytes ≡ s.front ++ c ∷ cs) × (step (length s.front) s.outer s.spot c ≡ stop k 2)).
       let past = take-past s.front r.0 r.1 j (omega (arith, s.place, lt)) in
