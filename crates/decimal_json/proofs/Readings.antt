@@ -13,7 +13,7 @@ use Rattle.decimal_json.proofs.Growth.{items_close, members_close, BehindValue, 
 use Rattle.decimal_json.proofs.SoundValues.{open_whole, whole_text, fraction_end, power_end, some_digits, none_alone, good_step, Stops, IsSound, is_sound, at_level, high_of}
 use Rattle.std.specs.Str.{IsUtf8, IsCharBoundary, IsAscii, IsValidUpTo}
 use Rattle.std.proofs.lemmas.Str.{IsCharBoundary-start, IsCharBoundary-after_ascii, IsUtf8-append, IsUtf8-take, IsUtf8-from_ascii}
-use Rattle.decimal_json.specs.Reading.{At, JsonFault, NoMemory, BeginsText, IsNoJson, IsText, IsTextFault, IsFault, HasCause}
+use Rattle.decimal_json.specs.Reading.{At, JsonFault, NoMemory, IsNoJson, IsText, IsTextFault, IsFault, HasCause}
 use Rattle.decimal_json.proofs.Moves.{Refuses}
 use Rattle.decimal_json.proofs.RunValues.{text_arrives}
 use Rattle.decimal_json.proofs.RunFaults.{deep_fault, repeated_fault, lacks_fault}
