@@ -2,7 +2,7 @@
 -- commands takes words. The commands are this project's own; the rule is that of clap 4.
 --
 -- Help is no argument and no command here, so words that ask for it are refused like any others that aren't taken.
-use Rattle.std.specs.Prelude.{Bool, true, false, List, [], ◌∷◌, pos, Some, codes}
+use Rattle.std.specs.Prelude.{Bool, ℕ, true, false, List, [], ◌∷◌, pos, Some, codes}
 use Rattle.clap.specs.Words.{App, Kinds, Rule, Shape, Text, new_rule, fault_of}
 use Rattle.clap.specs.Simple.{new_shape}
 use Rattle.clap.specs.declared.builder.action.ArgAction.TheVariants.{SetTrue}
@@ -16,45 +16,33 @@ place id = record (new_rule id) { required = true }
 abbrev pub needed_option : Text → Rule
 needed_option name = record (new_rule name) { long = Some name; required = true }
 
+-- `--NAME N`, a whole number from the least to the most
+abbrev pub number_option : Text → ℕ → ℕ → Rule
+number_option name least most = record (new_rule name) { long = Some name; parser = Some (Signed (pos least) (pos most)) }
+
 -- `--units N`, a whole number from 1 to a million, which is 1000 where the option isn't given
 abbrev pub units_option : Rule
-units_option = record (new_rule (codes "units")) {
-  long = Some (codes "units");
-  parser = Some (Signed (pos 1) (pos 1000000));
-  defaults = codes "1000" ∷ [];
-}
+units_option = record (number_option (codes "units") 1 1000000) { defaults = codes "1000" ∷ [] }
 
 -- `--workers N`, a whole number from 1 to 64, which is 1 where the option isn't given
 abbrev pub workers_option : Rule
-workers_option = record (new_rule (codes "workers")) {
-  long = Some (codes "workers");
-  parser = Some (Signed (pos 1) (pos 64));
-  defaults = codes "1" ∷ [];
-}
+workers_option = record (number_option (codes "workers") 1 64) { defaults = codes "1" ∷ [] }
 
 -- `--gap PPM`, a whole number from 0 to a million, which is 1000 where the option isn't given
 abbrev pub gap_option : Rule
-gap_option = record (new_rule (codes "gap")) {
-  long = Some (codes "gap");
-  parser = Some (Signed (pos 0) (pos 1000000));
-  defaults = codes "1000" ∷ [];
-}
+gap_option = record (number_option (codes "gap") 0 1000000) { defaults = codes "1000" ∷ [] }
 
 -- `--NAME PRICE`, a whole number from 1 to a million, which may be left out
 abbrev pub price_option : Text → Rule
-price_option name = record (new_rule name) { long = Some name; parser = Some (Signed (pos 1) (pos 1000000)) }
+price_option name = number_option name 1 1000000
 
 -- `--NAME HOURS`, a number of periods from 1 to 168, which has to be given
 abbrev pub hours_option : Text → Rule
-hours_option name = record (new_rule name) { long = Some name; parser = Some (Signed (pos 1) (pos 168)); required = true }
+hours_option name = record (number_option name 1 168) { required = true }
 
 -- `--table K`, the number of a table, a whole number from 1 to a million and two, which is 1 where the option isn't given
 abbrev pub table_option : Rule
-table_option = record (new_rule (codes "table")) {
-  long = Some (codes "table");
-  parser = Some (Signed (pos 1) (pos 1000002));
-  defaults = codes "1" ∷ [];
-}
+table_option = record (number_option (codes "table") 1 1000002) { defaults = codes "1" ∷ [] }
 
 -- `--NAME`
 abbrev pub switch : Text → Rule

@@ -1,6 +1,6 @@
 //! The commands of the program with their arguments, for the command-line parser.
 
-ghost use Rattle.std.specs.Prelude.{◌≡◌, IfOk, true, false, []};
+ghost use Rattle.std.specs.Prelude.{◌≡◌, IfOk, true, false, [], codes};
 ghost use Rattle.clap.specs.Words.{App, Rule, Shape, app_of, rule_of, shape_of, with_rule, with_subcommand};
 ghost use Rattle.clap.specs.declared.builder.command.Command.TheViews.{out-Command as fields_of};
 ghost use Rattle.command_line.specs.Arguments.{place as place_rule, needed_option as needed_rule, units_option as units_rule, workers_option as workers_rule, gap_option as gap_rule, price_option as price_rule, hours_option as hours_rule, table_option as table_rule, switch as switch_rule, seed_place as seed_rule, solve_shape, check_shape, demo_shape, upgrade_shape, uplift_shape, roll_shape, program as program_app};
@@ -130,20 +130,40 @@ fn with_command<'a>(program: Built<'a>, command: Built<'a>) -> Built<'a>
     program?.subcommand(command?)
 }
 
+// The command with the options of a search.
+fn with_search_options<'a>(alloc: Global, command: Built<'a>) -> Built<'a>
+    ensures app { (app : App) → IfOk command.entry (λ command. app_of command ≡ app)
+        → IfOk result (λ command. app_of command ≡ with_rule (with_rule (with_rule (with_rule app units_rule) workers_rule) gap_rule) (switch_rule (codes "exact"))) }
+    ensures local { IfOk command.entry (λ command. (fields_of command).has_globals ≡ false)
+        → IfOk result (λ command. (fields_of command).has_globals ≡ false) }
+{
+    let command = with_arg(command, units_option(alloc));
+    let command = with_arg(command, workers_option(alloc));
+    let command = with_arg(command, gap_option(alloc));
+    with_arg(command, switch(alloc, "exact"))
+}
+
+// The command with the prices of shortages.
+fn with_prices<'a>(alloc: Global, command: Built<'a>) -> Built<'a>
+    ensures app { (app : App) → IfOk command.entry (λ command. app_of command ≡ app)
+        → IfOk result (λ command. app_of command ≡ with_rule (with_rule app (price_rule (codes "shed"))) (price_rule (codes "spill-reserve"))) }
+    ensures local { IfOk command.entry (λ command. (fields_of command).has_globals ≡ false)
+        → IfOk result (λ command. (fields_of command).has_globals ≡ false) }
+{
+    let command = with_arg(command, price_option(alloc, "shed"));
+    with_arg(command, price_option(alloc, "spill-reserve"))
+}
+
 fn solve_command<'a>(alloc: Global) -> Built<'a>
     ensures shape { IfOk result (λ command. shape_of command ≡ solve_shape) }
     ensures local { IfOk result (λ command. (fields_of command).has_globals ≡ false) }
 {
     let command = with_arg(Ok(Command::new(alloc, "solve")), place(alloc, "instance"));
     let command = with_arg(command, needed_option(alloc, "cert"));
-    let command = with_arg(command, units_option(alloc));
-    let command = with_arg(command, workers_option(alloc));
-    let command = with_arg(command, gap_option(alloc));
-    let command = with_arg(command, switch(alloc, "exact"));
+    let command = with_search_options(alloc, command);
     let command = with_arg(command, switch(alloc, "exact-units"));
     let command = with_arg(command, switch(alloc, "pivot"));
-    let command = with_arg(command, price_option(alloc, "shed"));
-    with_arg(command, price_option(alloc, "spill-reserve"))
+    with_prices(alloc, command)
 }
 
 fn check_command<'a>(alloc: Global) -> Built<'a>
@@ -152,8 +172,7 @@ fn check_command<'a>(alloc: Global) -> Built<'a>
 {
     let command = with_arg(Ok(Command::new(alloc, "check")), place(alloc, "instance"));
     let command = with_arg(command, place(alloc, "certificate"));
-    let command = with_arg(command, price_option(alloc, "shed"));
-    with_arg(command, price_option(alloc, "spill-reserve"))
+    with_prices(alloc, command)
 }
 
 fn demo_command<'a>(alloc: Global) -> Built<'a>
@@ -181,8 +200,7 @@ fn uplift_command<'a>(alloc: Global) -> Built<'a>
     let command = with_arg(Ok(Command::new(alloc, "uplift")), place(alloc, "instance"));
     let command = with_arg(command, place(alloc, "certificate"));
     let command = with_arg(command, table_option(alloc));
-    let command = with_arg(command, price_option(alloc, "shed"));
-    with_arg(command, price_option(alloc, "spill-reserve"))
+    with_prices(alloc, command)
 }
 
 fn roll_command<'a>(alloc: Global) -> Built<'a>
@@ -192,12 +210,8 @@ fn roll_command<'a>(alloc: Global) -> Built<'a>
     let command = with_arg(Ok(Command::new(alloc, "roll")), place(alloc, "instance"));
     let command = with_arg(command, hours_option(alloc, "window"));
     let command = with_arg(command, hours_option(alloc, "step"));
-    let command = with_arg(command, units_option(alloc));
-    let command = with_arg(command, workers_option(alloc));
-    let command = with_arg(command, gap_option(alloc));
-    let command = with_arg(command, switch(alloc, "exact"));
-    let command = with_arg(command, price_option(alloc, "shed"));
-    with_arg(command, price_option(alloc, "spill-reserve"))
+    let command = with_search_options(alloc, command);
+    with_prices(alloc, command)
 }
 
 // A command has to be given, and help is none.

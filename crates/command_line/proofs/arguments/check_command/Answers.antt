@@ -8,6 +8,4 @@ pub returns-clause-shape : goal.returns-clause-shape
 returns-clause-shape c =
     let first = c.with_arg-command.ensures.app _ _ c.place.ensures.rule c.new.ensures.app in
     let second = c.with_arg-command-2.ensures.app _ _ c.place-2.ensures.rule first in
-    let third = c.with_arg-command-3.ensures.app _ _ c.price_option.ensures.rule second in
-    IfOk-weaker c.with_arg.result _ _ (λ command is. ap (λ (a : App). a.top) is)
-    (c.with_arg.ensures.app _ _ c.price_option-2.ensures.rule third)
+    IfOk-weaker c.with_prices.result _ _ (λ command is. ap (λ (a : App). a.top) is) (c.with_prices.ensures.app _ second)

@@ -9,16 +9,10 @@ returns-clause-shape c =
     let first = c.with_arg-command.ensures.app _ _ c.place.ensures.rule c.new.ensures.app in
     let second = c.with_arg-command-2.ensures.app _ _ c.hours_option.ensures.rule first in
     let third = c.with_arg-command-3.ensures.app _ _ c.hours_option-2.ensures.rule second in
-    let fourth = c.with_arg-command-4.ensures.app _ _ c.units_option.ensures.rule third in
-    let fifth = c.with_arg-command-5.ensures.app _ _ c.workers_option.ensures.rule fourth in
-    let sixth = c.with_arg-command-6.ensures.app _ _ c.gap_option.ensures.rule fifth in
-    let seventh = c.with_arg-command-7.ensures.app _ _ c.switch.ensures.rule sixth in
-    let eighth = c.with_arg-command-8.ensures.app _ _ c.price_option.ensures.rule seventh in
-    IfOk-weaker c.with_arg.result _ _ (λ command is. ap (λ (a : App). a.top) is)
-    (c.with_arg.ensures.app _ _ c.price_option-2.ensures.rule eighth)
+    let fourth = c.with_search_options-command.ensures.app _ third in
+    IfOk-weaker c.with_prices.result _ _ (λ command is. ap (λ (a : App). a.top) is) (c.with_prices.ensures.app _ fourth)
 
 pub returns-clause-local : goal.returns-clause-local
 returns-clause-local c =
-    c.with_arg.ensures.local (c.with_arg-command-8.ensures.local (c.with_arg-command-7.ensures.local (c.with_arg-command-6.ensures.local
-    (c.with_arg-command-5.ensures.local (c.with_arg-command-4.ensures.local (c.with_arg-command-3.ensures.local (c.with_arg-command-2.ensures.local
-    (c.with_arg-command.ensures.local c.new.ensures.local))))))))
+    c.with_prices.ensures.local (c.with_search_options-command.ensures.local (c.with_arg-command-3.ensures.local (c.with_arg-command-2.ensures.local
+    (c.with_arg-command.ensures.local c.new.ensures.local))))
