@@ -6,8 +6,9 @@ use Rattle.uc_model.proofs.Ring.{linear}
 use Rattle.uc_model.specs.Terms.{period_count}
 use Rattle.dual_model.specs.UnitTerms.{Terms, Thermal, AreSizedTerms}
 use Rattle.dual_model.specs.PatternValue.{Fix, IsPattern, IsLeastValue, HasNoPattern, pattern_value}
-use Rattle.dual_model.specs.CostToGo.{cost_to_go}
-use Rattle.dual_model.proofs.Optimum.{AtMost, cost_to_go-le-way, cost_to_go-attained}
+use Rattle.dual_model.specs.CostToGo.{cost_to_go, end_cost}
+use Rattle.dual_model.specs.Moves.{move}
+use Rattle.dual_model.proofs.Optimum.{AtMost, way-at_most, attained}
 use Rattle.dual_model.proofs.Ways.{own_way-right, whole_way-from}
 use Rattle.dual_model.proofs.Allowed.{all_right-pattern, pattern-all_right}
 
@@ -19,13 +20,13 @@ from_start terms unit fix = cost_to_go terms unit fix (period_count terms) 0 uni
 pattern-at_most : (terms : Terms) (unit : Thermal) (fix : Fix) (on : Commitment) → AreSizedTerms unit terms
     → IsPattern (period_count terms) unit fix on → AtMost (from_start terms unit fix) (pattern_value terms unit on)
 pattern-at_most terms unit fix on sized pattern =
-    cost_to_go-le-way terms unit fix on (period_count terms) 0 unit.on0 0 (pattern_value terms unit on)
+    way-at_most (move terms unit fix) (end_cost terms unit) on (period_count terms) 0 unit.on0 0 (pattern_value terms unit on)
     (whole_way-from terms unit fix on (all_right-pattern terms unit fix on sized pattern))
 
 pub least-from_start : (terms : Terms) (unit : Thermal) (fix : Fix) (v : ℤ) → IsLawfulThermal unit → AreSizedTerms unit terms
     → from_start terms unit fix ≡ Some v → IsLeastValue terms unit fix v
 least-from_start terms unit fix v lawful sized e =
-    let best = cost_to_go-attained terms unit fix (period_count terms) 0 unit.on0 0 v e in
+    let best = attained (move terms unit fix) (end_cost terms unit) (period_count terms) 0 unit.on0 0 v e in
     let all = own_way-right terms unit fix best.on (period_count terms) 0 v (omega arith) best.is in
     let same : Some v ≡ Some (pattern_value terms unit best.on) = sym best.is ∙ whole_way-from terms unit fix best.on all in
     record {

@@ -9,10 +9,11 @@ use Rattle.uc_model.proofs.Ring.{linear}
 use Rattle.uc_model.proofs.Sums.{sum_below-first, sum_below-same}
 use Rattle.uc_model.specs.Terms.{period_count, term_at, price_at}
 use Rattle.dual_model.specs.PatternValue.{Terms, Thermal, is_followed, term_of, period_value, pattern_value}
-use Rattle.dual_model.specs.Moves.{Fix, may_be_on, may_be_off, holds_initially, stop_since, hour_cost, hour_before, move}
+use Rattle.dual_model.specs.Bellman.{MoveCosts, EndCosts, total_of, since_after, way_cost}
+use Rattle.dual_model.specs.Moves.{Fix, may_be_on, may_be_off, may_move, allowed, holds_initially, stop_since, hour_cost, hour_before, hour_and_start, move}
 use Rattle.uc_model.specs.Switches.{may_stop, may_start}
-use Rattle.dual_model.specs.CostToGo.{total_of, end_cost}
-use Rattle.dual_model.proofs.Optimum.{way, total_of-parts}
+use Rattle.dual_model.specs.CostToGo.{end_cost, way}
+use Rattle.dual_model.proofs.Optimum.{total_of-parts}
 use Rattle.dual_model.proofs.Switches.{since, since-start, last_stop-since}
 
 -- ---- the hour before a period
@@ -62,115 +63,117 @@ pub record IsRight (unit : Thermal) (fix : Fix) (on : Commitment) (t : ℕ) : Ty
   pub stop_may : was_on unit on t ≡ true → on t ≡ false → IsTrue (may_stop unit (since unit.on0 on t) t)
   pub start_may : was_on unit on t ≡ false → on t ≡ true → IsTrue (may_start unit (since unit.on0 on t) t)
 
--- the move that the commitment makes in period t
-abbrev pub step : Terms → Thermal → Fix → Commitment → ℕ → Option ℤ
-step terms unit fix on t = move terms unit fix t (was_on unit on t) (since unit.on0 on t) (on t)
+-- a move that may be, and the rules of its period
+pub right-from : (unit : Thermal) (fix : Fix) (on : Commitment) (t from : ℕ) (was now : Bool) → was_on unit on t ≡ was → since unit.on0 on t ≡ from → on t ≡ now
+    → IsTrue (may_move unit fix t was from now) → IsRight unit fix on t
+right-from unit fix on t from true true w s n may =
+    let tests = and_parts (may_be_on fix t) (holds_initially unit t false) may in
+    record {
+      on_may = λ o. tests.0;
+      off_may = λ o. absurd (true≢false (sym n ∙ o));
+      initially = λ o. ap (λ b. holds_initially unit t (not b)) n ∙ tests.1;
+      stop_may = λ o p. absurd (true≢false (sym n ∙ p));
+      start_may = λ o p. absurd (true≢false (sym w ∙ o));
+    }
+right-from unit fix on t from true false w s n may =
+    let tests = and_parts (may_be_off unit fix t && holds_initially unit t true) (may_stop unit from t) may in
+    let more = and_parts (may_be_off unit fix t) (holds_initially unit t true) tests.0 in
+    record {
+      on_may = λ o. absurd (true≢false (sym o ∙ n));
+      off_may = λ o. more.0;
+      initially = λ o. ap (λ b. holds_initially unit t (not b)) n ∙ more.1;
+      stop_may = λ o p. subst (λ z. IsTrue (may_stop unit z t)) (sym s) tests.1;
+      start_may = λ o p. absurd (true≢false (sym w ∙ o));
+    }
+right-from unit fix on t from false true w s n may =
+    let tests = and_parts (may_be_on fix t) (may_start unit from t) may in
+    record {
+      on_may = λ o. tests.0;
+      off_may = λ o. absurd (true≢false (sym n ∙ o));
+      initially = λ o. absurd (true≢false (sym o ∙ w));
+      stop_may = λ o p. absurd (true≢false (sym o ∙ w));
+      start_may = λ o p. subst (λ z. IsTrue (may_start unit z t)) (sym s) tests.1;
+    }
+right-from unit fix on t from false false w s n may = record {
+  on_may = λ o. absurd (true≢false (sym o ∙ n));
+  off_may = λ o. may;
+  initially = λ o. absurd (true≢false (sym o ∙ w));
+  stop_may = λ o p. absurd (true≢false (sym o ∙ w));
+  start_may = λ o p. absurd (true≢false (sym p ∙ n));
+}
 
-abbrev pub IsThere : Option ℤ → Type 0
-IsThere o = (x : ℤ) × (o ≡ Some x)
+pub right-may : (unit : Thermal) (fix : Fix) (on : Commitment) (t from : ℕ) (was now : Bool) → was_on unit on t ≡ was → since unit.on0 on t ≡ from → on t ≡ now
+    → IsRight unit fix on t → IsTrue (may_move unit fix t was from now)
+right-may unit fix on t from true true w s n right =
+    and_from _ _ (right.on_may n) (ap (λ b. holds_initially unit t (not b)) (sym n) ∙ right.initially w)
+right-may unit fix on t from true false w s n right =
+    and_from _ _ (and_from _ _ (right.off_may n) (ap (λ b. holds_initially unit t (not b)) (sym n) ∙ right.initially w))
+    (subst (λ z. IsTrue (may_stop unit z t)) s (right.stop_may w n))
+right-may unit fix on t from false true w s n right =
+    and_from _ _ (right.on_may n) (subst (λ z. IsTrue (may_start unit z t)) s (right.start_may w n))
+right-may unit fix on t from false false w s n right = right.off_may n
 
+-- ---- one move of a way, at any costs of the moves that may be
 -- what a test lets through is there, and passed it
-through : (b : Bool) (o : Option ℤ) (x : ℤ) → (if b then o else None) ≡ Some x → IsTrue b × (o ≡ Some x)
+pub through : (b : Bool) (o : Option ℤ) (x : ℤ) → (if b then o else None) ≡ Some x → IsTrue b × (o ≡ Some x)
 through true o x e = (refl, e)
 through false o x e = cc
 
-pub step-right : (terms : Terms) (unit : Thermal) (fix : Fix) (on : Commitment) (t : ℕ) (x : ℤ) → t < period_count terms
-    → step terms unit fix on t ≡ Some x → IsRight unit fix on t × IsThere (hour terms unit on t)
-step-right terms unit fix on t x h e = by_bits (was_on unit on t) (on t) refl refl
-  where
-    moved : (was now : Bool) → was_on unit on t ≡ was → on t ≡ now → move terms unit fix t was (since unit.on0 on t) now ≡ Some x
-    moved was now w n = (λ i. move terms unit fix t (sym w i) (since unit.on0 on t) (sym n i)) ∙ e
+module _ (unit : Thermal) (fix : Fix) (costs : MoveCosts) (end : EndCosts) where
+  abbrev allowed_way : Commitment → ℕ → ℕ → Bool → ℕ → Option ℤ
+  allowed_way on n t was since = way_cost (allowed unit fix costs) end on n t was since
 
-    by_bits : (was now : Bool) → was_on unit on t ≡ was → on t ≡ now → IsRight unit fix on t × IsThere (hour terms unit on t)
-    by_bits true true w n =
-        let found = through _ _ x (moved true true w n) in
-        let tests = and_parts _ _ found.0 in (
-          record {
-            on_may = λ o. tests.0;
-            off_may = λ o. absurd (true≢false (sym n ∙ o));
-            initially = λ o. ap (λ b. holds_initially unit t (not b)) n ∙ tests.1;
-            stop_may = λ o p. absurd (true≢false (sym n ∙ p));
-            start_may = λ o p. absurd (true≢false (sym w ∙ o));
-          },
-          (x, sym (hour-on terms unit on t h w) ∙ ap (λ b. hour_before terms unit t (since unit.on0 on t == t) (not b)) n ∙ found.1),
-        )
-    by_bits true false w n =
-        let found = through _ _ x (moved true false w n) in
-        let tests = and_parts _ _ found.0 in
-        let more = and_parts _ _ tests.0 in (
-          record {
-            on_may = λ o. absurd (true≢false (sym o ∙ n));
-            off_may = λ o. more.0;
-            initially = λ o. ap (λ b. holds_initially unit t (not b)) n ∙ more.1;
-            stop_may = λ o p. tests.1;
-            start_may = λ o p. absurd (true≢false (sym w ∙ o));
-          },
-          (x, sym (hour-on terms unit on t h w) ∙ ap (λ b. hour_before terms unit t (since unit.on0 on t == t) (not b)) n ∙ found.1),
-        )
-    by_bits false true w n =
-        let found = through _ _ x (moved false true w n) in
-        let tests = and_parts _ _ found.0 in (
-          record {
-            on_may = λ o. tests.0;
-            off_may = λ o. absurd (true≢false (sym n ∙ o));
-            initially = λ o. absurd (true≢false (sym o ∙ w));
-            stop_may = λ o p. absurd (true≢false (sym o ∙ w));
-            start_may = λ o p. tests.1;
-          },
-          (pos 0, hour-off terms unit on t w),
-        )
-    by_bits false false w n =
-        let found = through _ _ x (moved false false w n) in (
-          record {
-            on_may = λ o. absurd (true≢false (sym o ∙ n));
-            off_may = λ o. found.0;
-            initially = λ o. absurd (true≢false (sym o ∙ w));
-            stop_may = λ o p. absurd (true≢false (sym o ∙ w));
-            start_may = λ o p. absurd (true≢false (sym p ∙ n));
-          },
-          (pos 0, hour-off terms unit on t w),
-        )
+  abbrev onward : Commitment → ℕ → ℕ → Bool → ℕ → Bool → Option ℤ
+  onward on n t was since now = total_of (allowed unit fix costs t was since now) (allowed_way on n (suc t) now (since_after was since now t))
 
-pub step-from : (terms : Terms) (unit : Thermal) (fix : Fix) (on : Commitment) (t : ℕ) (x : ℤ) → t < period_count terms
-    → IsRight unit fix on t → hour terms unit on t ≡ Some x
-    → step terms unit fix on t ≡ Some (x +ℤ start_value terms unit on t)
-step-from terms unit fix on t x h right there = by_bits (was_on unit on t) (on t) refl refl
-  where
-    now_is : (was now : Bool) (y : ℤ) → was_on unit on t ≡ was → on t ≡ now → move terms unit fix t was (since unit.on0 on t) now ≡ Some y
-        → y ≡ x +ℤ start_value terms unit on t → step terms unit fix on t ≡ Some (x +ℤ start_value terms unit on t)
-    now_is was now y w n e v = (λ i. move terms unit fix t (w i) (since unit.on0 on t) (n i)) ∙ e ∙ ap Some v
+  -- what a way of this cost says of its first move
+  pub record Moved (on : Commitment) (n t : ℕ) (was : Bool) (since : ℕ) (now : Bool) (v : ℤ) : Type 0 where
+    pub may : IsTrue (may_move unit fix t was since now)
+    pub paid : ℤ
+    pub rest : ℤ
+    pub paid_is : costs t was since now ≡ Some paid
+    pub rest_is : allowed_way on n (suc t) now (since_after was since now t) ≡ Some rest
+    pub total : v ≡ paid +ℤ rest
 
-    no_start : starts unit on t ≡ false → x ≡ x +ℤ start_value terms unit on t
-    no_start e =
-        let none : start_value terms unit on t ≡ pos 0 = cond-false (starts unit on t) _ _ e in omega (arith, linear)
+  pub moved : (on : Commitment) (n t : ℕ) (was : Bool) (since : ℕ) (now : Bool) (v : ℤ) → on t ≡ now → allowed_way on (suc n) t was since ≡ Some v
+      → Moved on n t was since now v
+  moved on n t was since now v bit e =
+      let parts = total_of-parts (allowed unit fix costs t was since now) (allowed_way on n (suc t) now (since_after was since now t)) v (ap (onward on n t was since) (sym bit) ∙ e) in
+      let found = through (may_move unit fix t was since now) (costs t was since now) parts.first parts.first_is in
+      record { may = found.0; paid = parts.first; rest = parts.second; paid_is = found.1; rest_is = parts.second_is; total = parts.total }
 
-    by_bits : (was now : Bool) → was_on unit on t ≡ was → on t ≡ now → step terms unit fix on t ≡ Some (x +ℤ start_value terms unit on t)
-    by_bits true true w n =
-        let cost : hour_before terms unit t (since unit.on0 on t == t) false ≡ Some x =
-        ap (λ b. hour_before terms unit t (since unit.on0 on t == t) (not b)) (sym n) ∙ hour-on terms unit on t h w ∙ there in
-        now_is true true x w n
-        (cond-true _ _ _ (and_from _ _ (right.on_may n) (ap (λ b. holds_initially unit t (not b)) (sym n) ∙ right.initially w)) ∙ cost)
-        (no_start (λ i. not (w i) && on t))
-    by_bits true false w n =
-        let cost : hour_before terms unit t (since unit.on0 on t == t) true ≡ Some x =
-        ap (λ b. hour_before terms unit t (since unit.on0 on t == t) (not b)) (sym n) ∙ hour-on terms unit on t h w ∙ there in
-        now_is true false x w n
-        (cond-true _ _ _ (and_from _ _ (and_from _ _ (right.off_may n) (ap (λ b. holds_initially unit t (not b)) (sym n) ∙ right.initially w)) (right.stop_may w n)) ∙ cost)
-        (no_start (λ i. not (w i) && on t))
-    by_bits false true w n =
-        let free : x ≡ pos 0 = (let e = hour-off terms unit on t w in cc) in
-        let started : starts unit on t ≡ true = λ i. not (w i) && n i in
-        let cost : start_value terms unit on t ≡ terms.k *ℤ sigma unit (stop_since (since unit.on0 on t)) t =
-        cond-true (starts unit on t) _ _ started ∙ ap (λ l. terms.k *ℤ sigma unit l t) (last_stop-since unit on t w) in
-        now_is false true (terms.k *ℤ sigma unit (stop_since (since unit.on0 on t)) t) w n
-        (cond-true _ _ _ (and_from _ _ (right.on_may n) (right.start_may w n)))
-        (omega (arith, linear))
-    by_bits false false w n =
-        let free : x ≡ pos 0 = (let e = hour-off terms unit on t w in cc) in
-        let idle = no_start (λ i. not (w i) && n i) in
-        now_is false false (pos 0) w n
-        (cond-true _ _ _ (right.off_may n))
-        (sym free ∙ idle)
+  -- and the other way round
+  pub way-moved : (on : Commitment) (n t : ℕ) (was : Bool) (since : ℕ) (now : Bool) (paid rest : ℤ) → on t ≡ now → IsTrue (may_move unit fix t was since now)
+      → costs t was since now ≡ Some paid → allowed_way on n (suc t) now (since_after was since now t) ≡ Some rest
+      → allowed_way on (suc n) t was since ≡ Some (paid +ℤ rest)
+  way-moved on n t was since now paid rest bit may paid_is rest_is =
+      ap (onward on n t was since) bit
+      ∙ (λ i. total_of ((cond-true (may_move unit fix t was since now) (costs t was since now) None may ∙ paid_is) i) (rest_is i))
+
+-- ---- the hour behind a move, and a start
+abbrev pub IsThere : Option ℤ → Type 0
+IsThere o = (x : ℤ) × (o ≡ Some x)
+
+move-hour : (terms : Terms) (unit : Thermal) (on : Commitment) (t : ℕ) (was now : Bool) (x : ℤ) → t < period_count terms → was_on unit on t ≡ was → on t ≡ now
+    → hour_and_start terms unit t was (since unit.on0 on t) now ≡ Some x → IsThere (hour terms unit on t)
+move-hour terms unit on t true now x h w n e =
+    (x, sym (hour-on terms unit on t h w) ∙ ap (λ b. hour_before terms unit t (since unit.on0 on t == t) (not b)) n ∙ e)
+move-hour terms unit on t false now x h w n e = (pos 0, hour-off terms unit on t w)
+
+hour-move : (terms : Terms) (unit : Thermal) (on : Commitment) (t : ℕ) (was now : Bool) (x : ℤ) → t < period_count terms → was_on unit on t ≡ was → on t ≡ now
+    → hour terms unit on t ≡ Some x → hour_and_start terms unit t was (since unit.on0 on t) now ≡ Some (x +ℤ start_value terms unit on t)
+hour-move terms unit on t true now x h w n there =
+    let none : start_value terms unit on t ≡ pos 0 = cond-false (starts unit on t) _ _ (λ i. not (w i) && on t) in
+    ap (λ b. hour_before terms unit t (since unit.on0 on t == t) (not b)) (sym n) ∙ hour-on terms unit on t h w ∙ there ∙ ap Some (omega (arith, linear))
+hour-move terms unit on t false true x h w n there =
+    let free : x ≡ pos 0 = (let e = hour-off terms unit on t w in cc) in
+    let cost : start_value terms unit on t ≡ terms.k *ℤ sigma unit (stop_since (since unit.on0 on t)) t =
+    cond-true (starts unit on t) _ _ (λ i. not (w i) && n i) ∙ ap (λ l. terms.k *ℤ sigma unit l t) (last_stop-since unit on t w) in
+    ap Some (omega (arith, linear))
+hour-move terms unit on t false false x h w n there =
+    let free : x ≡ pos 0 = (let e = hour-off terms unit on t w in cc) in
+    let none : start_value terms unit on t ≡ pos 0 = cond-false (starts unit on t) _ _ (λ i. not (w i) && n i) in
+    ap Some (omega (arith, linear))
 
 -- ---- the whole way
 -- the way from the state that the commitment has before period t
@@ -209,16 +212,17 @@ own_way-right terms unit fix on zero t v h e =
           subst (λ i. IsThere (hour terms unit on i)) same (end-right terms unit fix on t v last e);
     }
 own_way-right terms unit fix on (suc n) t v h e =
-    let parts = total_of-parts (step terms unit fix on t) (own_way terms unit fix on n (suc t)) v e in
-    let here = step-right terms unit fix on t parts.first (omega arith) parts.first_is in
-    let rest = own_way-right terms unit fix on n (suc t) parts.second (omega arith) parts.second_is in
+    let first = moved unit fix (hour_and_start terms unit) (end_cost terms unit) on n t (was_on unit on t) (since unit.on0 on t) (on t) v refl e in
+    let right = right-from unit fix on t (since unit.on0 on t) (was_on unit on t) (on t) refl refl refl first.may in
+    let there = move-hour terms unit on t (was_on unit on t) (on t) first.paid (omega arith) refl refl first.paid_is in
+    let rest = own_way-right terms unit fix on n (suc t) first.rest (omega arith) first.rest_is in
     record {
       right = λ k a b. ⊎_elim
-          (λ (now : t ≡ k). subst (λ i. IsRight unit fix on i) now here.0)
+          (λ (now : t ≡ k). subst (λ i. IsRight unit fix on i) now right)
           (λ (later : suc t ≤ k). rest.right k later b)
           (grind arith);
       there = λ k a b. ⊎_elim
-          (λ (now : t ≡ k). subst (λ i. IsThere (hour terms unit on i)) now here.1)
+          (λ (now : t ≡ k). subst (λ i. IsThere (hour terms unit on i)) now there)
           (λ (later : suc t ≤ k). rest.there k later b)
           (grind arith);
     }
@@ -270,7 +274,8 @@ own_way-from terms unit fix on zero t h all =
     ∙ ap Some (let e : hour_value terms unit on t ≡ hour_value terms unit on t +ℤ pos 0 = omega (arith, linear) in e)
 own_way-from terms unit fix on (suc n) t h all =
     let here = hour_value-is terms unit on t (all.there t (omega arith) (omega arith)) in
-    let moved = step-from terms unit fix on t (hour_value terms unit on t) (omega arith) (all.right t (omega arith) (omega arith)) here in
+    let may = right-may unit fix on t (since unit.on0 on t) (was_on unit on t) (on t) refl refl refl (all.right t (omega arith) (omega arith)) in
+    let paid = hour-move terms unit on t (was_on unit on t) (on t) (hour_value terms unit on t) (omega arith) refl refl here in
     let rest = own_way-from terms unit fix on n (suc t) (omega arith)
     (record { right = λ k a b. all.right k (omega arith) b; there = λ k a b. all.there k (omega arith) b }) in
     let first = sum_below-first n (λ k. period_value terms unit on (k + t)) in
@@ -279,7 +284,8 @@ own_way-from terms unit fix on (suc n) t h all =
     ap (λ i. period_value terms unit on i) at ∙ period_value-is terms unit on t (all.there (suc t) (omega arith) (omega arith)) in
     let later : sum_below n (λ k. period_value terms unit on (suc k + t)) ≡ sum_below n (λ k. period_value terms unit on (k + suc t)) =
     sum_below-same n _ _ (λ k l. let e : suc k + t ≡ k + suc t = omega arith in ap (λ i. period_value terms unit on i) e) in
-    (λ i. total_of (moved i) (rest i)) ∙ ap Some (omega (arith, linear))
+    way-moved unit fix (hour_and_start terms unit) (end_cost terms unit) on n t (was_on unit on t) (since unit.on0 on t) (on t) _ _ refl may paid rest
+    ∙ ap Some (omega (arith, linear))
 
 -- from the beginning
 pub whole_way-from : (terms : Terms) (unit : Thermal) (fix : Fix) (on : Commitment) → AllRight terms unit fix on 0

@@ -18,5 +18,6 @@ pub mod Examples
 pub mod UnitTerms
 pub mod PatternValue
 pub mod TableValue
+pub mod Bellman
 pub mod Moves
 pub mod CostToGo

@@ -1,7 +1,5 @@
--- What one unit may do in a period, by its state before it, and what that costs. A state is whether the unit
--- is on, and since when: 0 stands for a time before the first period, and suc s for the period s in which it
--- was switched. Source: the rules M1 to M5 and M7 of the reference model by Knueven, Ostrowski and Watson,
--- each said of the one period in which it decides.
+-- What one unit may do in a period, by its state before it, and what that costs. Source: the rules M1 to M5 and M7 of the
+-- reference model by Knueven, Ostrowski and Watson, each said of the one period in which it decides.
 use Rattle.std.specs.Prelude.{ℕ, zero, suc, ◌-◌, Bool, true, false, not, ◌&&◌, ◌||◌, ◌==◌, nat_lt, ℤ, pos, ◌-ℤ◌, ◌*ℤ◌, int_le, Option, Some, None, if◌then◌else◌}
 use Rattle.std.specs.Int.{int_min}
 use Rattle.uc_model.specs.PatternBits.{commitment_of}
@@ -11,6 +9,7 @@ pub use Rattle.uc_model.specs.declared.terms.Terms.{Terms}
 pub use Rattle.dual_model.specs.declared.node.Fix.{Fix}
 use Rattle.uc_model.specs.Switches.{may_start, may_stop}
 use Rattle.uc_model.specs.Terms.{term_at, price_at}
+use Rattle.dual_model.specs.Bellman.{MoveCosts}
 
 -- nothing that is decided wants the unit off in period t
 abbrev pub may_be_on : Fix → ℕ → Bool
@@ -42,14 +41,23 @@ abbrev pub hour_before : Terms → Thermal → ℕ → Bool → Bool → Option 
 hour_before terms unit zero start stop = Some (pos 0)
 hour_before terms unit (suc t) start stop = hour_cost terms unit t (term_at terms t start stop)
 
--- what it costs to go on from a state before period t, the unit being on in the period or not; None where it
--- may not
-abbrev pub move : Terms → Thermal → Fix → ℕ → Bool → ℕ → Bool → Option ℤ
-move terms unit fix t true since true =
-    if may_be_on fix t && holds_initially unit t false then hour_before terms unit t (since == t) false else None
-move terms unit fix t true since false =
-    if may_be_off unit fix t && holds_initially unit t true && may_stop unit since t
-    then hour_before terms unit t (since == t) true else None
-move terms unit fix t false since true =
-    if may_be_on fix t && may_start unit since t then Some (terms.k *ℤ sigma unit (stop_since since) t) else None
-move terms unit fix t false since false = if may_be_off unit fix t then Some (pos 0) else None
+-- what may be: a unit that was on, or off, since then is on in period t or not
+abbrev pub may_move : Thermal → Fix → ℕ → Bool → ℕ → Bool → Bool
+may_move unit fix t true since true = may_be_on fix t && holds_initially unit t false
+may_move unit fix t true since false = may_be_off unit fix t && holds_initially unit t true && may_stop unit since t
+may_move unit fix t false since true = may_be_on fix t && may_start unit since t
+may_move unit fix t false since false = may_be_off unit fix t
+
+-- these costs, of the moves that may be
+abbrev pub allowed : Thermal → Fix → MoveCosts → MoveCosts
+allowed unit fix costs t was since now = if may_move unit fix t was since now then costs t was since now else None
+
+-- what a move costs: the hour behind it, and a start
+abbrev pub hour_and_start : Terms → Thermal → MoveCosts
+hour_and_start terms unit t true since now = hour_before terms unit t (since == t) (not now)
+hour_and_start terms unit t false since true = Some (terms.k *ℤ sigma unit (stop_since since) t)
+hour_and_start terms unit t false since false = Some (pos 0)
+
+-- both
+abbrev pub move : Terms → Thermal → Fix → MoveCosts
+move terms unit fix = allowed unit fix (hour_and_start terms unit)

@@ -1,6 +1,5 @@
 -- A pattern whose way is the least one is allowed and as is decided, and its value is the way's cost.
-use Rattle.std.proofs.Common.{◌≡◌, ℕ, zero, suc, ◌≤◌, Bool, false, refl, sym, ap, subst, ◌∙◌, arith, ℤ, Option, Some, None, MatchOption, IfSome, IfNone, unsigned_abs}
-use Rattle.uc_model.specs.Commitment.{Commitment}
+use Rattle.std.proofs.Common.{◌≡◌, ℕ, ◌≤◌, false, sym, subst, ◌∙◌, arith, ℤ, Option, Some, None, MatchOption, IfSome, IfNone, unsigned_abs}
 use Rattle.uc_model.specs.Limits.{IsLawfulThermal}
 use Rattle.uc_model.specs.PatternBits.{commitment_of}
 use Rattle.uc_model.specs.Schedule.{thermal_unit}
@@ -14,27 +13,18 @@ use Rattle.dual_model.proofs.TableValues.{unit_value-of}
 use Rattle.dual_model.specs.PatternValue.{HasNoPattern, IsLeastValue, IsPattern, pattern_value}
 use Rattle.uc_model.specs.Terms.{period_count}
 use Rattle.dual_model.specs.UnitTerms.{AreSizedTerms}
-use Rattle.dual_model.specs.Moves.{move}
-use Rattle.dual_model.specs.CostToGo.{since_after, total_of, IsWithin, MAX_COST_TO_GO}
+use Rattle.dual_model.specs.CostToGo.{IsWithin, MAX_COST_TO_GO}
 use Rattle.dual_model.proofs.CostSizes.{cost_to_go-fits}
 use Rattle.dual_model.proofs.LeastValues.{from_start, least-from_start, none-from_start}
 use Rattle.dual_model.proofs.Allowed.{pattern-all_right}
-use Rattle.dual_model.proofs.Optimum.{way}
 use Rattle.dual_model.proofs.Ways.{own_way-right, whole_way-from, AllRight}
-use Rattle.unit_path.specs.inside.Ways.{Fix, Pattern, Terms, Thermal, way_of, IsWay}
+use Rattle.unit_path.specs.inside.Ways.{Fix, Pattern, Terms, Thermal, IsWay}
 use Rattle.unit_path.proofs.BestPatterns.{best-of}
-
-way_of-way : (terms : Terms) (unit : Thermal) (fix : Fix) (on : Commitment) (n t : ℕ) (was : Bool) (since : ℕ)
-    → way_of terms unit fix on n t was since ≡ way terms unit fix on n t was since
-way_of-way terms unit fix on zero t was since = refl
-way_of-way terms unit fix on (suc n) t was since =
-    ap (total_of (move terms unit fix t was since (on t))) (way_of-way terms unit fix on n (suc t) (on t) (since_after was since (on t) t))
 
 all_right : (terms : Terms) (unit : Thermal) (fix : Fix) (cost : ℤ) (pattern : Pattern) → IsWay terms unit fix cost pattern
     → AllRight terms unit fix (commitment_of pattern) 0
 all_right terms unit fix cost pattern is =
-    own_way-right terms unit fix (commitment_of pattern) (period_count terms) 0 cost (omega arith)
-    (sym (way_of-way terms unit fix (commitment_of pattern) (period_count terms) 0 unit.on0 0) ∙ is.attained)
+    own_way-right terms unit fix (commitment_of pattern) (period_count terms) 0 cost (omega arith) is.attained
 
 pub way-pattern : (terms : Terms) (unit : Thermal) (fix : Fix) (cost : ℤ) (pattern : Pattern) → IsLawfulThermal unit → AreSizedTerms unit terms
     → IsWay terms unit fix cost pattern → IsPattern (period_count terms) unit fix (commitment_of pattern)
@@ -48,8 +38,7 @@ pub way-value : (terms : Terms) (unit : Thermal) (fix : Fix) (cost : ℤ) (patte
     → IsWay terms unit fix cost pattern → cost ≡ pattern_value terms unit (commitment_of pattern)
 way-value terms unit fix cost pattern is =
     same-some cost (pattern_value terms unit (commitment_of pattern))
-    (sym is.attained ∙ way_of-way terms unit fix (commitment_of pattern) (period_count terms) 0 unit.on0 0
-    ∙ whole_way-from terms unit fix (commitment_of pattern) (all_right terms unit fix cost pattern is))
+    (sym is.attained ∙ whole_way-from terms unit fix (commitment_of pattern) (all_right terms unit fix cost pattern is))
 
 -- ---- the answer
 -- the cost of the least way, with a pattern whose way it is; or that there is none

@@ -10,7 +10,7 @@ use Rattle.uc_model.specs.Switches.{may_start}
 use Rattle.dual_model.specs.CostToGo.{lesser_of, total_of, IsWithin, MAX_COST_TO_GO}
 use Rattle.unit_path.specs.inside.Choices.{Fix, Terms, Thermal, Choice, choice_cost, rests, start_total, IsLeastStart, IsOneOf, IsStart}
 use Rattle.unit_path.specs.inside.Hours.{IsCold, IsColdStart, IsStartIn}
-use Rattle.unit_path.proofs.Costs.{lesser-assoc, lesser-comm, total-zero}
+use Rattle.dual_model.proofs.Costs.{lesser-assoc, lesser-comm, total-zero}
 use Rattle.unit_path.proofs.Going.{start_total-end, to_go, to_go-end, to_go-fits}
 use Rattle.unit_path.proofs.RestLaws.{lasted-later, off-barred, off-free, rest-until, rests-barred, rests-free, rests-split}
 use Rattle.unit_path.proofs.Switched.{start-total_of}

@@ -9,7 +9,7 @@ use Rattle.uc_model.specs.Switches.{may_stop}
 use Rattle.dual_model.specs.CostToGo.{lesser_of, total_of, IsWithin, MAX_COST_TO_GO}
 use Rattle.unit_path.specs.inside.Choices.{Fix, Terms, Thermal, Choice, choice_cost, longer_of, stays, stop_cost, IsLeastStop, IsOneOf, IsStop, IsStopAtOnce}
 use Rattle.unit_path.specs.inside.Hours.{leave_cost, IsOnward, IsStopIn}
-use Rattle.unit_path.proofs.Costs.{total-assoc, total-zero}
+use Rattle.dual_model.proofs.Costs.{total-assoc, total-zero}
 use Rattle.unit_path.proofs.Going.{on-step, stop_cost-end, to_go, to_go-end, to_go-fits}
 use Rattle.unit_path.proofs.RunLaws.{run-least, stay-barred, stay-hour, stays-split}
 use Rattle.unit_path.proofs.Switched.{stop-total}

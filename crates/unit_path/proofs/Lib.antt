@@ -1,6 +1,5 @@
 pub mod BestPatterns
 pub mod BestWays
-pub mod Costs
 pub mod Entries
 pub mod Gaps
 pub mod Going

@@ -7,7 +7,7 @@ use Rattle.dual_model.specs.Moves.{may_be_off, may_be_on, move}
 use Rattle.uc_model.specs.Switches.{has_lasted, may_start}
 use Rattle.dual_model.specs.CostToGo.{lesser_of, total_of}
 use Rattle.unit_path.specs.inside.Choices.{Fix, Terms, Thermal, rests, start_total}
-use Rattle.unit_path.proofs.Costs.{lesser-none, total-assoc, total-none, total-zero, zero-total}
+use Rattle.dual_model.proofs.Costs.{lesser-none, total-assoc, total-none, total-zero, zero-total}
 use Rattle.unit_path.proofs.Going.{off-step, start_total-at, to_go}
 
 -- a state that has lasted for long enough has so in a later period

@@ -12,7 +12,7 @@ use Rattle.uc_model.specs.Switches.{may_stop}
 use Rattle.dual_model.specs.CostToGo.{lesser_of, total_of, MAX_MOVE}
 use Rattle.unit_path.specs.inside.Choices.{Fix, Terms, Thermal, stays, stop_cost}
 use Rattle.unit_path.specs.inside.Hours.{leave_cost, stay_cost}
-use Rattle.unit_path.proofs.Costs.{lesser-comm, lesser-none, total-assoc, total-none, total-zero, zero-total}
+use Rattle.dual_model.proofs.Costs.{lesser-comm, lesser-none, total-assoc, total-none, total-zero, zero-total}
 use Rattle.unit_path.proofs.Going.{on-step, stop_cost-at, to_go}
 
 -- ---- one period

@@ -6,11 +6,11 @@ use Rattle.uc_model.specs.PatternBits.{commitment_of}
 use Rattle.uc_model.specs.Terms.{period_count}
 use Rattle.dual_model.specs.Moves.{holds_initially, may_be_off, may_be_on, move}
 use Rattle.uc_model.specs.Switches.{may_start, may_stop}
-use Rattle.dual_model.specs.CostToGo.{end_cost, total_of}
+use Rattle.dual_model.specs.CostToGo.{end_cost, total_of, way}
 use Rattle.dual_model.proofs.Optimum.{total_of-parts}
 use Rattle.unit_path.specs.inside.Choices.{Fix, Terms, Thermal, Choice, choice_cost, rests, start_total, stays, stop_cost, switch_after, IsStart, IsStop, IsSwitch}
 use Rattle.unit_path.specs.inside.Hours.{Hour, IsHour}
-use Rattle.unit_path.specs.inside.Ways.{Pattern, way_of, IsWay}
+use Rattle.unit_path.specs.inside.Ways.{Pattern, IsWay}
 use Rattle.unit_path.proofs.Going.{start_total-at, start_total-end, stop_cost-at, stop_cost-end, to_go}
 use Rattle.unit_path.proofs.WayLaws.{ended, lasting, switched, way_from}
 
@@ -22,10 +22,10 @@ pub record IsTraced (terms : Terms) (unit : Thermal) (fix : Fix) (total : ℤ) (
   pub soon : since ≤ suc from
   pub switch : IsSwitch terms unit fix on since (record { cost = cost; at = to })
   pub off : (k : ℕ) → from ≤ k → commitment_of pattern k ≡ false
-  pub way : (other : Commitment) → ((k : ℕ) → k < from → other k ≡ commitment_of pattern k)
+  pub leads : (other : Commitment) → ((k : ℕ) → k < from → other k ≡ commitment_of pattern k)
       → ((k : ℕ) → from ≤ k → k < since → other k ≡ on)
       → way_from terms unit fix other since on since ≡ Some cost
-      → way_of terms unit fix other (period_count terms) 0 unit.on0 0 ≡ Some total
+      → way terms unit fix other (period_count terms) 0 unit.on0 0 ≡ Some total
 
 -- the next pattern has the run too
 pub record HasRun (old new : Pattern) (on : Bool) (from to : ℕ) : Type 0 where
@@ -137,8 +137,8 @@ trace-more terms unit fix total old new on from to next end hour h is traced run
       soon = omega arith;
       switch = subst (λ k. IsSwitch terms unit fix (not on) (suc to) (record { cost = behind.chosen.cost; at = k })) (sym at) behind.holds;
       off = λ k high. run.after k high ∙ traced.off k (omega arith);
-      way = λ other same here rest.
-          traced.way other (λ k short. same k (omega arith) ∙ run.before k short)
+      leads = λ other same here rest.
+          traced.leads other (λ k short. same k (omega arith) ∙ run.before k short)
           (λ k a b. same k (omega arith) ∙ run.run k a (omega arith) (traced.off k a))
           (switched terms unit fix other on traced.since to low h
           (λ k a b. same k b ∙ run.run k (omega arith) b (traced.off k (omega arith))) (here to (omega arith) (omega arith))
@@ -170,7 +170,7 @@ trace-end terms unit fix total old new on from to end h e traced run =
     let first = traced.after in
     record {
       attained =
-          traced.way (commitment_of new) (λ k short. run.before k short) (λ k a b. run.run k a (omega arith) (traced.off k a))
+          traced.leads (commitment_of new) (λ k short. run.before k short) (λ k a b. run.run k a (omega arith) (traced.off k a))
           (ended terms unit fix (commitment_of new) on traced.since to low h (λ k a b. run.run k (omega arith) (omega arith) (traced.off k (omega arith)))
           ∙ ap (total_of (lasting terms unit fix on traced.since traced.since (to - traced.since))) (sym (switch-end terms unit fix on traced.since to h))
           ∙ switch.attained);
@@ -188,6 +188,6 @@ trace-start terms unit fix pattern first switch off = record {
   soon = omega arith;
   switch = switch;
   off = λ k low. off k;
-  way = λ other same here rest.
-      ap (λ n. way_of terms unit fix other n 0 unit.on0 0) (let e : period_count terms ≡ period_count terms - 0 = omega arith in e) ∙ rest;
+  leads = λ other same here rest.
+      ap (λ n. way terms unit fix other n 0 unit.on0 0) (let e : period_count terms ≡ period_count terms - 0 = omega arith in e) ∙ rest;
 }

@@ -3,27 +3,26 @@ use Rattle.std.proofs.Common.{◌≡◌, ℕ, zero, suc, ◌+◌, ◌-◌, ◌<�
 use Rattle.uc_model.specs.Commitment.{Commitment}
 use Rattle.uc_model.specs.Terms.{period_count}
 use Rattle.dual_model.specs.Moves.{move}
-use Rattle.dual_model.specs.CostToGo.{end_cost, since_after, total_of}
+use Rattle.dual_model.specs.CostToGo.{end_cost, since_after, total_of, way}
 use Rattle.unit_path.specs.inside.Choices.{Fix, Terms, Thermal, rests, stays}
-use Rattle.unit_path.specs.inside.Ways.{way_of}
-use Rattle.unit_path.proofs.Costs.{total-assoc, total-zero}
+use Rattle.dual_model.proofs.Costs.{total-assoc, total-zero}
 
 -- the way from a state before period t on
 abbrev pub way_from : Terms → Thermal → Fix → Commitment → ℕ → Bool → ℕ → Option ℤ
-way_from terms unit fix on t was since = way_of terms unit fix on (period_count terms - t) t was since
+way_from terms unit fix on t was since = way terms unit fix on (period_count terms - t) t was since
 
 way-step : (terms : Terms) (unit : Thermal) (fix : Fix) (on : Commitment) (t : ℕ) (was : Bool) (since : ℕ) (now : Bool) → t < period_count terms → on t ≡ now
     → way_from terms unit fix on t was since ≡ total_of (move terms unit fix t was since now) (way_from terms unit fix on (suc t) now (since_after was since now t))
 way-step terms unit fix on t was since now h e =
     let left : period_count terms - t ≡ suc (period_count terms - suc t) = omega arith in
-    ap (λ n. way_of terms unit fix on n t was since) left
+    ap (λ n. way terms unit fix on n t was since) left
     ∙ (λ i. total_of (move terms unit fix t was since (e i)) (way_from terms unit fix on (suc t) (e i) (since_after was since (e i) t)))
 
 way-end : (terms : Terms) (unit : Thermal) (fix : Fix) (on : Commitment) (t : ℕ) (was : Bool) (since : ℕ) → t ≡ period_count terms
     → way_from terms unit fix on t was since ≡ end_cost terms unit t was since
 way-end terms unit fix on t was since h =
     let left : period_count terms - t ≡ 0 = omega arith in
-    ap (λ n. way_of terms unit fix on n t was since) left
+    ap (λ n. way terms unit fix on n t was since) left
 
 -- a state that lasts, and one that is left
 stay-step : (terms : Terms) (unit : Thermal) (fix : Fix) (bits : Commitment) (t : ℕ) (on : Bool) (since : ℕ) → t < period_count terms → bits t ≡ on

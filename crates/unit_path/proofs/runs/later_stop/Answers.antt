@@ -5,7 +5,7 @@ use Rattle.uc_model.proofs.Sizes.{wide}
 use Rattle.dual_model.specs.CostToGo.{lesser_of, total_of, MAX_COST_TO_GO}
 use Rattle.unit_path.specs.inside.Choices.{choice_cost, longer_of, stays, stop_cost}
 use Rattle.unit_path.specs.inside.Hours.{hour_in}
-use Rattle.unit_path.proofs.Costs.{lesser-none}
+use Rattle.dual_model.proofs.Costs.{lesser-none}
 use Rattle.unit_path.proofs.Entries.{on_until-entry, onward-entry}
 use Rattle.unit_path.proofs.Going.{to_go}
 use Rattle.unit_path.proofs.LeastStops.{least-at_once, least-later}

@@ -1,8 +1,9 @@
 -- Laws of the total and the lesser of costs that may not be there.
+-- Cite from a crate above by `use Rattle.dual_model.proofs.Costs.{total-zero, lesser-none}`.
 use Rattle.std.proofs.Common.{◌≡◌, refl, ap, arith, ℤ, pos, ◌+ℤ◌, Option, Some, None}
 use Rattle.std.proofs.lemmas.Int.{ints}
 use Rattle.uc_model.proofs.Ring.{linear}
-use Rattle.dual_model.specs.CostToGo.{lesser_of, total_of}
+use Rattle.dual_model.specs.Bellman.{lesser_of, total_of}
 
 -- ---- totals
 pub total-none : (a : Option ℤ) → total_of a None ≡ None
@@ -22,7 +23,6 @@ total-assoc (Some a) (Some b) (Some c) = ap Some (let e : (a +ℤ b) +ℤ c ≡ 
 total-assoc _ _ _ = refl
 
 -- ---- the lesser one
-
 pub lesser-none : (a : Option ℤ) → lesser_of a None ≡ a
 lesser-none None = refl
 lesser-none (Some a) = refl
