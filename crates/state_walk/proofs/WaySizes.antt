@@ -1,5 +1,5 @@
 -- The ways of a unit by its runs cost little beside 128 bits.
-use Rattle.std.proofs.Common.{◌≡◌, ℕ, zero, suc, ◌+◌, ◌-◌, ◌*◌, ◌^◌, ◌≤◌, Bool, true, false, not, refl, subst, arith, ℤ, ◌*ℤ◌, unsigned_abs, Option, Some, None, if◌then◌else◌}
+use Rattle.std.proofs.Common.{◌≡◌, ℕ, zero, suc, ◌+◌, ◌-◌, ◌*◌, ◌^◌, ◌≤◌, Bool, true, false, not, refl, sym, subst, arith, ℤ, ◌*ℤ◌, unsigned_abs, Option, Some, None, if◌then◌else◌}
 use Rattle.std.proofs.lemmas.Int.{ints}
 use Rattle.std.proofs.lemmas.Bool.{cond_both}
 use Rattle.uc_model.specs.StartCategory.{sigma}
@@ -12,6 +12,7 @@ use Rattle.dual_model.proofs.CostSizes.{lesser_of-size, more_room, total_of-size
 use Rattle.hull_function.specs.Hours.{MAX_HOUR}
 use Rattle.unit_runs.specs.Runs.{entry_output}
 use Rattle.unit_runs.specs.RunsToGo.{Fix, run_from, run_until, runs_to_go, switch_cost}
+use Rattle.unit_runs.proofs.Changes.{by_change}
 use Rattle.state_walk.specs.inside.CostToEnd.{cost_to_end}
 use Rattle.state_walk.specs.inside.Problems.{IsLawful, Steps, Table, Thermal}
 use Rattle.state_walk.proofs.Mirror.{run-same}
@@ -55,12 +56,12 @@ module _ (periods : ℕ) (table : Table) (unit : Thermal) (hull : Steps) (lawful
         more_room (MAX_HOUR * (t - run_from since)) (2 * MAX_HOUR * 0 + MAX_HOUR * (t - run_from since)) _ (omega arith) (run-size since t order (omega (arith, within)))
     to-go-size zero t false since order within = omega arith
     to-go-size (suc n) t was since order within =
-        lesser_of-size _ _ most
+        subst (IsWithin most) (sym (by_change periods table unit fix n t was since)) (lesser_of-size _ _ most
         (more_room (MAX_HOUR * suc (t - run_from since) + (2 * MAX_HOUR * n + MAX_HOUR * (suc t - t))) most _ (omega arith)
         (total_of-size _ _ (MAX_HOUR * suc (t - run_from since)) (2 * MAX_HOUR * n + MAX_HOUR * (suc t - t)) (switch-size t was since order (omega (arith, within)))
         (to-go-size n (suc t) (not was) (suc t) (omega arith) (omega (arith, within)))))
         (only_where _ _ most
-        (more_room (2 * MAX_HOUR * n + MAX_HOUR * (suc t - run_from since)) most _ (omega (arith, order)) (to-go-size n (suc t) was since (omega (arith, order)) (omega (arith, within)))))
+        (more_room (2 * MAX_HOUR * n + MAX_HOUR * (suc t - run_from since)) most _ (omega (arith, order)) (to-go-size n (suc t) was since (omega (arith, order)) (omega (arith, within))))))
       where
         most : ℕ
         most = 2 * MAX_HOUR * suc n + MAX_HOUR * (t - run_from since)

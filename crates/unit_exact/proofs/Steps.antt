@@ -4,25 +4,14 @@ use Rattle.std.specs.Int.{int_min}
 use Rattle.std.proofs.lemmas.Int.{ints}
 use Rattle.std.proofs.lemmas.Bool.{cond-true, cond-false, eq-eqb, ne_eqb}
 use Rattle.dual_model.specs.CostToGo.{lesser_of, total_of}
+use Rattle.dual_model.proofs.Costs.{lesser-assoc, lesser-none}
 use Rattle.unit_runs.specs.RunsToGo.{Fix, may_stay, runs_to_go, switch_cost}
+use Rattle.unit_runs.proofs.Changes.{by_change}
 use Rattle.unit_exact.specs.inside.Choices.{Choice, IsCostBelow, IsOneOf, IsReached}
 use Rattle.unit_exact.specs.inside.Problems.{Table, Thermal}
 use Rattle.unit_exact.specs.inside.Switches.{switch_total}
 
 -- ---- the lesser of several
-min_assoc : (a b c : ℤ) → int_min (int_min a b) c ≡ int_min a (int_min b c)
-min_assoc a b c = grind (arith, ints)
-
-lesser_assoc : (a b c : Option ℤ) → lesser_of (lesser_of a b) c ≡ lesser_of a (lesser_of b c)
-lesser_assoc None b c = refl
-lesser_assoc (Some a) None c = refl
-lesser_assoc (Some a) (Some b) None = refl
-lesser_assoc (Some a) (Some b) (Some c) = ap Some (min_assoc a b c)
-
-lesser_none : (a : Option ℤ) → lesser_of a None ≡ a
-lesser_none None = refl
-lesser_none (Some a) = refl
-
 min_first : (a b : ℤ) → a ≤ℤ b → int_min a b ≡ a
 min_first a b h = grind (arith, ints)
 
@@ -30,11 +19,11 @@ min_first a b h = grind (arith, ints)
 pub lesser-below : (known cost found : Option ℤ) → IsCostBelow known cost found → lesser_of known found ≡ lesser_of known cost
 lesser-below known cost found is = ⊎_elim
     (λ (same : found ≡ cost). ap (lesser_of known) same)
-    (λ (over : (found ≡ None) × IsReached known cost). ap (lesser_of known) over.0 ∙ lesser_none known ∙ sym (no_less cost over.1))
+    (λ (over : (found ≡ None) × IsReached known cost). ap (lesser_of known) over.0 ∙ lesser-none known ∙ sym (no_less cost over.1))
     is
   where
     no_less : (o : Option ℤ) → IsReached known o → lesser_of known o ≡ known
-    no_less None reached = lesser_none known
+    no_less None reached = lesser-none known
     no_less (Some v) reached =
         let limit = reached v refl in
         ap (λ k. lesser_of k (Some v)) limit.1 ∙ ap Some (min_first limit.0 v limit.2) ∙ sym limit.1
@@ -48,13 +37,13 @@ some-below known cost found v is e = ⊎_elim
 -- with one more way known
 pub next-cost : (known total rest whole new : Option ℤ) → lesser_of known (lesser_of total rest) ≡ whole → new ≡ lesser_of known total
     → lesser_of new rest ≡ whole
-next-cost known total rest whole new e is = ap (λ o. lesser_of o rest) is ∙ lesser_assoc known total rest ∙ e
+next-cost known total rest whole new e is = ap (λ o. lesser_of o rest) is ∙ lesser-assoc known total rest ∙ e
 
 -- and none behind it
 pub last-cost : (known total rest whole new : Option ℤ) → lesser_of known (lesser_of total rest) ≡ whole → rest ≡ None
     → new ≡ lesser_of known total → new ≡ whole
 last-cost known total rest whole new e none is =
-    sym (lesser_none new) ∙ ap (lesser_of new) (sym none) ∙ next-cost known total rest whole new e is
+    sym (lesser-none new) ∙ ap (lesser_of new) (sym none) ∙ next-cost known total rest whole new e is
 
 -- what holds of the known choice and of the new one holds of the better of them
 pub some-of : (Q : Choice → Type 0) (known result : Option Choice) (cost : Option ℤ) (at : ℕ) → IfSome known Q
@@ -85,6 +74,7 @@ module _ (periods : ℕ) (table : Table) (unit : Thermal) (fix : Fix) where
   by_switch t was since l =
       let left : periods - t ≡ suc (periods - suc t) = omega arith in
       ap (λ n. runs_to_go periods table unit fix n t was since) left
+      ∙ by_change periods table unit fix (periods - suc t) t was since
       ∙ ap (λ o. lesser_of o (kept t was since)) (sym (total-before t was since l))
 
   pub at_end : (t : ℕ) (was : Bool) (since : ℕ) → t ≡ periods → to_go t was since ≡ switch_total periods table unit fix t was since
@@ -112,4 +102,4 @@ module _ (periods : ℕ) (table : Table) (unit : Thermal) (fix : Fix) where
   pub ends_here : (t : ℕ) (was : Bool) (since : ℕ) (new whole : Option ℤ) → may_stay unit fix t was ≡ false
       → lesser_of new (kept t was since) ≡ whole → new ≡ whole
   ends_here t was since new whole may e =
-      sym (lesser_none new) ∙ ap (lesser_of new) (sym (cond-false (may_stay unit fix t was) (to_go (suc t) was since) None may)) ∙ e
+      sym (lesser-none new) ∙ ap (lesser_of new) (sym (cond-false (may_stay unit fix t was) (to_go (suc t) was since) None may)) ∙ e

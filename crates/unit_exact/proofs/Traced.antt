@@ -7,8 +7,10 @@ use Rattle.dual_model.specs.Moves.{may_be_off, may_be_on, holds_initially, stop_
 use Rattle.uc_model.specs.Switches.{may_start, may_stop}
 use Rattle.uc_model.specs.StartCategory.{sigma}
 use Rattle.dual_model.proofs.Optimum.{Parts, total_of-parts}
+use Rattle.dual_model.proofs.Ways.{through}
 use Rattle.unit_runs.specs.Patterns.{Commitment}
-use Rattle.unit_runs.specs.RunsToGo.{Fix, by_change, last_cost, may_stay, run_until, runs_to_go, runs_way, switch_cost, whole_way}
+use Rattle.unit_runs.specs.RunsToGo.{Fix, last_cost, may_stay, run_until, runs_to_go, runs_way, switch_cost, whole_way}
+use Rattle.unit_runs.proofs.Changes.{way-kept, way-switched}
 use Rattle.unit_exact.specs.inside.Choices.{Choice, choice_cost}
 use Rattle.unit_exact.specs.inside.Problems.{Table, Thermal}
 use Rattle.unit_exact.specs.inside.Switches.{AreSwitches, IsLeastSwitch, IsPlan, Switches, next_after, switch_total}
@@ -41,27 +43,12 @@ module _ (periods : ℕ) (table : Table) (unit : Thermal) (fix : Fix) where
         ap (λ n. runs_way periods table unit fix other n 0 unit.on0 0) left ∙ e;
   }
 
-  -- the way that is switched in period t, and the one that goes on
-  abbrev changed : Commitment → ℕ → Bool → ℕ → Option ℤ
-  changed on t was since = total_of (switch_cost periods table unit fix t was since) (way on (suc t) (not was) (suc t))
-
-  abbrev kept_way : Commitment → ℕ → Bool → ℕ → Option ℤ
-  kept_way on t was since = if may_stay unit fix t was then way on (suc t) was since else None
-
   -- the way in period t
   way-at : (on : Commitment) (t : ℕ) (was : Bool) (since : ℕ) → t < periods
-      → way on t was since ≡ by_change was (on t) (changed on t was since) (kept_way on t was since)
+      → way on t was since ≡ runs_way periods table unit fix on (suc (periods - suc t)) t was since
   way-at on t was since l =
       let left : periods - t ≡ suc (periods - suc t) = omega arith in
       ap (λ n. runs_way periods table unit fix on n t was since) left
-
-  changes : (was : Bool) (a b : Option ℤ) → by_change was (not was) a b ≡ a
-  changes true a b = refl
-  changes false a b = refl
-
-  stays : (was : Bool) (a b : Option ℤ) → by_change was was a b ≡ b
-  stays true a b = refl
-  stays false a b = refl
 
   -- the state goes on
   pub traced-stay : (total : ℤ) (on after : Commitment) (t : ℕ) (was : Bool) (next : ℕ) → t < periods → t ≢ next → AgreeBefore t on after
@@ -81,9 +68,8 @@ module _ (periods : ℕ) (table : Table) (unit : Thermal) (fix : Fix) where
         let later = traced.plan.later in
         traced.leads other (λ k h. agree k (omega (arith, h)) ∙ same k h)
         (way-at other t was traced.since l
-        ∙ ap (λ b. by_change was b (changed other t was traced.since) (kept_way other t was traced.since)) (agree t (omega arith) ∙ bit)
-        ∙ stays was (changed other t was traced.since) (kept_way other t was traced.since)
-        ∙ cond-true (may_stay unit fix t was) (way other (suc t) was traced.since) None (traced.plan.stays t (omega arith) (omega (arith, later, apart)))
+        ∙ way-kept periods table unit fix other (periods - suc t) t was traced.since (agree t (omega arith) ∙ bit)
+        (traced.plan.stays t (omega arith) (omega (arith, later, apart)))
         ∙ e);
   }
 
@@ -100,9 +86,7 @@ module _ (periods : ℕ) (table : Table) (unit : Thermal) (fix : Fix) where
     leads = λ other agree e.
         traced.leads other (λ k h. agree k (omega (arith, h)) ∙ same k h)
         (way-at other t was traced.since l
-        ∙ ap (λ c. by_change was c (changed other t was traced.since) (kept_way other t was traced.since))
-        (agree t (omega arith) ∙ bit)
-        ∙ changes was (changed other t was traced.since) (kept_way other t was traced.since)
+        ∙ way-switched periods table unit fix other (periods - suc t) t was traced.since (agree t (omega arith) ∙ bit)
         ∙ (λ i. total_of (rest.first_is i) (e i))
         ∙ ap (λ z. Some (rest.first +ℤ z)) (sym cost)
         ∙ ap Some (sym rest.total));
@@ -134,21 +118,17 @@ module _ (periods : ℕ) (table : Table) (unit : Thermal) (fix : Fix) where
   chosen Q None v e h = cc
   chosen Q (Some choice) v e h = record { choice = choice; is = refl; cost = cc; holds = h }
 
-  through : (b : Bool) (o : Option ℤ) (v : ℤ) → (if b then o else None) ≡ Some v → IsTrue b
-  through true o v e = refl
-  through false o v e = cc
-
   -- the least way from the switch on, as the table has it
   least_after : (t : ℕ) (was : Bool) (since : ℕ) (v : ℤ) (entry : Switches) → AreSwitches periods table unit fix t entry
       → switch_cost periods table unit fix t was since ≡ Some v
       → IsLeastSwitch periods table unit fix (suc t) (not was) (suc t) (if not was then entry.start else entry.stop)
   least_after t true since v entry are e =
       let tests = through (may_be_off unit fix t && holds_initially unit t true && may_stop unit since t) (run_until periods table unit since t) v e in
-      let firsts = and_parts (may_be_off unit fix t && holds_initially unit t true) (may_stop unit since t) tests in
+      let firsts = and_parts (may_be_off unit fix t && holds_initially unit t true) (may_stop unit since t) tests.0 in
       are.stop (and_parts (may_be_off unit fix t) (holds_initially unit t true) firsts.0).0
   least_after t false since v entry are e =
       let tests = through (may_be_on fix t && may_start unit since t) (Some (table.k *ℤ sigma unit (stop_since since) t)) v e in
-      are.start (and_parts (may_be_on fix t) (may_start unit since t) tests).0
+      are.start (and_parts (may_be_on fix t) (may_start unit since t) tests.0).0
 
   traced-next : (total : ℤ) (on after : Commitment) (t : ℕ) (was : Bool) (entry : Switches) → t < periods → AgreeBefore t on after
       → after t ≡ not was → AreSwitches periods table unit fix t entry → IsTraced total on t was t

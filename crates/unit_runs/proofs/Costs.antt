@@ -1,41 +1,13 @@
--- Costs that may not be there: totals, and the least over whole numbers in a row.
+-- The least cost over whole numbers in a row.
 -- Cite from a crate above by `use Rattle.unit_runs.proofs.Costs.{least_between-at_most}`.
-use Rattle.std.proofs.Common.{◌≡◌, ℕ, zero, suc, ◌<◌, ◌⊎◌, inl, inr, ⊎_elim, Bool, true, false, refl, sym, subst, ◌∙◌, arith, ℤ, pos, ◌+ℤ◌, ◌-ℤ◌, ◌≤ℤ◌, int_le, unsigned_abs, Option, Some, None}
-use Rattle.std.specs.Int.{int_min}
-use Rattle.std.proofs.lemmas.Int.{ints}
-use Rattle.std.proofs.lemmas.Bool.{cond_both, cond-true, cond-false}
+use Rattle.std.proofs.Common.{◌≡◌, ℕ, zero, suc, ◌<◌, ⊎_elim, Bool, true, false, refl, sym, subst, ◌∙◌, arith, ℤ, pos, ◌+ℤ◌, ◌-ℤ◌, ◌≤ℤ◌, int_le, unsigned_abs, Option, Some, None}
+use Rattle.std.proofs.lemmas.Bool.{cond-true, cond-false}
 use Rattle.uc_model.proofs.Ring.{linear, le_trans, pos_of_nonneg}
 use Rattle.uc_model.proofs.Sums.{below_or_last}
 use Rattle.uc_model.proofs.Tests.{int_le-true, le-int_le}
 use Rattle.uc_model.proofs.HullPoints.{abs_is}
-use Rattle.dual_model.specs.CostToGo.{lesser_of}
-use Rattle.dual_model.proofs.Optimum.{AtMost}
+use Rattle.dual_model.proofs.Optimum.{AtMost, lesser_left, lesser_right, lesser_one}
 use Rattle.unit_runs.specs.CostThrough.{least_from, least_between}
-
--- ---- the lesser of two
-pub lesser_left : (a b : Option ℤ) (v : ℤ) → AtMost a v → AtMost (lesser_of a b) v
-lesser_left None b v h = absurd (let e = h.is in cc)
-lesser_left (Some a) None v h = h
-lesser_left (Some a) (Some b) v h =
-    let same : a ≡ h.cost = (let e = h.is in cc) in
-    let le : int_min a b ≤ℤ a = grind (arith, ints) in
-    let below = h.below in
-    record { cost = int_min a b; is = refl; below = omega (arith, linear) }
-
-pub lesser_right : (a b : Option ℤ) (v : ℤ) → AtMost b v → AtMost (lesser_of a b) v
-lesser_right None b v h = h
-lesser_right (Some a) None v h = absurd (let e = h.is in cc)
-lesser_right (Some a) (Some b) v h =
-    let same : b ≡ h.cost = (let e = h.is in cc) in
-    let le : int_min a b ≤ℤ b = grind (arith, ints) in
-    let below = h.below in
-    record { cost = int_min a b; is = refl; below = omega (arith, linear) }
-
-pub lesser_one : (a b : Option ℤ) (v : ℤ) → lesser_of a b ≡ Some v → (a ≡ Some v) ⊎ (b ≡ Some v)
-lesser_one None b v e = inr e
-lesser_one (Some a) None v e = inl e
-lesser_one (Some a) (Some b) v e =
-    cond_both _ b a (λ (x : ℤ). Some x ≡ Some v → (◌≡◌ {A = Option ℤ} (Some a) (Some v)) ⊎ (◌≡◌ {A = Option ℤ} (Some b) (Some v))) (λ c h. inr h) (λ c h. inl h) e
 
 -- ---- the least over n numbers
 least_from-at_most : (low : ℤ) (n : ℕ) (f : ℤ → Option ℤ) (k : ℕ) (v : ℤ) → k < n → AtMost (f (low +ℤ pos k)) v → AtMost (least_from low n f) v

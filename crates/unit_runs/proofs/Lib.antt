@@ -7,5 +7,6 @@ pub mod Joined
 pub mod LeastValues
 pub mod ByRuns
 pub mod Capped
+pub mod Changes
 pub mod RunWays
 pub mod ByFix

@@ -1,15 +1,12 @@
--- The least value by runs of going on from a state of one thermal unit to the end of the horizon, over the number of periods
--- that are left. A state is whether the unit is on, and since when, as in a unit's moves: 0 stands for a time before the
--- first period, and suc s for the period s in which it was switched. A run is paid for where it ends. Source: Bellman's
--- principle of optimality (Dynamic Programming, 1957), over the graph of A. Frangioni and C. Gentile, "Solving Nonlinear
--- Single-Unit Commitment Problems with Ramping Constraints" (Operations Research 54, 2006).
+-- The least value by runs of going on from a state of one thermal unit to the end of the horizon: Bellman's recursion, in which a
+-- run is paid for where it ends. Source: the graph of A. Frangioni and C. Gentile, "Solving Nonlinear Single-Unit Commitment
+-- Problems with Ramping Constraints" (Operations Research 54, 2006).
 --
 -- Periods count from 0 here.
-use Rattle.std.specs.Prelude.{ℕ, zero, suc, ◌-◌, Bool, true, false, not, ◌&&◌, ℤ, pos, ◌*ℤ◌, ◌≤ℤ◌, Option, Some, None, if◌then◌else◌}
+use Rattle.std.specs.Prelude.{ℕ, zero, suc, ◌-◌, Bool, true, false, not, ℤ, pos, ◌*ℤ◌, ◌≤ℤ◌, Option, Some}
 use Rattle.uc_model.specs.StartCategory.{sigma}
-use Rattle.dual_model.specs.Moves.{holds_initially, may_be_off, may_be_on, stop_since}
-use Rattle.uc_model.specs.Switches.{may_start, may_stop}
-use Rattle.dual_model.specs.CostToGo.{total_of, lesser_of}
+use Rattle.dual_model.specs.Bellman.{MoveCosts, least_cost, way_cost}
+use Rattle.dual_model.specs.Moves.{allowed, may_move, stop_since}
 use Rattle.dual_model.specs.PatternValue.{IsPattern}
 pub use Rattle.dual_model.specs.declared.node.Fix.{Fix}
 use Rattle.unit_runs.specs.Runs.{Table, Thermal}
@@ -25,17 +22,20 @@ run_from (suc s) = s
 abbrev pub run_until : ℕ → Table → Thermal → ℕ → ℕ → Option ℤ
 run_until periods table unit since t = run_cost periods table unit (run_from since) (t - run_from since)
 
--- what a switch in period t costs a unit that was on or off since then; None where it may not be
-abbrev pub switch_cost : ℕ → Table → Thermal → Fix → ℕ → Bool → ℕ → Option ℤ
-switch_cost periods table unit fix t true since =
-    if may_be_off unit fix t && holds_initially unit t true && may_stop unit since t then run_until periods table unit since t else None
-switch_cost periods table unit fix t false since =
-    if may_be_on fix t && may_start unit since t then Some (table.k *ℤ sigma unit (stop_since since) t) else None
+-- what a move costs: the run that a stop ends, and a start
+abbrev pub run_and_start : ℕ → Table → Thermal → MoveCosts
+run_and_start periods table unit t true since true = Some (pos 0)
+run_and_start periods table unit t true since false = run_until periods table unit since t
+run_and_start periods table unit t false since true = Some (table.k *ℤ sigma unit (stop_since since) t)
+run_and_start periods table unit t false since false = Some (pos 0)
 
--- it may go on in period t as it was
+-- and that of a switch in period t of a unit that was on or off since then; None where it may not be
+abbrev pub switch_cost : ℕ → Table → Thermal → Fix → ℕ → Bool → ℕ → Option ℤ
+switch_cost periods table unit fix t was since = allowed unit fix (run_and_start periods table unit) t was since (not was)
+
+-- it may go on in period t as it was, whenever that began
 abbrev pub may_stay : Thermal → Fix → ℕ → Bool → Bool
-may_stay unit fix t true = may_be_on fix t && holds_initially unit t false
-may_stay unit fix t false = may_be_off unit fix t
+may_stay unit fix t was = may_move unit fix t was 0 was
 
 -- at the end of the horizon, t, the run that lasts is paid for
 abbrev pub last_cost : ℕ → Table → Thermal → ℕ → Bool → ℕ → Option ℤ
@@ -44,26 +44,13 @@ last_cost periods table unit t false since = Some (pos 0)
 
 -- the least cost from a state before period t on, with n periods left
 abbrev pub runs_to_go : ℕ → Table → Thermal → Fix → ℕ → ℕ → Bool → ℕ → Option ℤ
-runs_to_go periods table unit fix zero t was since = last_cost periods table unit t was since
-runs_to_go periods table unit fix (suc n) t was since =
-    lesser_of
-    (total_of (switch_cost periods table unit fix t was since) (runs_to_go periods table unit fix n (suc t) (not was) (suc t)))
-    (if may_stay unit fix t was then runs_to_go periods table unit fix n (suc t) was since else None)
+runs_to_go periods table unit fix n t was since =
+    least_cost (allowed unit fix (run_and_start periods table unit)) (last_cost periods table unit) n t was since
 
--- one of two costs, by whether the state changes
-abbrev pub by_change : Bool → Bool → Option ℤ → Option ℤ → Option ℤ
-by_change true true changed kept = kept
-by_change true false changed kept = changed
-by_change false true changed kept = changed
-by_change false false changed kept = kept
-
--- the cost of the way that a commitment takes
+-- the cost of the way that a commitment takes from there
 abbrev pub runs_way : ℕ → Table → Thermal → Fix → Commitment → ℕ → ℕ → Bool → ℕ → Option ℤ
-runs_way periods table unit fix on zero t was since = last_cost periods table unit t was since
-runs_way periods table unit fix on (suc n) t was since =
-    by_change was (on t)
-    (total_of (switch_cost periods table unit fix t was since) (runs_way periods table unit fix on n (suc t) (not was) (suc t)))
-    (if may_stay unit fix t was then runs_way periods table unit fix on n (suc t) was since else None)
+runs_way periods table unit fix on n t was since =
+    way_cost (allowed unit fix (run_and_start periods table unit)) (last_cost periods table unit) on n t was since
 
 -- both from the initial state on
 abbrev pub whole_way : ℕ → Table → Thermal → Fix → Commitment → Option ℤ

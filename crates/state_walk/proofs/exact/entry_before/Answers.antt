@@ -2,6 +2,7 @@
 use Rattle.std.proofs.Common.{◌≡◌, ℕ, suc, ◌-◌, true, false, sym, ap, subst, ◌∙◌, arith, ℤ, Option, None, if◌then◌else◌}
 use Rattle.dual_model.specs.CostToGo.{total_of, lesser_of, IsWithin, MAX_COST_TO_GO}
 use Rattle.unit_runs.specs.RunsToGo.{may_stay, runs_to_go, switch_cost}
+use Rattle.unit_runs.proofs.Changes.{by_change}
 use Rattle.state_walk.specs.inside.ExactTable.{Fix, exact_entry}
 use Rattle.state_walk.specs.inside.Problems.{Table, Thermal}
 use Rattle.state_walk.specs.inside.WalkTable.{CostToGo}
@@ -16,7 +17,11 @@ entry-suc : (periods : ℕ) (table : Table) (unit : Thermal) (fix : Fix) (n m t 
     (if may_stay unit fix t false then runs_to_go periods table unit fix n (suc t) false since else None)
     → (let e : CostToGo = record { on = on; off = off } in e) ≡ exact_entry periods table unit fix m t since
 entry-suc periods table unit fix n m t since e on off is_on is_off =
-    (λ i. record { on = is_on i; off = is_off i }) ∙ ap (λ k. exact_entry periods table unit fix k t since) (sym e)
+    (λ i. record {
+      on = (is_on ∙ sym (by_change periods table unit fix n t true since)) i;
+      off = (is_off ∙ sym (by_change periods table unit fix n t false since)) i;
+    })
+    ∙ ap (λ k. exact_entry periods table unit fix k t since) (sym e)
 
 pub onward-requires-clause-switch : goal.onward-requires-clause-switch
 onward-requires-clause-switch c =
