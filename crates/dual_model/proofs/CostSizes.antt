@@ -28,7 +28,7 @@ hour_before-size unit terms lawful sized (suc t) h start stop =
     hour_cost-size unit terms lawful sized t (omega arith) _ _ (sized.term t start stop (omega arith))
 
 -- what is there only where a test holds
-only_where : (b : Bool) (o : Option ℤ) (m : ℕ) → IsWithin m o → IsWithin m (if b then o else None)
+pub only_where : (b : Bool) (o : Option ℤ) (m : ℕ) → IsWithin m o → IsWithin m (if b then o else None)
 only_where b o m h = cond_both b o None (λ x. IsWithin m x) (λ e. h) (λ e. tt)
 
 pub move-size : (unit : Thermal) (terms : Terms) (fix : Fix) → IsLawfulThermal unit → AreSizedTerms unit terms → (t : ℕ) → t < period_count terms

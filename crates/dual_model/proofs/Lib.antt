@@ -18,6 +18,7 @@ pub mod TableValues
 pub mod TermLists
 pub mod CellCaps
 pub mod CostSizes
+pub mod BestChoices
 pub mod Costs
 pub mod Optimum
 pub mod Switches

@@ -10,7 +10,7 @@ use Rattle.uc_model.proofs.Sums.{sum_below-first, sum_below-same}
 use Rattle.uc_model.specs.Terms.{period_count, term_at, price_at}
 use Rattle.dual_model.specs.PatternValue.{Terms, Thermal, is_followed, term_of, period_value, pattern_value}
 use Rattle.dual_model.specs.Bellman.{MoveCosts, EndCosts, total_of, since_after, way_cost}
-use Rattle.dual_model.specs.Moves.{Fix, may_be_on, may_be_off, may_move, allowed, holds_initially, stop_since, hour_cost, hour_before, hour_and_start, move}
+use Rattle.dual_model.specs.Moves.{Fix, may_be_on, may_be_off, may_move, allowed, holds_initially, stop_since, hour_cost, hour_before, hour_and_start}
 use Rattle.uc_model.specs.Switches.{may_stop, may_start}
 use Rattle.dual_model.specs.CostToGo.{end_cost, way}
 use Rattle.dual_model.proofs.Optimum.{total_of-parts}

@@ -19,5 +19,6 @@ pub mod UnitTerms
 pub mod PatternValue
 pub mod TableValue
 pub mod Bellman
+pub mod Choices
 pub mod Moves
 pub mod CostToGo

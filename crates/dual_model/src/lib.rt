@@ -5,6 +5,7 @@
 //! of its own. The definitions stand in `specs/`, and the laws are the contracts of the module `laws`.
 #![tactic(auto)]
 
+pub mod choices;
 pub mod exact;
 pub mod examples;
 pub mod laws;

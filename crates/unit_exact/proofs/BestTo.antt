@@ -2,11 +2,12 @@
 use Rattle.std.proofs.Common.{◌≡◌, ℕ, suc, ◌-◌, ◌<◌, ◌≤◌, ⊎_elim, Bool, false, ◌==◌, refl, sym, subst, ◌∙◌, arith, ℤ, pos, IsTrue, Option, Some, None, IfSome}
 use Rattle.std.proofs.lemmas.Bool.{cases_lt, cond-true, eq-eqb}
 use Rattle.dual_model.specs.CostToGo.{lesser_of}
+use Rattle.dual_model.proofs.BestChoices.{some-of}
 use Rattle.unit_runs.specs.RunsToGo.{Fix, may_stay, runs_to_go}
 use Rattle.unit_exact.specs.inside.Choices.{Choice, choice_cost, IsCostBelow, IsOneOf}
 use Rattle.unit_exact.specs.inside.Problems.{Table, Thermal}
 use Rattle.unit_exact.specs.inside.Switches.{IsBestTo, IsLeastSwitch, IsPlan, IsWithinSwitches, switch_total}
-use Rattle.unit_exact.proofs.Steps.{some-of, lesser-below, some-below, behind, none_behind, goes_on, ends_here}
+use Rattle.unit_exact.proofs.Steps.{lesser-below, some-below, behind, none_behind, goes_on, ends_here}
 
 module _ (periods : ℕ) (table : Table) (unit : Thermal) (fix : Fix) where
   abbrev to_go : ℕ → Bool → ℕ → Option ℤ

@@ -1,5 +1,5 @@
 -- The least way by its first switch: what is known of the earlier ones, the next one, and those behind it.
-use Rattle.std.proofs.Common.{◌≡◌, ℕ, suc, ◌-◌, ◌<◌, ⊎_elim, Bool, false, not, ◌==◌, refl, sym, ap, subst, ◌∙◌, arith, ℤ, ◌≤ℤ◌, IsTrue, Option, Some, None, IfSome, if◌then◌else◌}
+use Rattle.std.proofs.Common.{◌≡◌, ℕ, suc, ◌-◌, ◌<◌, ⊎_elim, Bool, false, not, ◌==◌, refl, sym, ap, ◌∙◌, arith, ℤ, ◌≤ℤ◌, IsTrue, Option, Some, None, if◌then◌else◌}
 use Rattle.std.specs.Int.{int_min}
 use Rattle.std.proofs.lemmas.Int.{ints}
 use Rattle.std.proofs.lemmas.Bool.{cond-true, cond-false, eq-eqb, ne_eqb}
@@ -7,7 +7,7 @@ use Rattle.dual_model.specs.CostToGo.{lesser_of, total_of}
 use Rattle.dual_model.proofs.Costs.{lesser-assoc, lesser-none}
 use Rattle.unit_runs.specs.RunsToGo.{Fix, may_stay, runs_to_go, switch_cost}
 use Rattle.unit_runs.proofs.Changes.{by_change}
-use Rattle.unit_exact.specs.inside.Choices.{Choice, IsCostBelow, IsOneOf, IsReached}
+use Rattle.unit_exact.specs.inside.Choices.{IsCostBelow, IsReached}
 use Rattle.unit_exact.specs.inside.Problems.{Table, Thermal}
 use Rattle.unit_exact.specs.inside.Switches.{switch_total}
 
@@ -44,15 +44,6 @@ pub last-cost : (known total rest whole new : Option ℤ) → lesser_of known (l
     → new ≡ lesser_of known total → new ≡ whole
 last-cost known total rest whole new e none is =
     sym (lesser-none new) ∙ ap (lesser_of new) (sym none) ∙ next-cost known total rest whole new e is
-
--- what holds of the known choice and of the new one holds of the better of them
-pub some-of : (Q : Choice → Type 0) (known result : Option Choice) (cost : Option ℤ) (at : ℕ) → IfSome known Q
-    → ((v : ℤ) → cost ≡ Some v → Q (record { cost = v; at = at })) → IsOneOf known cost at result → IfSome result Q
-some-of Q known result cost at old new one = ⊎_elim
-    (λ (same : result ≡ known). subst (λ o. IfSome o Q) (sym same) old)
-    (λ (other : (v : ℤ) × (cost ≡ Some v) × (result ≡ Some (record { cost = v; at = at }))).
-    subst (λ o. IfSome o Q) (sym other.2) (new other.0 other.1))
-    one
 
 -- ---- a period of the recursion
 module _ (periods : ℕ) (table : Table) (unit : Thermal) (fix : Fix) where

@@ -1,6 +1,6 @@
 -- The pattern of the least way, period by period: what it has so far leads with any way of the cost that is left to one of the
 -- whole cost.
-use Rattle.std.proofs.Common.{◌≡◌, ℕ, suc, ◌-◌, ◌<◌, ◌≢◌, ⊎_elim, Bool, true, false, not, ◌&&◌, ◌==◌, refl, sym, ap, subst, ◌∙◌, arith, ℤ, ◌+ℤ◌, ◌*ℤ◌, IsTrue, Option, Some, None, IfSome, if◌then◌else◌}
+use Rattle.std.proofs.Common.{◌≡◌, ℕ, suc, ◌-◌, ◌<◌, ◌≢◌, ⊎_elim, Bool, true, false, not, ◌&&◌, ◌==◌, refl, sym, ap, subst, ◌∙◌, arith, ℤ, ◌+ℤ◌, ◌*ℤ◌, Option, Some, None, IfSome, if◌then◌else◌}
 use Rattle.std.proofs.lemmas.Bool.{cases_Bool, cond-true, eq-eqb, eqb-true, eqb-false, and_parts}
 use Rattle.dual_model.specs.CostToGo.{total_of}
 use Rattle.dual_model.specs.Moves.{may_be_off, may_be_on, holds_initially, stop_since}
@@ -9,7 +9,7 @@ use Rattle.uc_model.specs.StartCategory.{sigma}
 use Rattle.dual_model.proofs.Optimum.{Parts, total_of-parts}
 use Rattle.dual_model.proofs.Ways.{through}
 use Rattle.unit_runs.specs.Patterns.{Commitment}
-use Rattle.unit_runs.specs.RunsToGo.{Fix, last_cost, may_stay, run_until, runs_to_go, runs_way, switch_cost, whole_way}
+use Rattle.unit_runs.specs.RunsToGo.{Fix, last_cost, run_until, runs_to_go, runs_way, switch_cost, whole_way}
 use Rattle.unit_runs.proofs.Changes.{way-kept, way-switched}
 use Rattle.unit_exact.specs.inside.Choices.{Choice, choice_cost}
 use Rattle.unit_exact.specs.inside.Problems.{Table, Thermal}

@@ -1,17 +1,11 @@
-//! Where a state ends on the least way, and the better of two such choices.
+//! The least ways from a switch on, and costs with those of choices behind them.
 
 ghost use Rattle.std.specs.Prelude.{◌≡◌, ◌+◌, ◌^◌, ◌<◌, ◌≤◌, ℤ, unsigned_abs, IfSome, Option, Some};
-ghost use Rattle.dual_model.specs.CostToGo.{lesser_of, total_of};
-ghost use Rattle.unit_exact.specs.inside.Choices.{choice_cost, IsOneOf, IsReached};
+ghost use Rattle.dual_model.specs.CostToGo.{total_of};
+ghost use Rattle.unit_exact.specs.inside.Choices.{choice_cost, IsReached};
 ghost use Rattle.unit_exact.specs.inside.Problems.{MAX_WAY};
 
-/// The least of some ways: what it costs, and the period in which the unit is switched next on it; the number of
-/// periods stands for no switch.
-#[derive(Clone, Copy)]
-pub(crate) struct Choice {
-    pub(crate) cost: i128,
-    pub(crate) at: usize,
-}
+use dual_model::choices::Choice;
 
 /// The least ways that begin with a switch in a period, without the cost of that switch; `None` is what may not be.
 #[derive(Clone, Copy)]
@@ -28,22 +22,6 @@ pub(crate) const UNKNOWN: Switches = Switches {
     stop: None,
 };
 
-/// The better of a choice and of a switch in period `at` at a cost that may not be there: of equal ones the first.
-pub(crate) fn better(best: Option<Choice>, cost: Option<i128>, at: usize) -> Option<Choice>
-    ensures cost { choice_cost result ≡ lesser_of (choice_cost best) cost }
-    ensures choice { IsOneOf best cost at result }
-{
-    match (best, cost) {
-        (best, None) => best,
-        (None, Some(cost)) => Some(Choice { cost, at }),
-        (Some(best), Some(cost)) => Some(if cost < best.cost {
-            Choice { cost, at }
-        } else {
-            best
-        }),
-    }
-}
-
 /// A cost with that of the choice behind it; none where there is no choice.
 pub(crate) fn with_choice(cost: i128, next: &Option<Choice>) -> Option<i128>
     requires { IfSome next.now (λ choice. unsigned_abs cost + unsigned_abs choice.cost < 2 ^ 127) }
@@ -52,16 +30,6 @@ pub(crate) fn with_choice(cost: i128, next: &Option<Choice>) -> Option<i128>
     match next {
         None => None,
         Some(next) => Some(cost + next.cost),
-    }
-}
-
-/// What the choice costs, where there is one.
-pub(crate) fn cost_of(choice: &Option<Choice>) -> Option<i128>
-    ensures { result ≡ choice_cost choice.now }
-{
-    match choice {
-        None => None,
-        Some(choice) => Some(choice.cost),
     }
 }
 

@@ -22,13 +22,14 @@ ghost use Rattle.unit_exact.specs.inside.Problems.{MAX_WAY};
 ghost use Rattle.unit_exact.specs.inside.Running.{HasRoom};
 ghost use Rattle.unit_exact.specs.inside.Switches.{AreSwitches, IsLeastSwitch, IsTableFrom};
 
-use crate::choices::{Choice, Switches, UNKNOWN};
+use crate::choices::{Switches, UNKNOWN};
 use crate::hourly::{Plain, is_hourly};
 use crate::runs::Runs;
 use crate::starts::next_start;
 use crate::stops::{after_start, first_stop};
 use crate::trace::pattern_of;
 use cost_curves::Curve;
+use dual_model::choices::Choice;
 use dual_model::{Fix, Table};
 use hull_function::Problem;
 use std::alloc::Global;

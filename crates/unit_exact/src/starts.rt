@@ -7,8 +7,9 @@ ghost use Rattle.hull_function.specs.Problems.{IsLawfulProblem};
 ghost use Rattle.unit_exact.specs.inside.Problems.{MAX_SWITCH};
 ghost use Rattle.unit_exact.specs.inside.Switches.{AreSwitches, IsLeastSwitch, IsTableFrom, IsWithinSwitches, switch_total};
 
-use crate::choices::{Choice, Switches, better, with_choice};
+use crate::choices::{Switches, with_choice};
 use crate::moves::{may_start, may_stay_off};
+use dual_model::choices::{Choice, better};
 use hull_function::Problem;
 use start_costs::sigma;
 use uc_model::scaled;

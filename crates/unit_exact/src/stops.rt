@@ -7,9 +7,10 @@ ghost use Rattle.unit_exact.specs.inside.Choices.{choice_cost, IsCostBelow};
 ghost use Rattle.unit_exact.specs.inside.Running.{HasRoom, IsRunning};
 ghost use Rattle.unit_exact.specs.inside.Switches.{AreSwitches, IsBestTo, IsLeastSwitch, IsTableFrom, IsWithinSwitches, switch_total};
 
-use crate::choices::{Choice, Switches, better, cost_of, limit_before, with_choice};
+use crate::choices::{Switches, limit_before, with_choice};
 use crate::moves::{may_stay_on, may_stop};
 use crate::runs::Runs;
+use dual_model::choices::{Choice, better, cost_of};
 use hull_function::Problem;
 use unit_runs::entry_output;
 

@@ -6,7 +6,8 @@ ghost use Rattle.hull_function.specs.Problems.{IsLawfulProblem};
 ghost use Rattle.unit_runs.specs.RunsToGo.{whole_way};
 ghost use Rattle.unit_exact.specs.inside.Switches.{IsPlan, IsTableFrom, next_after};
 
-use crate::choices::{Choice, Switches};
+use crate::choices::Switches;
+use dual_model::choices::{Choice, switch_or_end};
 use hull_function::Problem;
 use uc_model::Pattern;
 use uc_model::limits::MAX_PERIODS;
@@ -59,11 +60,7 @@ fn state_in(state: State, entry: &Switches, t: usize, end: usize) -> State
 fn next_switch(entry: &Switches, on: bool, end: usize) -> usize
     ensures { result ≡ next_after (if on then entry.now.start else entry.now.stop) end }
 {
-    let next = if on { &entry.start } else { &entry.stop };
-    match next {
-        None => end,
-        Some(choice) => choice.at,
-    }
+    switch_or_end(if on { &entry.start } else { &entry.stop }, end)
 }
 
 // The pattern with the unit on or off in a period in which it was off.

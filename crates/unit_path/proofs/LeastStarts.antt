@@ -10,6 +10,7 @@ use Rattle.uc_model.specs.Switches.{may_start}
 use Rattle.dual_model.specs.CostToGo.{lesser_of, total_of, IsWithin, MAX_COST_TO_GO}
 use Rattle.unit_path.specs.inside.Choices.{Fix, Terms, Thermal, Choice, choice_cost, rests, start_total, IsLeastStart, IsOneOf, IsStart}
 use Rattle.unit_path.specs.inside.Hours.{IsCold, IsColdStart, IsStartIn}
+use Rattle.dual_model.proofs.BestChoices.{some-of}
 use Rattle.dual_model.proofs.Costs.{lesser-assoc, lesser-comm, total-zero}
 use Rattle.unit_path.proofs.Going.{start_total-end, to_go, to_go-end, to_go-fits}
 use Rattle.unit_path.proofs.RestLaws.{lasted-later, off-barred, off-free, rest-until, rests-barred, rests-free, rests-split}
@@ -49,12 +50,7 @@ pub start-of_one : (terms : Terms) (unit : Thermal) (fix : Fix) (since t at : �
     → rests unit fix t (at - t) ≡ Some (pos 0) → cost ≡ start_total terms unit fix since at
     → IfSome known (IsStart terms unit fix since t) → IsOneOf known cost at result → IfSome result (IsStart terms unit fix since t)
 start-of_one terms unit fix since t at known result cost low high free is start one =
-    ⊎_elim
-    (λ (e : result ≡ known). subst (λ o. IfSome o (IsStart terms unit fix since t)) (sym e) start)
-    (λ (new : (v : ℤ) × (cost ≡ Some v) × (result ≡ Some (record { cost = v; at = at }))).
-    subst (λ o. IfSome o (IsStart terms unit fix since t)) (sym new.2)
-    (start-at terms unit fix since t at new.0 low high free (sym is ∙ new.1)))
-    one
+    some-of (IsStart terms unit fix since t) known result cost at start (λ v new. start-at terms unit fix since t at v low high free (sym is ∙ new)) one
 
 -- the least way by its cost and a start that attains it
 pub least-start : (terms : Terms) (unit : Thermal) (fix : Fix) → IsLawfulThermal unit → AreSizedTerms unit terms

@@ -9,6 +9,7 @@ use Rattle.uc_model.specs.Switches.{may_stop}
 use Rattle.dual_model.specs.CostToGo.{lesser_of, total_of, IsWithin, MAX_COST_TO_GO}
 use Rattle.unit_path.specs.inside.Choices.{Fix, Terms, Thermal, Choice, choice_cost, longer_of, stays, stop_cost, IsLeastStop, IsOneOf, IsStop, IsStopAtOnce}
 use Rattle.unit_path.specs.inside.Hours.{leave_cost, IsOnward, IsStopIn}
+use Rattle.dual_model.proofs.BestChoices.{some-of}
 use Rattle.dual_model.proofs.Costs.{total-assoc, total-zero}
 use Rattle.unit_path.proofs.Going.{on-step, stop_cost-end, to_go, to_go-end, to_go-fits}
 use Rattle.unit_path.proofs.RunLaws.{run-least, stay-barred, stay-hour, stays-split}
@@ -164,11 +165,7 @@ pub at_once-from : (terms : Terms) (unit : Thermal) (fix : Fix) (since : ℕ) (k
 at_once-from terms unit fix since known cost is chosen one = record {
   cost = chosen ∙ is;
   at =
-      ⊎_elim
-      (λ (e : known ≡ None). subst (λ o. IfSome o (λ choice. choice.at ≡ since)) (sym e) tt)
-      (λ (new : (v : ℤ) × (cost ≡ Some v) × (known ≡ Some (record { cost = v; at = since }))).
-      subst (λ o. IfSome o (λ choice. choice.at ≡ since)) (sym new.2) refl)
-      one;
+      some-of (λ choice. choice.at ≡ since) None known cost since tt (λ v new. refl) one;
 }
 
 pub least-end : (terms : Terms) (unit : Thermal) (fix : Fix) → IsLawfulThermal unit → AreSizedTerms unit terms
@@ -181,10 +178,6 @@ least-end terms unit fix lawful sized since t at choice cost end e is chosen one
       cost = whole;
       size = subst (IsWithin MAX_COST_TO_GO) (sym whole) (to_go-fits unit terms fix lawful sized t (omega arith) true since);
       stop =
-          ⊎_elim
-          (λ (none : choice ≡ None). subst (λ o. IfSome o (IsStop terms unit fix since t)) (sym none) tt)
-          (λ (new : (v : ℤ) × (cost ≡ Some v) × (choice ≡ Some (record { cost = v; at = at }))).
-          subst (λ o. IfSome o (IsStop terms unit fix since t)) (sym new.2)
-          (stop-here terms unit fix since t at new.0 e (omega arith) (stop_cost-end terms unit fix since t end ∙ sym is ∙ new.1)))
-          one;
+          some-of (IsStop terms unit fix since t) None choice cost at tt
+          (λ v new. stop-here terms unit fix since t at v e (omega arith) (stop_cost-end terms unit fix since t end ∙ sym is ∙ new)) one;
     }

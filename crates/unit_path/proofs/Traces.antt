@@ -8,7 +8,7 @@ use Rattle.dual_model.specs.Moves.{holds_initially, may_be_off, may_be_on, move}
 use Rattle.uc_model.specs.Switches.{may_start, may_stop}
 use Rattle.dual_model.specs.CostToGo.{end_cost, total_of, way}
 use Rattle.dual_model.proofs.Optimum.{total_of-parts}
-use Rattle.unit_path.specs.inside.Choices.{Fix, Terms, Thermal, Choice, choice_cost, rests, start_total, stays, stop_cost, switch_after, IsStart, IsStop, IsSwitch}
+use Rattle.unit_path.specs.inside.Choices.{Fix, Terms, Thermal, Choice, choice_cost, rests, start_total, stays, stop_cost, next_after, IsStart, IsStop, IsSwitch}
 use Rattle.unit_path.specs.inside.Hours.{Hour, IsHour}
 use Rattle.unit_path.specs.inside.Ways.{Pattern, IsWay}
 use Rattle.unit_path.proofs.Going.{start_total-at, start_total-end, stop_cost-at, stop_cost-end, to_go}
@@ -122,14 +122,14 @@ switch-behind terms unit fix false since to cost hour h switch is =
 -- ---- one switch more
 pub trace-more : (terms : Terms) (unit : Thermal) (fix : Fix) (total : ℤ) (old new : Pattern) (on : Bool) (from to next end : ℕ) (hour : Hour)
     → to < period_count terms → IsHour terms unit fix to hour → IsTraced terms unit fix total old on from to → HasRun old new on from to
-    → next ≡ switch_after (if not on then hour.start else hour.stop) end
+    → next ≡ next_after (if not on then hour.start else hour.stop) end
     → IsTraced terms unit fix total new (not on) to next
 trace-more terms unit fix total old new on from to next end hour h is traced run e =
     let switch = has-switch terms unit fix on traced.since (record { cost = traced.cost; at = to }) traced.switch in
     let low = switch.later in
     let first = traced.after in
     let behind = switch-behind terms unit fix on traced.since to traced.cost hour h traced.switch is in
-    let at : next ≡ behind.chosen.at = e ∙ ap (λ o. switch_after o end) behind.is in
+    let at : next ≡ behind.chosen.at = e ∙ ap (λ o. next_after o end) behind.is in
     record {
       since = suc to;
       cost = behind.chosen.cost;
@@ -148,11 +148,11 @@ trace-more terms unit fix total old new on from to next end hour h is traced run
 -- and it is a later one
 pub more-later : (terms : Terms) (unit : Thermal) (fix : Fix) (total : ℤ) (pattern : Pattern) (on : Bool) (from to next end : ℕ) (hour : Hour)
     → to < period_count terms → IsHour terms unit fix to hour → IsTraced terms unit fix total pattern on from to
-    → next ≡ switch_after (if not on then hour.start else hour.stop) end
+    → next ≡ next_after (if not on then hour.start else hour.stop) end
     → to < next
 more-later terms unit fix total pattern on from to next end hour h is traced e =
     let behind = switch-behind terms unit fix on traced.since to traced.cost hour h traced.switch is in
-    let at : next ≡ behind.chosen.at = e ∙ ap (λ o. switch_after o end) behind.is in
+    let at : next ≡ behind.chosen.at = e ∙ ap (λ o. next_after o end) behind.is in
     let later : suc to ≤ behind.chosen.at = (has-switch terms unit fix (not on) (suc to) behind.chosen behind.holds).later in
     omega arith
 

@@ -1,12 +1,6 @@
 //! What the path knows of a period: the moves there, and the least ways that begin with a switch in it.
 
-/// The least of some ways: what it costs, and the period in which the unit is switched next on it; the number of
-/// periods stands for no switch.
-#[derive(Clone, Copy)]
-pub(crate) struct Choice {
-    pub(crate) cost: i128,
-    pub(crate) at: usize,
-}
+use dual_model::choices::Choice;
 
 /// A period, or the end of the horizon behind the last one. `None` is what may not be.
 #[derive(Clone, Copy)]

@@ -18,14 +18,15 @@ ghost use Rattle.dual_model.specs.Moves.{may_be_off as may_be_off_in, may_be_on 
 ghost use Rattle.unit_path.specs.inside.Choices.{choice_cost, IsFirst};
 ghost use Rattle.unit_path.specs.inside.Hours.{IsEnd, IsHour, IsStartIn, IsStopIn, IsTableFrom};
 
-use crate::choices::{better, cost_of, joined};
-use crate::hour::{Choice, Hour, UNKNOWN};
+use crate::choices::joined;
+use crate::hour::{Hour, UNKNOWN};
 use crate::hour_costs::{full_hour_before, hour_to};
 use crate::rests::{cold_start, next_start};
 use crate::runs::{next_stop, onward};
 use crate::scratch::Scratch;
 use crate::trace::pattern_of;
 use dual_model::Fix;
+use dual_model::choices::{Choice, better, cost_of};
 use interval_graph::Intervals;
 use start_costs::sigma;
 use uc_model::limits::MAX_PERIODS;

@@ -12,10 +12,11 @@ ghost use Rattle.uc_model.specs.Switches.{may_start};
 ghost use Rattle.unit_path.specs.inside.Choices.{choice_cost, IsLeastStart, IsOneOf, IsStart};
 ghost use Rattle.unit_path.specs.inside.Hours.{IsTableFrom};
 
-use crate::choices::{better, better_of};
-use crate::hour::{Choice, Hour};
+use crate::choices::better_of;
+use crate::hour::Hour;
 use crate::start_table::{first_cold, start_cost};
 use dual_model::Fix;
+use dual_model::choices::{Choice, better};
 use uc_model::{Terms, Thermal, scaled, sum};
 
 /// The least way of a unit that is off since `since`, before period `since`: in which period it starts next.

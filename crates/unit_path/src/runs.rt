@@ -9,10 +9,11 @@ ghost use Rattle.dual_model.specs.Moves.{may_be_on, move};
 ghost use Rattle.unit_path.specs.inside.Choices.{choice_cost, longer_of, stays, stop_cost, IsLeastStop, IsOneOf, IsStopAtOnce};
 ghost use Rattle.unit_path.specs.inside.Hours.{IsHour, IsTableFrom};
 
-use crate::choices::{better, better_of, cost_of, joined, longer_by};
-use crate::hour::{Choice, Hour};
+use crate::choices::{better_of, joined, longer_by};
+use crate::hour::Hour;
 use crate::hour_costs::hour_to;
 use dual_model::Fix;
+use dual_model::choices::{Choice, better, cost_of};
 use dual_model::moves::hour_before;
 use uc_model::{Terms, Thermal};
 

@@ -4,12 +4,13 @@ ghost use Rattle.std.specs.Prelude.{◌≡◌, ◌<◌, ◌≤◌, ℕ, suc, tru
 ghost use Rattle.uc_model.specs.Limits.{IsLawfulThermal};
 ghost use Rattle.uc_model.specs.PatternBits.{commitment_of};
 ghost use Rattle.dual_model.specs.UnitTerms.{AreSizedTerms};
-ghost use Rattle.unit_path.specs.inside.Choices.{switch_after, IsFirst};
+ghost use Rattle.unit_path.specs.inside.Choices.{next_after, IsFirst};
 ghost use Rattle.unit_path.specs.inside.Hours.{IsTableFrom};
 ghost use Rattle.unit_path.specs.inside.Ways.{IsWay};
 
-use crate::hour::{Choice, Hour};
+use crate::hour::Hour;
 use dual_model::Fix;
+use dual_model::choices::{Choice, switch_or_end};
 use uc_model::limits::MAX_PERIODS;
 use uc_model::{Pattern, Terms, Thermal};
 
@@ -46,13 +47,9 @@ pub(crate) fn pattern_of(
 
 // Where a unit is switched next that starts in the period, or stops in it; past its only way at the end.
 fn next_switch(hour: &Hour, start: bool, end: usize) -> usize
-    ensures { result ≡ switch_after (if start then hour.now.start else hour.now.stop) end }
+    ensures { result ≡ next_after (if start then hour.now.start else hour.now.stop) end }
 {
-    let next = if start { &hour.start } else { &hour.stop };
-    match next {
-        None => end,
-        Some(choice) => choice.at,
-    }
+    switch_or_end(if start { &hour.start } else { &hour.stop }, end)
 }
 
 // The pattern with the unit `on`, or off, in the periods from `from` to the one before `to`, in which it was off.

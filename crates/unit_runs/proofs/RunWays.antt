@@ -1,7 +1,7 @@
 -- The way that a commitment takes from run to run: in which case there is one, and that its cost is the commitment's value by
 -- runs. So the recursion over periods gives the least such value.
-use Rattle.std.proofs.Common.{◌≡◌, ℕ, zero, suc, ◌+◌, ◌-◌, ◌<◌, ◌≤◌, ⊎_elim, Bool, true, false, cond, not, ◌&&◌, ◌==◌, true≢false, refl, sym, ap, subst, ◌∙◌, arith, ℤ, pos, ◌+ℤ◌, ◌*ℤ◌, IsTrue, unwrap_or, Option, Some, None, MatchOption, if◌then◌else◌}
-use Rattle.std.proofs.lemmas.Bool.{cases_Bool, cases_lt, cond-true, cond-false, and_parts, and_from, and_right, eq-eqb, ne_eqb, not_from_false}
+use Rattle.std.proofs.Common.{◌≡◌, ℕ, zero, suc, ◌+◌, ◌-◌, ◌<◌, ◌≤◌, ⊎_elim, Bool, true, false, cond, not, ◌&&◌, true≢false, refl, sym, ap, subst, ◌∙◌, arith, ℤ, pos, ◌+ℤ◌, ◌*ℤ◌, IsTrue, unwrap_or, Option, Some, None, MatchOption}
+use Rattle.std.proofs.lemmas.Bool.{cases_Bool, cases_lt, cond-true, cond-false, and_from, and_right, not_from_false}
 use Rattle.uc_model.specs.Commitment.{was_on}
 use Rattle.uc_model.specs.StartCategory.{last_stop, sigma}
 use Rattle.uc_model.specs.Limits.{IsLawfulThermal}
@@ -16,7 +16,7 @@ use Rattle.dual_model.proofs.Ways.{IsRight, IsThere, Moved, moved, way-moved, ri
 use Rattle.unit_runs.specs.Runs.{Table, Thermal}
 use Rattle.unit_runs.specs.Patterns.{Commitment, starts, hours_on, run_hours, EachRun, sum_over_runs, start_costs, IsValueByRuns, HasTrajectories}
 use Rattle.unit_runs.specs.CostThrough.{run_cost}
-use Rattle.unit_runs.specs.RunsToGo.{Fix, run_from, run_until, run_and_start, last_cost, runs_way, whole_way, least_runs, HasNoRunsByFix, IsLeastByFix}
+use Rattle.unit_runs.specs.RunsToGo.{Fix, run_from, run_and_start, last_cost, runs_way, whole_way, least_runs, HasNoRunsByFix, IsLeastByFix}
 use Rattle.unit_runs.specs.Laws.{RunsToGoAreLeast, WaysAreValues}
 use Rattle.unit_runs.proofs.Hours.{more, no_more, begins-start, begins-first, begins-later, begins-off}
 use Rattle.unit_runs.proofs.RunSums.{sum_from, sum_from-same, sum_from-add, from_zero, sums-begun}

@@ -7,6 +7,7 @@ use Rattle.dual_model.specs.CostToGo.{lesser_of, total_of}
 use Rattle.unit_runs.specs.RunsToGo.{Fix, last_cost, may_stay, runs_to_go, switch_cost}
 use Rattle.unit_exact.specs.inside.Choices.{Choice, choice_cost}
 use Rattle.unit_exact.specs.inside.Problems.{Table, Thermal, MAX_SWITCH}
+pub use Rattle.dual_model.specs.Choices.{next_after}
 pub use Rattle.unit_exact.specs.declared.choices.Switches.{Switches}
 
 -- what a switch in period t costs with all that follows; at the end of the horizon what is left to pay
@@ -53,8 +54,3 @@ entry_in entries t = slice_index_or entries t (record { start = None; stop = Non
 pub record IsTableFrom (periods : ℕ) (table : Table) (unit : Thermal) (fix : Fix) (from : ℕ) (entries : List Switches) : Type 0 where
   pub count : length entries ≡ periods
   pub entry : (t : ℕ) → from ≤ t → t < periods → AreSwitches periods table unit fix t (entry_in entries t)
-
--- the period of the chosen switch, or the end of the horizon
-abbrev pub next_after : Option Choice → ℕ → ℕ
-next_after None end = end
-next_after (Some choice) end = choice.at

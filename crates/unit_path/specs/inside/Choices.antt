@@ -1,26 +1,19 @@
 -- Where a run of on hours, or a rest, ends on the least way. Source: Bellman's principle of optimality (Dynamic
 -- Programming, 1957), over the graph whose arcs are the intervals in which the unit is on, and those in which it is off.
-use Rattle.std.specs.Prelude.{◌≡◌, ℕ, zero, suc, ◌+◌, ◌-◌, ◌≤◌, ◌⊎◌, Bool, true, false, ◌==◌, ℤ, pos, ◌+ℤ◌, Option, Some, None, IfSome, if◌then◌else◌}
+use Rattle.std.specs.Prelude.{◌≡◌, ℕ, zero, suc, ◌+◌, ◌-◌, ◌≤◌, Bool, true, false, ◌==◌, ℤ, pos, ◌+ℤ◌, Option, Some, None, IfSome, if◌then◌else◌}
 pub use Rattle.uc_model.specs.declared.instance.Thermal.{Thermal}
 pub use Rattle.uc_model.specs.declared.terms.Terms.{Terms}
 use Rattle.uc_model.specs.Terms.{period_count}
 pub use Rattle.dual_model.specs.declared.node.Fix.{Fix}
 use Rattle.dual_model.specs.Moves.{may_be_off, move}
 use Rattle.dual_model.specs.CostToGo.{cost_to_go, end_cost, total_of, IsWithin, MAX_COST_TO_GO}
-pub use Rattle.unit_path.specs.declared.hour.Choice.{Choice}
-
-abbrev pub choice_cost : Option Choice → Option ℤ
-choice_cost None = None
-choice_cost (Some choice) = Some choice.cost
+pub use Rattle.dual_model.specs.declared.choices.Choice.{Choice}
+pub use Rattle.dual_model.specs.Choices.{choice_cost, next_after, IsOneOf}
 
 -- the choice with a cost before it
 abbrev pub longer_of : ℤ → Option Choice → Option Choice
 longer_of cost None = None
 longer_of cost (Some choice) = Some (record { cost = cost +ℤ choice.cost; at = choice.at })
-
--- a choice is the one that was known, or a switch in period `at` of this cost
-abbrev pub IsOneOf : Option Choice → Option ℤ → ℕ → Option Choice → Type 0
-IsOneOf known cost at choice = (choice ≡ known) ⊎ ((v : ℤ) × (cost ≡ Some v) × (choice ≡ Some (record { cost = v; at = at })))
 
 -- ---- runs
 -- what it costs to stay on, since `since`, in the n periods from t on: the hours before these
@@ -78,11 +71,6 @@ pub record IsLeastStart (terms : Terms) (unit : Thermal) (fix : Fix) (since t : 
   pub start : IfSome choice (IsStart terms unit fix since t)
 
 -- ---- switches
--- the period of the chosen switch, or the end of the horizon
-abbrev pub switch_after : Option Choice → ℕ → ℕ
-switch_after None end = end
-switch_after (Some choice) end = choice.at
-
 -- a chosen switch of a state that has been entered just before period `since`
 abbrev pub IsSwitch : Terms → Thermal → Fix → Bool → ℕ → Choice → Type 0
 IsSwitch terms unit fix true since choice = IsStop terms unit fix since since choice
