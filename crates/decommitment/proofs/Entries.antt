@@ -1,6 +1,6 @@
 -- Units enter a period one by one; and when all have, the period is ready to be filled.
 -- Cite by `use Rattle.decommitment.proofs.Entries.{entered_more}`.
-use Rattle.std.proofs.Common.{◌≡◌, ℕ, zero, suc, ◌+◌, ◌-◌, ◌*◌, ◌<◌, ◌≤◌, inl, ⊎_elim, Bool, true, false, refl, sym, ap, subst, ◌∙◌, arith, List, ℤ, pos, ◌+ℤ◌, ◌-ℤ◌, ◌*ℤ◌, ◌≤ℤ◌, unsigned_abs, slice_set, get_or-set_other, Option, Some, None, MatchOption}
+use Rattle.std.proofs.Common.{◌≡◌, ℕ, zero, suc, ◌+◌, ◌-◌, ◌*◌, ◌<◌, ◌≤◌, inl, ⊎_elim, Bool, true, false, refl, sym, ap, subst, ◌∙◌, arith, List, ℤ, pos, ◌+ℤ◌, ◌-ℤ◌, ◌*ℤ◌, ◌≤ℤ◌, unsigned_abs, slice_set, get_or-set_other, Option, Some, None, MatchOption, get_or-set_same, w64, to_z, of_z, length}
 use Rattle.std.proofs.lemmas.Int.{ints}
 use Rattle.std.proofs.lemmas.Bool.{cases_lt}
 use Rattle.uc_model.specs.Limits.{IsLawfulInstance, IsPower}
@@ -21,9 +21,14 @@ use Rattle.dispatch_repair.proofs.CurveSegments.{renewable_at, thermal_at}
 use Rattle.dispatch_repair.proofs.Merit.{good_renewable}
 use Rattle.dispatch_repair.proofs.Places.{thermal_ends}
 use Rattle.dispatch_repair.proofs.Reaches.{heads_are, ranges_are, ranges_in}
-use Rattle.decommitment.specs.inside.Fills.{AreEntered, Base, Fill, HasSizes, Hour, IsAlike, IsBaseOf, IsBegun, IsEntered, IsHourOf, IsReady, Part, System, base_parts, base_period, hour_period, no_part, part_at, unit_part}
-use Rattle.decommitment.specs.inside.Levels.{AreAtLevel, IsAtLevel}
+use Rattle.decommitment.specs.inside.Fills.{AreEntered, Base, Fill, HasSizes, Hour, IsAlike, IsBaseOf, IsBegun, IsEntered, IsHourOf, IsReady, Part, System, base_parts, base_period, exchanged_totals, hour_period, no_part, part_at, unit_part, AreGiven, IsSizedAmount, IsBegunTo, IsClear, no_given, no_totals}
+use Rattle.decommitment.specs.inside.Levels.{AreAtLevel, IsAtLevel, IsLeastAt}
 use Rattle.decommitment.proofs.Givens.{exchanged_sum}
+use Rattle.uc_model.proofs.Sizes.{narrow}
+use Rattle.dispatch_repair.proofs.Filled.{max_left}
+use Rattle.decommitment.proofs.Levels.{higher}
+use Rattle.decommitment.proofs.Steps.{at_most, between}
+use Rattle.dispatch_repair.specs.declared.range.Range.{Range}
 
 -- ---- a unit more
 -- a sum changes by a term more, and stays small
@@ -178,6 +183,111 @@ ready_anew period order before after lawful within sizes begun all =
 pub no_sizes : HasSizes no_part
 no_sizes = record { minimum = omega arith; head = omega arith; low = omega arith; high = omega arith }
 
+-- ---- a unit's parts, as they are read
+-- the parts of a unit after what is read of the period before
+pub part_read : (system : System) (hour : Hour) → IsHourOf system hour → (g m : ℕ) (part : Part) → g < thermal_count system.instance.now
+    → m ≡ renewable_count system.instance.now
+    → part ≡ unit_part system.instance.now g (commitment_at hour.patterns.now g) hour.t (to_z w64 (of_z w64 (amount_at hour.before.now (m + g))))
+    → part ≡ part_at (hour_period system hour) g
+part_read system hour of g m part h count is =
+    let instance = system.instance.now in
+    let on = commitment_at hour.patterns.now g in
+    is ∙ (λ i. unit_part instance g on hour.t (to_z w64 (of_z w64 (amount_at hour.before.now (count i + g)))))
+    ∙ ap (unit_part instance g on hour.t) (narrow (amount_at hour.before.now (renewable_count instance + g)) (2 * MAX_POWER) (of.before.sizes g h) (omega arith))
+
+module _ (period : Period) (g : ℕ) (part : Part) (is : part ≡ part_at period g) (sizes : HasSizes part) where
+  pub low_is : part.reach.range.low ≡ low_of period (FromThermal g)
+  low_is = ap (λ (p : Part). p.reach.range.low) is
+
+  pub high_is : part.reach.range.high ≡ high_of period (FromThermal g)
+  high_is = ap (λ (p : Part). p.reach.range.high) is
+
+  pub least_sized : (order : List Segment) (n level : ℕ) (least : ℤ) → IsLeastAt order n level part.reach.range least → IsSizedAmount least
+  least_sized order n level least at =
+      between least part.reach.range.low part.reach.range.high (subst (λ z. pos 0 ≤ℤ z) (sym low_is) (max_left (pos 0) (period.before g -ℤ (thermal_unit period.instance g).rd))) at.low_end at.high_end
+      (at_most part.reach.range.high sizes.high)
+
+  pub entered : (order : List Segment) (old : Part) (before after : Fill) (least : ℤ) → g < thermal_count period.instance
+      → AreGiven period.instance before.amounts.items before.given → part.reach.range.low ≤ℤ part.reach.range.high
+      → IsLeastAt order (renewable_count period.instance + g) before.level part.reach.range least
+      → after.amounts.items ≡ slice_set before.amounts.items (renewable_count period.instance + g) least
+      → AreGiven period.instance after.amounts.items after.given → after.level ≡ before.level → after.totals ≡ exchanged_totals before.totals old part
+      → IsEntered period order g old before after
+  entered order old before after least h given some at amounts sums level totals = record {
+    range = subst (λ z. z) (λ i. low_is i ≤ℤ high_is i) some;
+    sizes = subst HasSizes is sizes;
+    amount = subst (IsAtLevel order (renewable_count period.instance + g) before.level (suc before.level) (low_of period (FromThermal g)) (high_of period (FromThermal g))) (sym here)
+        (higher order (renewable_count period.instance + g) before.level before.level (low_of period (FromThermal g)) (high_of period (FromThermal g)) least (suc before.level) (omega arith)
+        (subst (λ z. z) (λ i. IsAtLevel order (renewable_count period.instance + g) before.level before.level (low_is i) (high_is i) least) at));
+    others = λ m other. ap (λ xs. amount_at xs m) amounts ∙ get_or-set_other before.amounts.items (renewable_count period.instance + g) m least (pos 0) other;
+    given = sums;
+    level = level;
+    totals = totals ∙ ap (exchanged_totals before.totals old) is;
+  }
+    where
+      here : amount_at after.amounts.items (renewable_count period.instance + g) ≡ least
+      here = ap (λ xs. amount_at xs (renewable_count period.instance + g)) amounts ∙ get_or-set_same before.amounts.items (renewable_count period.instance + g) least (pos 0) (omega (arith, h, given.count))
+
+-- ---- from nothing up to the thermal units
+-- amounts of 0 add up to nothing
+pub cleared : (instance : Instance) (amounts : List ℤ) → length amounts ≡ source_count instance
+    → ((n : ℕ) → n < length amounts → amount_at amounts n ≡ pos 0) → AreGiven instance amounts no_given
+cleared instance amounts count none = record {
+  count = count;
+  sizes = λ n h. subst IsSizedAmount (sym (none n (omega (arith, h, count)))) (record { low = omega (arith, linear); size = omega arith });
+  thermal = record {
+    is = sym (sum_below-zero (thermal_count instance) (thermal_amount instance amounts) (λ g h. none (renewable_count instance + g) (omega (arith, h, count))));
+    size = omega arith;
+  };
+  renewable = record {
+    is = sym (sum_below-zero (renewable_count instance) (amount_at amounts) (λ w h. none w (omega (arith, h, count))));
+    size = omega arith;
+  };
+}
+
+-- the size of a sum with a term more
+sum_wider : (w : ℕ) (next sum term : ℤ) → next ≡ sum +ℤ term → unsigned_abs sum ≤ w * (3 * MAX_POWER) → IsSizedEnd term
+    → unsigned_abs next ≤ suc w * (3 * MAX_POWER)
+sum_wider w next sum term is size sized = omega (arith, ints, is, size, sized)
+
+pub begun_more : (period : Period) (w : ℕ) (sums next range : Range) (before after : Fill) → w < renewable_count period.instance
+    → IsBegunTo period w sums before → range.low ≡ low_of period (FromRenewable w) → range.high ≡ high_of period (FromRenewable w) → IsSizedEnd range.low
+    → IsSizedEnd range.high → next.low ≡ sums.low +ℤ range.low → next.high ≡ sums.high +ℤ range.high
+    → after.amounts.items ≡ slice_set before.amounts.items w range.low → AreGiven period.instance after.amounts.items after.given
+    → after.level ≡ before.level → after.totals ≡ before.totals → IsBegunTo period (suc w) next after
+begun_more period w sums next range before after h was low high low_sized high_sized low_sum high_sum amounts given level totals = record {
+  given = given;
+  level = level ∙ was.level;
+  totals = totals ∙ was.totals;
+  lows = λ v inside. ⊎_elim
+      (λ (early : v < w). ap (λ xs. amount_at xs v) amounts ∙ get_or-set_other before.amounts.items w v range.low (pos 0) (λ e. omega (arith, early, e)) ∙ was.lows v early)
+      (λ (last : v ≡ w). subst (λ m. amount_at after.amounts.items m ≡ low_of period (FromRenewable m)) (sym last)
+      (ap (λ xs. amount_at xs w) amounts ∙ get_or-set_same before.amounts.items w range.low (pos 0) (omega (arith, h, was.given.count)) ∙ low))
+      (below_or_last w v inside);
+  low = omega (arith, linear, low_sum, was.low, low);
+  high = omega (arith, linear, high_sum, was.high, high);
+  low_size = sum_wider w next.low sums.low range.low low_sum was.low_size low_sized;
+  high_size = sum_wider w next.high sums.high range.high high_sum was.high_size high_sized;
+}
+
+-- the sums over all renewable units
+pub begun_all : (period : Period) (sums : Range) (fill after : Fill) → renewable_count period.instance ≤ MAX_UNITS
+    → IsBegunTo period (renewable_count period.instance) sums fill → after.amounts ≡ fill.amounts → after.given ≡ fill.given → after.level ≡ fill.level
+    → after.totals ≡ record no_totals { renewable_low = sums.low; renewable_high = sums.high } → IsBegun period after
+begun_all period sums fill after few was amounts given level totals = record {
+  given = subst (λ z. z) (λ i. AreGiven period.instance (sym amounts i).items (sym given i)) was.given;
+  level = level ∙ was.level;
+  lows = λ w h. ap (λ xs. amount_at xs.items w) amounts ∙ was.lows w h;
+  minimums = ap (λ (t : Totals). t.minimums) totals;
+  thermal_low = ap (λ (t : Totals). t.thermal_low) totals;
+  thermal_high = ap (λ (t : Totals). t.thermal_high) totals;
+  heads = ap (λ (t : Totals). t.heads) totals;
+  renewable_low = subst (λ z. IsSum z (renewable_sum period (low_of period))) (sym (ap (λ (t : Totals). t.renewable_low) totals))
+      (record { is = was.low; size = omega (arith, was.low_size, few) });
+  renewable_high = subst (λ z. IsSum z (renewable_sum period (high_of period))) (sym (ap (λ (t : Totals). t.renewable_high) totals))
+      (record { is = was.high; size = omega (arith, was.high_size, few) });
+}
+
 -- ---- from a commitment that differs in one unit
 module _ (system : System) (hour : Hour) (base : Base) (of : IsHourOf system hour) (from : IsBaseOf system hour base) where
   abbrev instance : Instance
@@ -222,43 +332,29 @@ module _ (system : System) (hour : Hour) (base : Base) (of : IsHourOf system hou
         (subst (λ (p : Part). IsAtLevel order (renewable_count instance + g) fill.level (suc fill.level) p.reach.range.low p.reach.range.high (thermal_amount instance fill.amounts.items g))
         same (level_at (renewable_count instance + g) (FromThermal g) (omega (arith, h)) (thermal_at instance g)))
 
-    even : (pick : Totals → ℤ) (part : Part → ℤ) → pick now.totals ≡ pick fill.totals +ℤ sum_below g (λ k. part (part_at period k) -ℤ part (part_at former k))
-        → part (part_at former g) ≡ part (part_at period g)
-        → pick now.totals ≡ pick fill.totals +ℤ sum_below (suc g) (λ k. part (part_at period k) -ℤ part (part_at former k))
-    even pick part is alike_is = omega (arith, linear, is, alike_is)
+    -- a part that is exchanged for itself changes nothing
+    nothing : (z x : ℤ) → z ≡ z +ℤ (x -ℤ x)
+    nothing z x = omega (arith, linear)
 
-    farther : (z : ℤ) → unsigned_abs z ≤ MAX_UNITS * (3 * MAX_POWER) + g * (6 * MAX_POWER) → unsigned_abs z ≤ MAX_UNITS * (3 * MAX_POWER) + suc g * (6 * MAX_POWER)
-    farther z size = omega (arith, size)
+    still : (totals : Totals) (part : Part) → totals ≡ exchanged_totals totals part part
+    still totals part = λ i. record totals {
+      minimums = nothing totals.minimums part.minimum i;
+      thermal_low = nothing totals.thermal_low part.reach.range.low i;
+      thermal_high = nothing totals.thermal_high part.reach.range.high i;
+      heads = nothing totals.heads part.reach.head i;
+    }
 
     pub entered_alike : AreEntered period order (base_parts system hour base) (suc g) fill now
-    entered_alike = record {
-      ranges = λ k inside. ⊎_elim (λ early. was.ranges k early)
-          (λ (last : k ≡ g). subst (λ m. low_of period (FromThermal m) ≤ℤ high_of period (FromThermal m)) (sym last)
-          (subst (λ (p : Part). p.reach.range.low ≤ℤ p.reach.range.high) same (from.fill.ready.ranges g h)))
-          (below_or_last g k inside);
-      amounts = λ k inside. ⊎_elim (λ early. was.amounts k early)
-          (λ (last : k ≡ g). subst (λ m. IsAtLevel order (renewable_count instance + m) fill.level (suc fill.level) (low_of period (FromThermal m))
-          (high_of period (FromThermal m)) (thermal_amount instance now.amounts.items m)) (sym last) stays)
-          (below_or_last g k inside);
-      later = λ k late. was.later k (omega (arith, late));
-      free = was.free;
+    entered_alike = entered_more period order (base_parts system hour base) g fill now now (former_sizes g h) was (record {
+      range = subst (λ (p : Part). p.reach.range.low ≤ℤ p.reach.range.high) same (from.fill.ready.ranges g h);
+      sizes = subst HasSizes same (former_sizes g h);
+      amount = subst (λ l. IsAtLevel order (renewable_count instance + g) l (suc l) (low_of period (FromThermal g)) (high_of period (FromThermal g))
+          (thermal_amount instance now.amounts.items g)) (sym was.level) stays;
+      others = λ n other. refl;
       given = was.given;
-      level = was.level;
-      totals = record {
-        minimums = even (λ t. t.minimums) (λ p. p.minimum) was.totals.minimums (ap (λ (p : Part). p.minimum) same);
-        thermal_low = even (λ t. t.thermal_low) (λ p. p.reach.range.low) was.totals.thermal_low (ap (λ (p : Part). p.reach.range.low) same);
-        thermal_high = even (λ t. t.thermal_high) (λ p. p.reach.range.high) was.totals.thermal_high (ap (λ (p : Part). p.reach.range.high) same);
-        heads = even (λ t. t.heads) (λ p. p.reach.head) was.totals.heads (ap (λ (p : Part). p.reach.head) same);
-        renewable_low = was.totals.renewable_low;
-        renewable_high = was.totals.renewable_high;
-      };
-      sizes = record {
-        minimums = farther now.totals.minimums was.sizes.minimums;
-        thermal_low = farther now.totals.thermal_low was.sizes.thermal_low;
-        thermal_high = farther now.totals.thermal_high was.sizes.thermal_high;
-        heads = farther now.totals.heads was.sizes.heads;
-      };
-    }
+      level = refl;
+      totals = subst (λ (p : Part). now.totals ≡ exchanged_totals now.totals (part_at former g) p) same (still now.totals (part_at former g));
+    })
 
   -- nor does a stretch of such units change anything
   pub entered_alike_from : (first n : ℕ) (now : Fill) → first + n ≤ thermal_count instance

@@ -1,6 +1,6 @@
 -- A period whose amounts stand at a level and meet demand is filled in order of merit.
 -- Cite by `use Rattle.decommitment.proofs.LevelFills.{level_fill}`.
-use Rattle.std.proofs.Common.{◌≡◌, ℕ, suc, ◌+◌, ◌<◌, ◌≤◌, inl, inr, ⊎_elim, refl, sym, subst, ◌∙◌, arith, List, length, ℤ, pos, ◌+ℤ◌, ◌-ℤ◌, ◌≤ℤ◌}
+use Rattle.std.proofs.Common.{◌≡◌, ℕ, suc, ◌+◌, ◌<◌, ◌≤◌, inl, inr, ⊎_elim, refl, sym, subst, ◌∙◌, arith, List, length, ℤ, pos, ◌+ℤ◌, ◌-ℤ◌, ◌≤ℤ◌, ap}
 use Rattle.std.specs.Int.{int_min}
 use Rattle.std.proofs.lemmas.Int.{ints}
 use Rattle.std.proofs.lemmas.Bool.{cases_lt}
@@ -11,23 +11,23 @@ use Rattle.uc_model.proofs.Ring.{linear}
 use Rattle.uc_model.proofs.Sums.{sum_below-le, sum_below-split}
 use Rattle.dispatch_repair.specs.Amounts.{AreHeadsOf, AreRangesOf, IsSizedOutput, amount_at, range_at, thermal_amount}
 use Rattle.dispatch_repair.specs.Dispatch.{period_after}
-use Rattle.dispatch_repair.specs.Filled.{IsDispatchedFrom, served_by}
-use Rattle.dispatch_repair.specs.Filling.{AddsUp, CostsUpTo, IsFillable, IsFilledTo, IsFull, IsLeft, IsTaken}
+use Rattle.dispatch_repair.specs.Filled.{IsDispatchedFrom}
+use Rattle.dispatch_repair.specs.Filling.{AddsUp, CostsUpTo, IsFilledTo, IsFull, IsLeft, IsTaken}
 use Rattle.dispatch_repair.specs.MeritOrder.{Slope, HasNextSlope}
 use Rattle.dispatch_repair.specs.Period.{Instance, Pattern, Period}
 use Rattle.dispatch_repair.specs.Segments.{AreInMeritOrder, no_segment, segment_at, source_at, source_count}
-use Rattle.dispatch_repair.specs.Shortage.{served}
-use Rattle.dispatch_repair.specs.Totals.{IsSizedLeft}
+use Rattle.dispatch_repair.specs.Totals.{IsSizedLeft, AreSizedTotals, AreTotalsOf}
 use Rattle.dispatch_repair.specs.declared.fill.Left.{Left}
 use Rattle.dispatch_repair.specs.declared.range.Range.{Range}
 use Rattle.dispatch_repair.specs.declared.segment.Segment.{Segment}
 use Rattle.dispatch_repair.proofs.Filling.{costs_trans, run_positive, sorted_costs}
-use Rattle.dispatch_repair.proofs.Merit.{IsFilledUp, in_merit_order, renewable_lows, thermal_lows, width_size}
-use Rattle.dispatch_repair.proofs.NextSlopes.{next_run}
+use Rattle.dispatch_repair.proofs.Merit.{renewable_lows, thermal_lows}
+use Rattle.dispatch_repair.proofs.SourceSlopes.{next_run}
 use Rattle.dispatch_repair.proofs.Reaches.{ranges_are, ranges_in}
-use Rattle.dispatch_repair.proofs.Shortages.{fillable, kept_size, ranges_served}
-use Rattle.decommitment.specs.inside.Fills.{Fill, IsReady, IsStarted}
+use Rattle.dispatch_repair.proofs.Shortages.{dispatched_from}
+use Rattle.decommitment.specs.inside.Fills.{Fill, IsReady, IsStarted, Hour, System, Target, IsFill, IsHourOf, IsMet, IsWalked, hour_period}
 use Rattle.decommitment.specs.inside.Levels.{IsReached}
+use Rattle.dispatch_repair.specs.declared.obstacle.Totals.{Totals}
 
 module _ (instance : Instance) (patterns : List Pattern) (t : ℕ) (before : ℕ → ℤ) (order : List Segment) (fill : Fill) (left : Left)
     (lawful : IsLawfulInstance instance) (within : t < instance.periods)
@@ -37,9 +37,6 @@ module _ (instance : Instance) (patterns : List Pattern) (t : ℕ) (before : ℕ
     (limit : fill.given.thermal ≤ℤ (left.room +ℤ fill.totals.thermal_low)) where
   abbrev period : Period
   period = period_after instance patterns t before
-
-  abbrev kept : Period
-  kept = served_by period fill.shortage
 
   abbrev W : ℕ
   W = renewable_count instance
@@ -102,7 +99,7 @@ module _ (instance : Instance) (patterns : List Pattern) (t : ℕ) (before : ℕ
     need = omega (arith, linear);
     room = omega (arith, linear, limit);
     need_size = omega arith;
-    room_size = part_size left.room rest.room started.room_size (omega (arith, linear, limit)) (omega (arith, linear, up));
+    room_size = part_size left.room rest.room started.sizes.room_size (omega (arith, linear, limit)) (omega (arith, linear, up));
   }
 
   -- ---- watts
@@ -149,26 +146,30 @@ module _ (instance : Instance) (patterns : List Pattern) (t : ℕ) (before : ℕ
   }
 
   -- ---- the period
-  well : IsFillable kept
-  well = subst (λ z. z) (λ i. IsFillable (served period (sym started.shortages.shed i) (sym started.shortages.short i)))
-      (fillable period lawful within started.free.balance.ranges started.free)
-
-  whole : IsFilledUp kept order ranges left amounts rest
-  whole = record {
-    lawful = lawful;
-    within = within;
-    order = merit;
-    ranges = ranges_served period fill.shortage.shed fill.shortage.short ranges are;
-    free = well;
-    first = started.first;
-    filled = filled;
-  }
-
   pub level_fill : (numbers : List ℤ) → AreHeadsOf period numbers → IsDispatchedFrom period fill.shortage amounts numbers
-  level_fill numbers tops = record {
-    shortages = started.shortages;
-    merit = in_merit_order kept order ranges left amounts rest whole;
-    heads = tops;
-    sizes = width_size kept order ranges left amounts rest whole;
-    kept = kept_size instance patterns t before fill.shortage lawful within started.shortages well;
+  level_fill numbers tops =
+      dispatched_from instance patterns t before order ranges (record { shortage = fill.shortage; left = left }) amounts numbers rest lawful within merit are tops
+      started filled
+
+-- ---- a period whose units have entered and whose demand is met
+module _ (system : System) (hour : Hour) (of : IsHourOf system hour) (old new : Fill) (left : Left) (target : Target)
+    (was : IsReady (hour_period system hour) system.merit.now.order.items old) (started : IsStarted (hour_period system hour) old.shortage left)
+    (walked : IsWalked (hour_period system hour) system.merit.now.order.items old new) where
+  abbrev met_period : Period
+  met_period = hour_period system hour
+
+  met_ready : IsReady met_period system.merit.now.order.items new
+  met_ready = record { standing = walked.standing; ranges = was.ranges; totals = subst (AreTotalsOf met_period) (sym walked.totals) was.totals }
+
+  pub settled : target.all ≡ (left.need +ℤ old.totals.thermal_low) +ℤ old.totals.renewable_low → target.thermal ≡ left.room +ℤ old.totals.thermal_low
+      → IsMet target new.given
+      → IsFill system.instance.now system.merit.now.order.items hour.patterns.now hour.t hour.before.now new
+  settled all limit met = record {
+    was = of.before;
+    count = walked.standing.given.count;
+    ready = λ base. met_ready;
+    dispatched = level_fill system.instance.now hour.patterns.now hour.t (thermal_amount system.instance.now hour.before.now) system.merit.now.order.items new left
+        of.before.lawful of.before.period of.before.sizes of.merit.order met_ready (subst (λ s. IsStarted met_period s left) (sym walked.shortage) started)
+        (met.all ∙ all ∙ ap (λ (t : Totals). (left.need +ℤ t.thermal_low) +ℤ t.renewable_low) (sym walked.totals))
+        (subst (λ z. new.given.thermal ≤ℤ z) (limit ∙ ap (λ (t : Totals). left.room +ℤ t.thermal_low) (sym walked.totals)) met.thermal);
   }

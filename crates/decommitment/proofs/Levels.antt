@@ -148,82 +148,62 @@ module _ (order : List Segment) (n level : ℕ) (low high : ℤ) where
       }
 
 -- ---- all sources
--- the owner of the segment at the level goes up
-pub climbed : (period : Period) (order : List Segment) (level : ℕ) (amounts : List ℤ) (step : Step) → level < length order
-    → length amounts ≡ source_count period.instance → (segment_at order level).source < source_count period.instance
-    → AreAtLevel period order level amounts
-    → IsRisen (amount_at amounts (segment_at order level).source)
-    (int_min (segment_at order level).end (high_of period (source_at period.instance (segment_at order level).source))) step
-    → AreAtLevel period order (if step.goes_on then suc level else level) (slice_set amounts (segment_at order level).source step.amount)
-climbed period order level amounts step within count inside was rose =
-    cond_both step.goes_on (suc level) level (λ l. AreAtLevel period order l (slice_set amounts s step.amount))
-    (λ on. set_each (λ n z. n < source_count period.instance → IsAtLevel order n (suc level) (suc (suc level)) (low n) (high n) z) amounts s step.amount (pos 0) place
-    (λ h. risen_on order s level (low s) (high s) step.amount stays (rose.done on))
-    (λ n other h. other_up order n level (low n) (high n) (amount_at amounts n) other (was n h)))
-    (λ off. set_each (λ n z. n < source_count period.instance → IsAtLevel order n level (suc level) (low n) (high n) z) amounts s step.amount (pos 0) place
-    (λ h. stays) (λ n other h. was n h))
-  where
-    s : ℕ
-    s = (segment_at order level).source
+module _ (period : Period) (order : List Segment) (level : ℕ) (amounts : List ℤ) (step : Step) (count : length amounts ≡ source_count period.instance)
+    (was : AreAtLevel period order level amounts) where
+  abbrev s : ℕ
+  s = (segment_at order level).source
 
-    low : ℕ → ℤ
-    low n = low_of period (source_at period.instance n)
+  abbrev low : ℕ → ℤ
+  low n = low_of period (source_at period.instance n)
 
-    high : ℕ → ℤ
-    high n = high_of period (source_at period.instance n)
+  abbrev high : ℕ → ℤ
+  high n = high_of period (source_at period.instance n)
 
-    place : s < length amounts
-    place = omega (arith, inside, count)
+  -- all are at a level where the new amount is, and the others' amounts are
+  at_level : (l : ℕ) → s < source_count period.instance → IsAtLevel order s l (suc l) (low s) (high s) step.amount
+      → ((n : ℕ) → n ≢ s → n < source_count period.instance → IsAtLevel order n l (suc l) (low n) (high n) (amount_at amounts n))
+      → AreAtLevel period order l (slice_set amounts s step.amount)
+  at_level l inside here others =
+      set_each (λ n z. n < source_count period.instance → IsAtLevel order n l (suc l) (low n) (high n) z) amounts s step.amount (pos 0) (omega (arith, inside, count))
+      (λ h. here) others
 
-    stays : IsAtLevel order s level (suc level) (low s) (high s) step.amount
-    stays = risen_stays order s level (low s) (high s) (amount_at amounts s) step within refl (was s inside) rose
+  -- the owner of the segment at the level goes up
+  pub climbed : level < length order → s < source_count period.instance → IsRisen (amount_at amounts s) (int_min (segment_at order level).end (high s)) step
+      → AreAtLevel period order (if step.goes_on then suc level else level) (slice_set amounts s step.amount)
+  climbed within inside rose =
+      let stays = risen_stays order s level (low s) (high s) (amount_at amounts s) step within refl (was s inside) rose in
+      cond_both step.goes_on (suc level) level (λ l. AreAtLevel period order l (slice_set amounts s step.amount))
+      (λ on. at_level (suc level) inside (risen_on order s level (low s) (high s) step.amount stays (rose.done on))
+      (λ n other h. other_up order n level (low n) (high n) (amount_at amounts n) other (was n h)))
+      (λ off. at_level level inside stays (λ n other h. was n h))
 
--- and down
-pub descended : (period : Period) (order : List Segment) (level : ℕ) (amounts : List ℤ) (least : ℤ) (step : Step)
-    → length amounts ≡ source_count period.instance → (segment_at order level).source < source_count period.instance
-    → AreAtLevel period order level amounts
-    → IsAtLevel order (segment_at order level).source level level (low_of period (source_at period.instance (segment_at order level).source))
-    (high_of period (source_at period.instance (segment_at order level).source)) least
-    → IsSunk (amount_at amounts (segment_at order level).source) least step
-    → AreAtLevel period order (if step.goes_on then level - 1 else level) (slice_set amounts (segment_at order level).source step.amount)
-descended period order level amounts least step count inside was bottom sank =
-    cond_both step.goes_on (level - 1) level (λ l. AreAtLevel period order l (slice_set amounts s step.amount))
-    (λ on. ⊎_elim
-    (λ (more : 0 < level). down (level - 1) (omega (arith, more)) (sank.done on))
-    (λ (none : level ≤ 0). let still : level ≡ level - 1 = omega (arith, none) in
-    subst (λ l. AreAtLevel period order l (slice_set amounts s step.amount)) still same)
-    (cases_lt 0 level))
-    (λ off. same)
-  where
-    s : ℕ
-    s = (segment_at order level).source
+  -- and down
+  pub descended : (least : ℤ) → s < source_count period.instance → IsAtLevel order s level level (low s) (high s) least → IsSunk (amount_at amounts s) least step
+      → AreAtLevel period order (if step.goes_on then level - 1 else level) (slice_set amounts s step.amount)
+  descended least inside bottom sank =
+      cond_both step.goes_on (level - 1) level (λ l. AreAtLevel period order l (slice_set amounts s step.amount))
+      (λ on. ⊎_elim
+      (λ (more : 0 < level). down (level - 1) (omega (arith, more)) (sank.done on))
+      (λ (none : level ≤ 0). let still : level ≡ level - 1 = omega (arith, none) in
+      subst (λ l. AreAtLevel period order l (slice_set amounts s step.amount)) still same)
+      (cases_lt 0 level))
+      (λ off. same)
+    where
+      stays : IsAtLevel order s level (suc level) (low s) (high s) step.amount
+      stays = sunk_stays order s level (low s) (high s) (amount_at amounts s) least step (was s inside) bottom sank
 
-    low : ℕ → ℤ
-    low n = low_of period (source_at period.instance n)
+      same : AreAtLevel period order level (slice_set amounts s step.amount)
+      same = at_level level inside stays (λ n other h. was n h)
 
-    high : ℕ → ℤ
-    high n = high_of period (source_at period.instance n)
-
-    place : s < length amounts
-    place = omega (arith, inside, count)
-
-    stays : IsAtLevel order s level (suc level) (low s) (high s) step.amount
-    stays = sunk_stays order s level (low s) (high s) (amount_at amounts s) least step (was s inside) bottom sank
-
-    same : AreAtLevel period order level (slice_set amounts s step.amount)
-    same =
-        set_each (λ n z. n < source_count period.instance → IsAtLevel order n level (suc level) (low n) (high n) z) amounts s step.amount (pos 0) place
-        (λ h. stays) (λ n other h. was n h)
-
-    down : (before : ℕ) → level ≡ suc before → step.amount ≤ℤ least → AreAtLevel period order before (slice_set amounts s step.amount)
-    down before is done =
-        set_each (λ n z. n < source_count period.instance → IsAtLevel order n before (suc before) (low n) (high n) z) amounts s step.amount (pos 0) place
-        (λ h. sunk_on order s before (low s) (high s) step.amount least
-        (subst (λ l. IsAtLevel order s l (suc l) (low s) (high s) step.amount) is stays)
-        (subst (λ l. IsAtLevel order s l l (low s) (high s) least) is bottom) done)
-        (λ n other h. other_down order n before (low n) (high n) (amount_at amounts n)
-        (λ e. other (e ∙ (λ i. (segment_at order (sym is i)).source)))
-        (subst (λ l. IsAtLevel order n l (suc l) (low n) (high n) (amount_at amounts n)) is (was n h)))
+      down : (before : ℕ) → level ≡ suc before → step.amount ≤ℤ least → AreAtLevel period order before (slice_set amounts s step.amount)
+      down before is done =
+          at_level before inside
+          (sunk_on order s before (low s) (high s) step.amount least
+          (subst (λ l. IsAtLevel order s l (suc l) (low s) (high s) step.amount) is stays)
+          (subst (λ l. IsAtLevel order s l l (low s) (high s) least) is bottom) done)
+          (λ n other h. other_down order n before (low n) (high n) (amount_at amounts n)
+          (λ e. other (e ∙ (λ i. (segment_at order (sym is i)).source)))
+          (subst (λ l. IsAtLevel order n l (suc l) (low n) (high n) (amount_at amounts n)) is (was n h)))
 
 -- amounts at a level are at one before, down to the last segment
 pub lowered : (period : Period) (order : List Segment) (level lower : ℕ) (amounts : List ℤ) → lower ≤ level

@@ -10,6 +10,3 @@ pub mod Entries
 pub mod LevelFills
 pub mod Steps
 pub mod Stretches
-pub mod Settled
-pub mod Parts
-pub mod Begun

@@ -29,17 +29,6 @@ places_of order sources n rows are = record {
   all = λ j h its. subst (λ m. IsAmong (places_at rows m) j) its (are.all j h);
 }
 
--- a source more without places
-pub empty_more : (rows : List (List ℕ)) → ((n : ℕ) → places_at rows n ≡ []) → (n : ℕ) → places_at (rows ++ [] ∷ []) n ≡ []
-empty_more rows empty n = ⊎_elim
-    (λ (early : n < length rows). get_or_append_left rows ([] ∷ []) [] n early ∙ empty n)
-    (λ (late : length rows ≤ n). get_or-append_right rows ([] ∷ []) (length rows) n [] refl late ∙ single (n - length rows))
-    (cases_lt n (length rows))
-  where
-    single : (m : ℕ) → places_at ([] ∷ []) m ≡ []
-    single zero = refl
-    single (suc m) = refl
-
 -- none before the first segment
 pub none : (order : List Segment) (sources : ℕ) (rows : List (List ℕ)) → length rows ≡ sources → ((n : ℕ) → places_at rows n ≡ [])
     → AreOwnPlaces order sources 0 rows

@@ -151,11 +151,6 @@ costs_more instance patterns fills n costs cost total result within few each is 
       size = next.size;
     }
 
--- a number more of what is missing
-pub numbers_longer : (wanted : ℕ → ℤ) (numbers : List ℤ) (one : ℤ) (n : ℕ) → length numbers ≡ n → ((k : ℕ) → k < n → get_or numbers k (pos 0) ≡ wanted k) → one ≡ wanted n
-    → (k : ℕ) → k < n + 1 → get_or (numbers ++ one ∷ []) k (pos 0) ≡ wanted k
-numbers_longer wanted numbers one n count before is = push_each (λ k z. z ≡ wanted k) numbers one (pos 0) n count before is
-
 -- what is missing costs the same
 pub missing_total : (instance : Instance) (fills : List Fill) (printed : Printed) (shed short : List ℤ) → length fills ≡ instance.periods → LacksSo instance fills printed
     → ((t : ℕ) → t < length fills → get_or shed t (pos 0) ≡ (lack_at fills t).shed) → ((t : ℕ) → t < length fills → get_or short t (pos 0) ≡ (lack_at fills t).short)

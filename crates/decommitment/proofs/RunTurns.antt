@@ -216,13 +216,3 @@ run_dropped instance patterns kept stood one printed cost lawful passed is dispa
       accepted = accepted instance patterns printed cost lawful dispatch cost_is;
       most_on = tt;
     }
-
-pub run_stuck : (instance : Instance) (patterns : List Pattern) (kept : Stand) (period : ℕ) (most_on : Stuck) (one : Printed)
-    → IsDropPass instance (thermal_count instance) patterns (ending_of_stand one kept) → KeepsStuck instance kept → kept ≡ stand.Stuck period most_on
-    → IsDropped instance (standing.Stuck period most_on)
-run_stuck instance patterns kept period most_on one passed keeps is = record {
-  patterns = patterns;
-  drop = record { passed = subst (λ s. IsDropPass instance (thermal_count instance) patterns (ending_of_stand one s)) is passed };
-  accepted = tt;
-  most_on = subst (KeepsStuck instance) is keeps;
-}

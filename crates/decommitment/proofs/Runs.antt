@@ -10,15 +10,14 @@ use Rattle.dispatch_repair.specs.Amounts.{AreBeforePeriod, IsSizedOutput, next_p
 use Rattle.dispatch_repair.specs.Filled.{IsDispatchedFrom}
 use Rattle.dispatch_repair.specs.declared.segment.Segment.{Segment}
 use Rattle.dispatch_repair.specs.Stuck.{IsFirstObstacle}
-use Rattle.dispatch_repair.proofs.Endings.{IsThrough, begun, dispatch_through, more, obstacle}
-use Rattle.dispatch_repair.proofs.Periods.{initial_size}
+use Rattle.dispatch_repair.proofs.Endings.{IsThrough, begun, more}
+use Rattle.dispatch_repair.proofs.Periods.{dispatch_through, initial_size, obstacle_of}
 use Rattle.dispatch_repair.proofs.Reaches.{heads_are, heads_in}
 use Rattle.dispatch_repair.proofs.Regular.{regular}
 use Rattle.decommitment.specs.DropCommitment.{Instance, Pattern}
-use Rattle.decommitment.specs.inside.Fills.{ComesTo, HasEntered, Hour, IsFill, System}
-use Rattle.decommitment.specs.inside.Runs.{Fill, Filling, Run, IsRun, IsStoodAt, AreDispatched, AreFills, AreInitial, AreSized, IsBarred, IsFillingOf, IsTrialOf, lack_at, outputs_at, outputs_before}
+use Rattle.decommitment.specs.inside.Fills.{HasEntered, IsFill}
+use Rattle.decommitment.specs.inside.Runs.{Fill, Run, IsRun, IsStoodAt, AreDispatched, AreFills, AreInitial, AreSized, IsBarred, IsTrialOf, lack_at, outputs_at, outputs_before}
 use Rattle.decommitment.specs.inside.Turns.{AreAllowed}
-use Rattle.decommitment.specs.declared.fill.Filling.TheVariants.{Barred, Bound, Filled, Uneven}
 use Rattle.decommitment.specs.declared.stand.Trial.TheVariants as trial
 use Rattle.decommitment.proofs.Drops.{stuck_in}
 
@@ -67,19 +66,6 @@ module _ (start : List ℤ) (fills : List Fill) (fill : Fill) where
           (subst (IsFill instance order patterns (length fills) (outputs_before start longer (length fills))) (sym same) moved)
     ];
   }
-
--- what became of a period, by its place and by what was given before
-pub came : (system : System) (hour : Hour) (fill : Fill) (filling : Filling) (n : ℕ) (before : List ℤ) → hour.t ≡ n → hour.before.now ≡ before → ComesTo system hour fill filling
-    → IsFillingOf system.instance.now system.merit.now.order.items hour.patterns.now n before fill filling
-came system hour fill Filled n before t_is before_is is =
-    subst (λ z. z) (λ i. IsFill system.instance.now system.merit.now.order.items hour.patterns.now (t_is i) (before_is i) fill) is
-came system hour fill (Barred why) n before t_is before_is is =
-    subst (λ z. z) (λ i. IsFirstObstacle (next_period system.instance.now hour.patterns.now (t_is i) (before_is i)) why) is
-came system hour fill (Uneven why) n before t_is before_is is = (
-  subst (λ z. z) (λ i. IsFirstObstacle (next_period system.instance.now hour.patterns.now (t_is i) (before_is i)) why) is.0,
-  subst (λ z. z) (λ i. HasEntered system.instance.now system.merit.now.order.items hour.patterns.now (t_is i) (before_is i) fill) is.1,
-)
-came system hour fill Bound n before t_is before_is is = tt
 
 -- a run's fill, which all units entered
 pub stood_entered : (instance : Instance) (order : List Segment) (patterns : List Pattern) (start : List ℤ) (run : Run) (t : ℕ) (fill : Fill)
@@ -153,20 +139,20 @@ module _ (instance : Instance) (order : List Segment) (patterns : List Pattern) 
       let out = outputs_here fills t one.item (omega (arith, h)) one.is in
       let lack = lack_here fills t one.item (omega (arith, h)) one.is in
       let done = subst (λ z. z) (λ i. IsDispatchedFrom period (sym lack i) (sym out i) (heads_in period)) (is_dispatched t one.item (omega (arith, h)) one.is) in
-      let next = more instance patterns t before (omega (arith, h, are.few)) was.through (outputs_at fills t) (heads_in period) (lack_at fills t)
+      let next = more instance patterns t before (outputs_at fills t) (heads_in period) (lack_at fills t) (omega (arith, h, are.few)) was.through
       (ap length out ∙ sized t one.item (omega (arith, h)) one.is) done in
       record {
         through = next.through;
         outputs = λ g k hg hk. elim (below_or_last t k hk) [
-          | inl early ↦ ap (λ (c : Cell). c.p) (next.is.other_cells g k (omega (arith, early))) ∙ was.outputs g k hg early
-          | inr last ↦ subst (λ j. (cell_at next.through.printed g j).p ≡ thermal_amount instance (outputs_at fills j) g) (sym last) (next.is.outputs g hg)
+          | inl early ↦ ap (λ (c : Cell). c.p) (next.is.others.cells g k (omega (arith, early))) ∙ was.outputs g k hg early
+          | inr last ↦ subst (λ j. (cell_at next.through.printed g j).p ≡ thermal_amount instance (outputs_at fills j) g) (sym last) (next.is.cells g hg).p
         ];
         shed = λ k hk. elim (below_or_last t k hk) [
-          | inl early ↦ next.is.other_shed k (omega (arith, early)) ∙ was.shed k early
+          | inl early ↦ next.is.others.shed k (omega (arith, early)) ∙ was.shed k early
           | inr last ↦ subst (λ j. shed_at next.through.printed j ≡ (lack_at fills j).shed) (sym last) next.is.shed
         ];
         short = λ k hk. elim (below_or_last t k hk) [
-          | inl early ↦ next.is.other_short k (omega (arith, early)) ∙ was.short k early
+          | inl early ↦ next.is.others.short k (omega (arith, early)) ∙ was.short k early
           | inr last ↦ subst (λ j. short_at next.through.printed j ≡ (lack_at fills j).short) (sym last) next.is.short
         ];
       }
@@ -177,19 +163,19 @@ module _ (instance : Instance) (order : List Segment) (patterns : List Pattern) 
       let was = given instance.periods (omega (arith, all)) in
       record {
         printed = was.through.printed;
-        dispatch = dispatch_through instance patterns (outputs_before start fills instance.periods) (regular instance patterns allowed) was.through;
+        dispatch = dispatch_through instance patterns was.through.printed (outputs_before start fills instance.periods) (regular instance patterns allowed) was.through.is;
         all = all;
         sized = sized;
         outputs = was.outputs;
-        lacks = record { whole = was.through.committed.shape.whole; shed = was.shed; short = was.short };
+        lacks = record { whole = was.through.is.committed.shape.whole; shed = was.shed; short = was.short };
       }
 
   -- where the next period can't be filled the commitment is stuck
   pub stuck_there : AreAllowed instance patterns → (t : ℕ) → IsBarred instance patterns start fills t → IsTrialOf instance patterns (trial.Stuck t)
   stuck_there allowed t barred =
       let was = given t (omega (arith, barred.last)) in
-      let found = obstacle instance patterns t (outputs_before start fills t) barred.within was.through barred.why barred.first in
+      let found = obstacle_of instance patterns t was.through.printed (outputs_before start fills t) barred.why was.through.is barred.within barred.first in
       record {
         printed = was.through.printed;
-        ending = stuck_in instance patterns was.through.printed (record { period = t; why = barred.why }) allowed was.through.committed.shape found;
+        ending = stuck_in instance patterns was.through.printed (record { period = t; why = barred.why }) allowed was.through.is.committed.shape found;
       }

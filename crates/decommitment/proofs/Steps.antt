@@ -111,7 +111,7 @@ module _ (period : Period) (order : List Segment) (old set : Fill) (level : ℕ)
       standing = record {
         given = sums;
         level = subst (AreAtLevel period order (if step.goes_on then suc level else level)) (sym amounts)
-            (climbed period order level old.amounts.items step within given.count inside were
+            (climbed period order level old.amounts.items step given.count were within inside
             (subst (λ z. IsRisen (amount_at old.amounts.items s) (int_min (segment_at order level).end z) step) is.high rose));
       };
       totals = totals;
@@ -124,7 +124,7 @@ module _ (period : Period) (order : List Segment) (old set : Fill) (level : ℕ)
       standing = record {
         given = sums;
         level = subst (AreAtLevel period order (if step.goes_on then level - 1 else level)) (sym amounts)
-            (descended period order level old.amounts.items least step given.count inside were
+            (descended period order level old.amounts.items step given.count were least inside
             (subst (λ z. z) (λ i. IsAtLevel order s level level (is.low i) (is.high i) least) bottom) sank);
       };
       totals = totals;

@@ -4,15 +4,7 @@ use Rattle.std.proofs.Common.{◌≡◌, ℕ, ◌+◌, ◌<◌, ◌≤◌, inl, 
 use Rattle.std.proofs.lemmas.Bool.{cases_eq, cases_lt}
 use Rattle.decommitment.specs.inside.Stretches.{HaveKept, IsMarked, IsSameAt}
 
--- at first each has kept its mark
-pub all_kept : (renewables : ℕ) (first second : List ℤ) (from : ℕ) (marks : List Bool) → HaveKept renewables first second from from marks marks
-all_kept renewables first second from marks = record {
-  count = λ i. length marks;
-  marked = λ g h m. m;
-  same = λ g h m low high. absurd (omega (arith, low, high));
-}
-
--- those of a stretch have where all are the same
+-- the units of a stretch have kept their marks where all are the same
 pub kept_where_same : (renewables : ℕ) (first second : List ℤ) (from to : ℕ) (marks : List Bool)
     → ((g : ℕ) → from ≤ g → g < to → IsSameAt renewables first second g) → HaveKept renewables first second from to marks marks
 kept_where_same renewables first second from to marks all = record {
@@ -20,6 +12,10 @@ kept_where_same renewables first second from to marks all = record {
   marked = λ g h m. m;
   same = λ g h m low high. all g low high;
 }
+
+-- at first each has
+pub all_kept : (renewables : ℕ) (first second : List ℤ) (from : ℕ) (marks : List Bool) → HaveKept renewables first second from from marks marks
+all_kept renewables first second from marks = kept_where_same renewables first second from from marks (λ g low high. absurd (omega (arith, low, high)))
 
 -- a unit more: its mark stays only where it had one and is the same
 pub kept_more : (renewables : ℕ) (first second : List ℤ) (from g : ℕ) (old middle : List Bool) (mark : Bool) → g < length old

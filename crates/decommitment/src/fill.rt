@@ -14,7 +14,7 @@ use crate::merit::Merit;
 use crate::stretch::stretch_from;
 use dispatch_repair::ranges::renewable_range;
 use dispatch_repair::totals::with_range;
-use dispatch_repair::{Left, Range, Reach, Shortage, Totals, imbalance, start_of};
+use dispatch_repair::{Left, Range, Reach, Shortage, Totals, start_from};
 use std::alloc::Global;
 use uc_model::{Instance, NoMemory, Pattern, Why};
 
@@ -258,10 +258,9 @@ fn settle(system: &System, hour: &Hour, fill: &mut Fill) -> Filling
 {
     let demand = &system.instance.demand.as_slice()[hour.t];
     let need = &system.instance.reserves.as_slice()[hour.t];
-    match imbalance(system.instance, &fill.totals, demand, need) {
-        Some(why) => Filling::Uneven(why),
-        None => {
-            let start = start_of(system.instance, &fill.totals, demand, need);
+    match start_from(system.instance, &fill.totals, demand, need) {
+        Err(why) => Filling::Uneven(why),
+        Ok(start) => {
             fill.shortage = start.shortage;
             meet(system, hour, fill, &start.left)
         }

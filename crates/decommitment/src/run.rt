@@ -7,8 +7,8 @@ ghost use Rattle.dispatch_repair.specs.Amounts.{next_period};
 ghost use Rattle.dispatch_repair.specs.Rooms.{IsRoomOf};
 ghost use Rattle.dispatch_repair.specs.Segments.{source_count};
 ghost use Rattle.dispatch_repair.specs.Stuck.{IsFirstObstacle};
-ghost use Rattle.decommitment.specs.inside.Fills.{HasEntered, IsFill};
-ghost use Rattle.decommitment.specs.inside.Runs.{AreFills, AreInitial, IsEdge, IsFillingOf, IsNext, IsOrigin, IsReach, IsSetting, IsStoodAt, instance_of, order_of, outputs_before};
+ghost use Rattle.decommitment.specs.inside.Fills.{HasEntered, IsFill, IsFillingOf};
+ghost use Rattle.decommitment.specs.inside.Runs.{AreFills, AreInitial, IsEdge, IsNext, IsOrigin, IsReach, IsSetting, IsStoodAt, instance_of, order_of, outputs_before};
 
 use crate::fill::{Base, Fill, Filling, Hour, System, fill_again, fill_anew, no_fill};
 use dispatch_repair::{Room, dispatch_after, set_initial};

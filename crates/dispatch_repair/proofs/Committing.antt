@@ -13,8 +13,8 @@ use Rattle.start_costs.specs.Cheapest.{Thermal, IsCheapestAbove}
 use Rattle.dispatch_repair.specs.Period.{Instance, Pattern, Printed, commitment_at}
 use Rattle.dispatch_repair.specs.Dispatch.{Cell, IsCommittedCell}
 use Rattle.dispatch_repair.specs.Rooms.{AreCommitted}
-use Rattle.dispatch_repair.specs.inside.Rows.{cell_of}
-use Rattle.dispatch_repair.proofs.Listed.{list_of, listed, listed_length}
+use Rattle.dispatch_repair.specs.inside.Rows.{cell_of, list_of}
+use Rattle.dispatch_repair.proofs.Listed.{listed, listed_length}
 
 -- ---- the cheapest category
 allowed-le : (unit : Thermal) (on : Commitment) (s t : ℕ) → IsTrue (is_category_allowed unit on s t) → s ≤ category_count unit

@@ -13,27 +13,27 @@ use Rattle.uc_model.proofs.CostBound.{within_of_abs}
 use Rattle.uc_model.proofs.Ring.{linear, pos-mul, pos-le-pos}
 use Rattle.uc_model.proofs.Sums.{sum_below-const, sum_below-le}
 use Rattle.dispatch_repair.specs.Period.{Instance, Pattern, Printed, Period, low_of, head_of, heads, total_output, demand_of, need_of, thermal_limit, thermal_sum}
-use Rattle.dispatch_repair.specs.Shortage.{shed_of, short_of}
+use Rattle.dispatch_repair.specs.Shortage.{served, shed_of, short_of}
 use Rattle.dispatch_repair.specs.Dispatch.{IsFilled, period_after}
 use Rattle.dispatch_repair.specs.Rooms.{AreCommitted, IsObstacleOf}
 use Rattle.dispatch_repair.specs.Segments.{Segment, AreInMeritOrder, source_count}
 use Rattle.dispatch_repair.specs.Stuck.{Stuck, Why, IsDispatchOf, IsFirstObstacle, IsFree, IsRegular, IsStuckOf}
 use Rattle.dispatch_repair.specs.Amounts.{IsSizedOutput, amount_at, thermal_amount}
-use Rattle.dispatch_repair.specs.Filled.{Shortage, AreShortages, IsDispatchedFrom, served_by}
-use Rattle.dispatch_repair.specs.Filling.{Left, IsFillable, IsFirstLeft, IsLeft}
-use Rattle.dispatch_repair.specs.Progress.{AreBefore}
+use Rattle.dispatch_repair.specs.Filled.{Shortage, IsDispatchedFrom}
+use Rattle.dispatch_repair.specs.Filling.{Start, IsFirstLeft, IsStart}
+use Rattle.dispatch_repair.specs.inside.Rows.{IsWritten, list_of, written}
 use Rattle.dispatch_repair.specs.Totals.{MAX_POWER, MAX_UNITS}
 use Rattle.dispatch_repair.proofs.Committing.{idle, idle_committed}
 use Rattle.dispatch_repair.proofs.Filled.{max_right}
-use Rattle.dispatch_repair.proofs.Listed.{list_of, listed, listed_length}
-use Rattle.dispatch_repair.proofs.Merit.{IsFilledUp, first_need, first_room, in_merit_order, open_ranges, width_size}
+use Rattle.dispatch_repair.proofs.Listed.{listed, listed_length}
+use Rattle.dispatch_repair.proofs.Merit.{first_need, first_room, open_ranges}
 use Rattle.dispatch_repair.proofs.Obstacles.{free, barred, judged}
-use Rattle.dispatch_repair.proofs.Periods.{before_next, committed_still, filled_moved, filled_period, initial_size, no_amount, no_initial, same_but, stuck_of}
+use Rattle.dispatch_repair.proofs.Periods.{AreFilledBelow, begun as filled_none, dispatch_through, next_filled, obstacle_of, stuck_of}
 use Rattle.dispatch_repair.proofs.Raising.{HasFilling, filling}
 use Rattle.dispatch_repair.proofs.Reaches.{heads_are, heads_in, ranges_are, ranges_in}
 use Rattle.dispatch_repair.proofs.RowsEdits.{cut_at, cut_stuck}
-use Rattle.dispatch_repair.proofs.Shortages.{fillable, kept_size, low_sums, ranges_served, shed_nonneg}
-use Rattle.dispatch_repair.proofs.Writing.{written, written_is, written_shape}
+use Rattle.dispatch_repair.proofs.Shortages.{dispatched_from, fillable, low_sums, shed_nonneg, started}
+use Rattle.dispatch_repair.proofs.Writing.{written_is, written_shape}
 
 -- what a commitment comes to
 pub data IsEnded (instance : Instance) (patterns : List Pattern) : Type 0 where
@@ -71,147 +71,71 @@ module _ (instance : Instance) (patterns : List Pattern) (order : List Segment) 
         omega (arith, linear, each, all, pos-le-pos (thermal_count instance * (3 * MAX_POWER)) (MAX_UNITS * (50 * MAX_POWER)) few)
 
     module _ (clear : IsFree period) where
-      abbrev shortage : Shortage
-      shortage = record { shed = shed_of period; short = short_of period }
-
-      shortages : AreShortages period shortage
-      shortages = record { shed = refl; short = refl }
-
       abbrev kept : Period
-      kept = served_by period shortage
+      kept = served period (shed_of period) (short_of period)
 
-      well : IsFillable kept
-      well = fillable period lawful within clear.balance.ranges clear
+      abbrev start : Start
+      start = record {
+        shortage = record { shed = shed_of period; short = short_of period };
+        left = record { need = demand_of kept -ℤ total_output kept (low_of kept); room = thermal_limit kept -ℤ thermal_sum kept (low_of kept) };
+      }
 
-      abbrev start : Left
-      start = record { need = demand_of kept -ℤ total_output kept (low_of kept); room = thermal_limit kept -ℤ thermal_sum kept (low_of kept) }
-
-      first : IsFirstLeft kept start
+      first : IsFirstLeft kept start.left
       first = record { need = refl; room = refl }
 
-      sized : IsLeft start
-      sized =
+      begin : IsStart period start
+      begin =
+          let well = fillable period lawful within clear.balance.ranges clear in
           let low = low_sums period lawful within clear.balance.ranges in
           let power = All-get_or IsPower instance.demand t (pos 0) (subst (λ n. t < n) (sym lawful.demand_length) within) lawful.demand in
-          record {
-            need = first_need kept start well first;
-            room = first_room kept start well first;
-            need_size = up_to start.need (demand_at instance t) (MAX_UNITS * (50 * MAX_POWER)) (first_need kept start well first)
-                (part-le start.need (demand_at instance t) (shed_of period) (total_output kept (low_of kept)) refl (shed_nonneg period) low.all) (power-le (demand_at instance t) power);
-            room_size = up_to start.room (heads period) (MAX_UNITS * (50 * MAX_POWER)) (first_room kept start well first)
-                (part-le start.room (heads period) (int_max (need_of kept) (pos 0)) (thermal_sum kept (low_of kept)) refl (max_right (need_of kept) (pos 0)) low.thermal) heads-le;
-          }
+          started period start lawful within clear (record { shed = refl; short = refl }) first
+          (up_to start.left.need (demand_at instance t) (MAX_UNITS * (50 * MAX_POWER)) (first_need kept start.left well first)
+          (part-le start.left.need (demand_at instance t) (shed_of period) (total_output kept (low_of kept)) refl (shed_nonneg period) low.all) (power-le (demand_at instance t) power))
+          (up_to start.left.room (heads period) (MAX_UNITS * (50 * MAX_POWER)) (first_room kept start.left well first)
+          (part-le start.left.room (heads period) (int_max (need_of kept) (pos 0)) (thermal_sum kept (low_of kept)) refl (max_right (need_of kept) (pos 0)) low.thermal) heads-le)
 
-      filled : HasFilling instance order (ranges_in period) start (length order)
+      filled : HasFilling instance order (ranges_in period) start.left (length order)
       filled =
-          filling instance order (ranges_in period) start are
-          (open_ranges period (ranges_in period) lawful within clear.balance.ranges (ranges_are period lawful within sizes)) sized (length order) (omega arith)
+          filling instance order (ranges_in period) start.left are
+          (open_ranges period (ranges_in period) lawful within clear.balance.ranges (ranges_are period lawful within sizes)) begin.sizes (length order) (omega arith)
 
-      all : IsFilledUp kept order (ranges_in period) start filled.amounts filled.rest
-      all = record {
-        lawful = lawful;
-        within = within;
-        order = are;
-        ranges = ranges_served period shortage.shed shortage.short (ranges_in period) (ranges_are period lawful within sizes);
-        free = well;
-        first = first;
-        filled = filled.is;
-      }
-
-      is_dispatched : IsDispatchedFrom period shortage filled.amounts (heads_in period)
-      is_dispatched = record {
-        shortages = shortages;
-        merit = in_merit_order kept order (ranges_in period) start filled.amounts filled.rest all;
-        heads = heads_are period lawful within sizes;
-        sizes = width_size kept order (ranges_in period) start filled.amounts filled.rest all;
-        kept = kept_size instance patterns t before shortage lawful within shortages well;
-      }
+      is_dispatched : IsDispatchedFrom period start.shortage filled.amounts (heads_in period)
+      is_dispatched =
+          dispatched_from instance patterns t before order (ranges_in period) start filled.amounts (heads_in period) filled.rest lawful within are
+          (ranges_are period lawful within sizes) (heads_are period lawful within sizes) begin filled.is
 
 -- ---- period after period
--- the first periods of a schedule are filled, and these are the amounts of the last of them
+-- a schedule of which the first periods are filled, and these are the amounts of the last of them
 pub record IsThrough (instance : Instance) (patterns : List Pattern) (t : ℕ) (numbers : List ℤ) : Type 0 where
   pub printed : Printed
-  pub committed : AreCommitted instance patterns printed
-  pub filled : (k : ℕ) → k < t → IsFilled instance patterns printed k
-  pub count : length numbers ≡ source_count instance
-  pub before : AreBefore instance printed t numbers
+  pub is : AreFilledBelow instance patterns t printed numbers
 
 -- none is filled yet, after what the units give initially
 pub begun : (instance : Instance) (patterns : List Pattern) (numbers : List ℤ) → IsLawfulInstance instance → length numbers ≡ source_count instance
     → ((g : ℕ) → g < thermal_count instance → thermal_amount instance numbers g ≡ initial_p (thermal_unit instance g)) → IsThrough instance patterns 0 numbers
-begun instance patterns numbers lawful count initial_is = record {
+begun instance patterns numbers lawful count initial = record {
   printed = idle instance patterns lawful;
-  committed = idle_committed instance patterns lawful;
-  filled = λ k h. absurd (omega (arith, h));
-  count = count;
-  before = record {
-    are = λ g. elim (cases_lt g (thermal_count instance)) [
-      | inl low ↦ initial_is g low
-      | inr high ↦ no_amount instance numbers g count high ∙ sym (no_initial instance g high)
-    ];
-    sizes = λ g h. subst IsSizedOutput (sym (initial_is g h)) (initial_size (thermal_unit instance g) (lawful.thermal g h));
-  };
+  is = filled_none instance patterns (idle instance patterns lawful) numbers lawful (idle_committed instance patterns lawful) count initial;
 }
 
--- a schedule gives these amounts in period t and lacks this, and in the others is as it was
-pub record IsNext (instance : Instance) (t : ℕ) (numbers : List ℤ) (lack : Shortage) (old new : Printed) : Type 0 where
-  pub outputs : (g : ℕ) → g < thermal_count instance → (cell_at new g t).p ≡ thermal_amount instance numbers g
-  pub shed : shed_at new t ≡ lack.shed
-  pub short : short_at new t ≡ lack.short
-  pub other_cells : (g k : ℕ) → k ≢ t → cell_at new g k ≡ cell_at old g k
-  pub other_shed : (k : ℕ) → k ≢ t → shed_at new k ≡ shed_at old k
-  pub other_short : (k : ℕ) → k ≢ t → short_at new k ≡ short_at old k
-
--- a period more is filled
-pub record HasMore (instance : Instance) (patterns : List Pattern) (t : ℕ) (numbers : List ℤ) (lack : Shortage) (old : Printed) : Type 0 where
+-- a period more is filled, and written into the schedule
+pub record HasMore (instance : Instance) (patterns : List Pattern) (t : ℕ) (numbers tops : List ℤ) (lack : Shortage) (old : Printed) : Type 0 where
   pub through : IsThrough instance patterns (suc t) numbers
-  pub is : IsNext instance t numbers lack old through.printed
+  pub is : IsWritten instance numbers tops lack t old through.printed
 
-module _ (instance : Instance) (patterns : List Pattern) (t : ℕ) (numbers : List ℤ) (within : t < instance.periods)
-    (was : IsThrough instance patterns t numbers) where
-  -- Cite by `use Rattle.dispatch_repair.proofs.Endings.{more}`.
-  pub more : (after tops : List ℤ) (lack : Shortage) → length after ≡ source_count instance
-      → IsDispatchedFrom (period_after instance patterns t (thermal_amount instance numbers)) lack after tops
-      → HasMore instance patterns t after lack was.printed
-  more after tops lack count done =
-      let new = written instance after tops lack t was.printed was.committed.shape within in
-      let shape = written_shape instance after tops lack t was.printed was.committed.shape within in
-      let is = written_is instance after tops lack t was.printed was.committed.shape within in
-      record {
-        through = record {
-          printed = new;
-          committed = committed_still instance patterns t was.printed new numbers after tops lack shape count was.before was.committed within done is;
-          filled = λ k h. elim (cases_lt k t) [
-            | inl early ↦ filled_moved instance patterns k was.printed new (same_but instance t k was.printed new lack is.powers.others is.lacking early) (was.filled k early)
-            | inr late ↦ subst (IsFilled instance patterns new) (omega (arith, h, late))
-                (filled_period instance patterns t was.printed new numbers after tops lack shape count was.before was.committed within done is)
-          ];
-          count = count;
-          before = before_next instance patterns t was.printed new numbers after tops lack shape count was.before was.committed within done is;
-        };
-        is = record {
-          outputs = λ g h. (is.powers.cells g h).p;
-          shed = is.lacking.shed;
-          short = is.lacking.short;
-          other_cells = is.powers.others.cells;
-          other_shed = is.lacking.other_shed;
-          other_short = is.lacking.other_short;
-        };
-      }
-
-  -- what is in the way next is so of the commitment
-  pub obstacle : (reason : Why) → IsFirstObstacle (period_after instance patterns t (thermal_amount instance numbers)) reason
-      → IsObstacleOf instance patterns was.printed (record { period = t; why = reason })
-  obstacle reason found = record {
-    within = within;
-    filled = was.filled;
-    first = subst (λ z. z) (λ i. IsFirstObstacle (period_after instance patterns t (λ g. was.before.are g i)) reason) found;
-  }
-
--- all are filled
-pub dispatch_through : (instance : Instance) (patterns : List Pattern) (numbers : List ℤ) → IsRegular instance patterns
-    → (was : IsThrough instance patterns instance.periods numbers) → IsDispatchOf instance patterns was.printed
-dispatch_through instance patterns numbers regular was = record { regular = regular; periods = record { shape = was.committed.shape; filled = was.filled } }
+-- Cite by `use Rattle.dispatch_repair.proofs.Endings.{more}`.
+pub more : (instance : Instance) (patterns : List Pattern) (t : ℕ) (numbers after tops : List ℤ) (lack : Shortage) → t < instance.periods
+    → (was : IsThrough instance patterns t numbers) → length after ≡ source_count instance
+    → IsDispatchedFrom (period_after instance patterns t (thermal_amount instance numbers)) lack after tops
+    → HasMore instance patterns t after tops lack was.printed
+more instance patterns t numbers after tops lack within was count done =
+    let new = written instance after tops lack t was.printed in
+    let shape = written_shape instance after tops lack t was.printed was.is.committed.shape within in
+    let is = written_is instance after tops lack t was.printed was.is.committed.shape within in
+    record {
+      through = record { printed = new; is = next_filled instance patterns t was.printed new numbers after tops lack shape count was.is within done is };
+      is = is;
+    }
 
 module _ (instance : Instance) (patterns : List Pattern) (order : List Segment) (lawful : IsLawfulInstance instance)
     (are : AreInMeritOrder instance order) where
@@ -229,11 +153,11 @@ module _ (instance : Instance) (patterns : List Pattern) (order : List Segment) 
 
     further : IsFree reached → (after : List ℤ) × IsThrough instance patterns (suc t) after
     further clear =
-        let fill = filled instance patterns order lawful are t (thermal_amount instance numbers) within was.before.sizes clear in
-        let lack = shortage instance patterns order lawful are t (thermal_amount instance numbers) within was.before.sizes clear in
-        let done = is_dispatched instance patterns order lawful are t (thermal_amount instance numbers) within was.before.sizes clear in (
+        let fill = filled instance patterns order lawful are t (thermal_amount instance numbers) within was.is.before.sizes clear in
+        let lack = (start instance patterns order lawful are t (thermal_amount instance numbers) within was.is.before.sizes clear).shortage in
+        let done = is_dispatched instance patterns order lawful are t (thermal_amount instance numbers) within was.is.before.sizes clear in (
           fill.amounts,
-          (more instance patterns t numbers within was fill.amounts (heads_in reached) lack fill.is.count done).through,
+          (more instance patterns t numbers fill.amounts (heads_in reached) lack within was fill.is.count done).through,
         )
 
   module _ (regular : IsRegular instance patterns) where
@@ -244,7 +168,7 @@ module _ (instance : Instance) (patterns : List Pattern) (order : List Segment) 
         | free clear ↦ inl (further t was.0 (omega arith) was.1 clear)
         | barred reason found ↦ inr (stuck (record { period = t; prefix = cut_at t was.1.printed; why = reason })
             (stuck_of instance patterns was.1.printed (record { period = t; why = reason }) (record { period = t; prefix = cut_at t was.1.printed; why = reason }) regular
-            was.1.committed.shape (obstacle instance patterns t was.0 (omega arith) was.1 reason found) (cut_stuck was.1.printed (record { period = t; why = reason }))))
+            was.1.is.committed.shape (obstacle_of instance patterns t was.1.printed was.0 reason was.1.is (omega arith) found) (cut_stuck was.1.printed (record { period = t; why = reason }))))
       ]
       | inr over ↦ inr over
     ]
@@ -252,6 +176,6 @@ module _ (instance : Instance) (patterns : List Pattern) (order : List Segment) 
     -- Cite by `use Rattle.dispatch_repair.proofs.Endings.{ended}`.
     pub ended : IsEnded instance patterns
     ended = elim (come instance.periods (omega arith)) [
-      | inl was ↦ dispatched was.1.printed (dispatch_through instance patterns was.0 regular was.1)
+      | inl was ↦ dispatched was.1.printed (dispatch_through instance patterns was.1.printed was.0 regular was.1.is)
       | inr over ↦ over
     ]

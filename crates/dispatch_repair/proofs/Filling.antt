@@ -7,12 +7,12 @@ use Rattle.uc_model.specs.Sums.{sum_below}
 use Rattle.uc_model.specs.Schedule.{thermal_count, renewable_count}
 use Rattle.uc_model.proofs.Ring.{linear, le_or_lt, le_antisymm}
 use Rattle.uc_model.proofs.Sums.{sum_below-same, sum_below-add, sum_below-single}
-use Rattle.cost_curves.proofs.Lines.{flatter_trans}
 use Rattle.dispatch_repair.specs.MeritOrder.{Instance, Slope, HasNextSlope}
 use Rattle.dispatch_repair.specs.Amounts.{Range, range_at, amount_at, thermal_amount}
 use Rattle.dispatch_repair.specs.Filling.{Left, IsLeft, IsOpen, IsFull, IsSpent, IsRaise, CostsUpTo, IsWorth, IsTaken, AddsUp, IsFilledTo}
-use Rattle.dispatch_repair.specs.Segments.{Segment, comes_before, IsAtMost, source_at, source_count, segment_at, no_segment, IsSegmentOf, AreInMeritOrder}
+use Rattle.dispatch_repair.specs.Segments.{Segment, comes_before, source_at, source_count, segment_at, no_segment, IsSegmentOf, AreInMeritOrder}
 use Rattle.dispatch_repair.proofs.MeritSegments.{up_to-from}
+use Rattle.dispatch_repair.proofs.SourceSlopes.{at_most_trans}
 
 -- ---- sums with one term changed
 pub sum_below-raised : (n k : ℕ) (f g : ℕ → ℤ) (more : ℤ) → k < n → g k ≡ f k +ℤ more → ((j : ℕ) → j ≢ k → g j ≡ f j)
@@ -27,14 +27,9 @@ sum_below-raised n k f g more h here others =
 pub costs_trans : (a b c : Slope) (n m k : ℕ) → pos 0 <ℤ a.run → pos 0 <ℤ b.run → pos 0 <ℤ c.run
     → CostsUpTo a n b m → CostsUpTo b m c k → CostsUpTo a n c k
 costs_trans a b c n m k ha hb hc first second = record {
-  slope = chain a b c ha hb hc first.slope second.slope;
-  source = λ back. omega (arith, first.source (chain b c a hb hc ha second.slope back), second.source (chain c a b hc ha hb back first.slope));
+  slope = at_most_trans a b c ha hb hc first.slope second.slope;
+  source = λ back. omega (arith, first.source (at_most_trans b c a hb hc ha second.slope back), second.source (at_most_trans c a b hc ha hb back first.slope));
 }
-  where
-    chain : (x y z : Slope) → pos 0 <ℤ x.run → pos 0 <ℤ y.run → pos 0 <ℤ z.run → IsAtMost x y → IsAtMost y z → IsAtMost x z
-    chain x y z hx hy hz h g =
-        (flatter_trans x.run x.rise y.run y.rise z.run z.rise (omega (arith, linear)) hy (omega (arith, linear))
-        (record { products = h }) (record { products = g })).products
 
 -- a segment before another costs up to it
 pub sorted_costs : (first second : Segment) → pos 0 <ℤ first.slope.run → pos 0 <ℤ second.slope.run → comes_before second first ≡ false

@@ -6,7 +6,6 @@ pub mod Impossible
 pub mod Filled
 pub mod Obeying
 pub mod Plain
-pub mod NextSlopes
 pub mod Filling
 pub mod Merit
 pub mod Shortages
@@ -17,7 +16,6 @@ pub mod RowsWritten
 pub mod RowRules
 pub mod BrokenRules
 pub mod RunPatterns
-pub mod Written
 pub mod TotalSums
 pub mod Regular
 pub mod Listed
@@ -28,6 +26,5 @@ pub mod Reaches
 pub mod Writing
 pub mod Endings
 pub mod SourceSlopes
-pub mod LesserSums
 pub mod OneFilling
 pub mod OneDispatch

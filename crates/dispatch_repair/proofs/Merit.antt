@@ -17,7 +17,7 @@ use Rattle.dispatch_repair.specs.Amounts.{Range, range_at, amount_at, amount_of,
 use Rattle.dispatch_repair.specs.Filling.{Left, IsOpen, IsFull, CostsUpTo, IsWorth, IsTaken, IsFilledTo, IsFirstLeft, IsFillable}
 use Rattle.dispatch_repair.specs.Segments.{Segment, IsNextOn, source_at, source_count, segment_at, no_segment, width_at, AreInMeritOrder}
 use Rattle.dispatch_repair.proofs.CurveSegments.{renewable_at, thermal_at}
-use Rattle.dispatch_repair.proofs.NextSlopes.{next_run}
+use Rattle.dispatch_repair.proofs.SourceSlopes.{next_of, next_run}
 use Rattle.dispatch_repair.proofs.Filled.{max_left}
 use Rattle.dispatch_repair.proofs.Filling.{run_positive, costs_trans}
 
@@ -28,7 +28,7 @@ high-le-head period g =
     cond_both (is_off_next period.instance.periods (period.on g) period.t) _ _ (λ z. z ≤ℤ head_of period g)
     (λ off. le_trans _ _ _ (int_min_left _ _) (int_min_left _ _)) (λ on. int_min_left _ _)
 
-high-le-width : (period : Period) (g : ℕ) → high_of period (FromThermal g) ≤ℤ width_at period.instance (FromThermal g)
+pub high-le-width : (period : Period) (g : ℕ) → high_of period (FromThermal g) ≤ℤ width_at period.instance (FromThermal g)
 high-le-width period g =
     cond_both (is_off_next period.instance.periods (period.on g) period.t) _ _ (λ z. z ≤ℤ width_at period.instance (FromThermal g))
     (λ off. le_trans _ _ _ (int_min_left _ _) (int_min_right _ _)) (λ on. int_min_right _ _)
@@ -257,17 +257,6 @@ module _ (period : Period) (order : List Segment) (ranges : List Range) (start :
       no : (w a b : ℕ) → a < b → w + b ≤ w + a → ⊥
       no w a b h l = omega arith
 
-  -- the last watt is the next one of a watt less
-  next_of : (s : Source) (amount : ℤ) (slope : Slope) → HasLastSlope instance s amount slope → HasNextSlope instance s (amount -ℤ pos 1) slope
-  next_of (FromRenewable w) amount slope h = h
-  next_of (FromThermal g) amount slope h = record {
-    left = h.left;
-    right = h.right;
-    segment = h.segment;
-    begins = omega (arith, linear, h.begins);
-    reaches = omega (arith, linear, h.reaches);
-  }
-
   no_move : (from to : Source) (last next : Slope) → CanMove period (amount_of instance amounts) from to
       → HasLastSlope instance from (amount_of instance amounts from) last → HasNextSlope instance to (amount_of instance amounts to) next
       → ¬ IsPreferred to next from last
@@ -305,7 +294,7 @@ module _ (period : Period) (order : List Segment) (ranges : List Range) (start :
 
       last_at : HasNextSlope instance (source_at instance m) watt last
       last_at = subst (λ s. HasNextSlope instance s watt last) (sym (source_is from move.source))
-          (subst (λ z. HasNextSlope instance from (z -ℤ pos 1) last) (amount_is from move.source) (next_of from (amount_of instance amounts from) last has_last))
+          (subst (λ z. HasNextSlope instance from (z -ℤ pos 1) last) (amount_is from move.source) (next_of instance from (amount_of instance amounts from) last has_last))
 
       next_at : HasNextSlope instance (source_at instance n) (amount_at amounts n) next
       next_at = subst (λ s. HasNextSlope instance s (amount_at amounts n) next) (sym (source_is to move.target))

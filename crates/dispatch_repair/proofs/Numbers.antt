@@ -16,13 +16,6 @@ at_most a b h = grind (arith, ints)
 pub kept : (z : ℤ) → IsSizedTotal z → to_z w64 (of_z w64 z) ≡ z
 kept z h = narrow z _ h (omega arith)
 
-pub kept_below : (a b : ℤ) → IsSizedTotal a → IsSizedTotal b → int_lt (to_z w64 (of_z w64 a)) (to_z w64 (of_z w64 b)) ≡ true → a <ℤ b
-kept_below a b h k test =
-    let first = kept a h in
-    let second = kept b k in
-    let less = int_lt-true (to_z w64 (of_z w64 a)) (to_z w64 (of_z w64 b)) test in
-    omega (arith, linear, first, second, less)
-
 pub kept_at_most : (a b : ℤ) → IsSizedTotal a → IsSizedTotal b → int_lt (to_z w64 (of_z w64 a)) (to_z w64 (of_z w64 b)) ≡ false → b ≤ℤ a
 kept_at_most a b h k test =
     let first = kept a h in

@@ -3,7 +3,6 @@ use Rattle.std.proofs.Common.{◌≡◌, ⊎_elim, ℕ, zero, suc, ◌<◌, ◌�
 use Rattle.std.specs.Int.{int_max, int_min}
 use Rattle.std.proofs.Math.ListN.{get_or-eq_default}
 use Rattle.std.proofs.lemmas.Bool.{cases_Bool, cases_lt, cond-true, cond-false}
-use Rattle.std.proofs.lemmas.Int.{ints}
 use Rattle.std.proofs.lemmas.List.Elements.{All-get_or}
 use Rattle.uc_model.specs.Commitment.{starts}
 use Rattle.uc_model.specs.Limits.{IsLawfulInstance}
@@ -14,19 +13,22 @@ use Rattle.uc_model.specs.declared.instance.Thermal.{Thermal}
 use Rattle.uc_model.specs.declared.schedule.Cell.{Cell}
 use Rattle.uc_model.specs.declared.stuck.Why.{Why}
 use Rattle.uc_model.specs.declared.stuck.Why.TheVariants as why
-use Rattle.uc_model.proofs.Ring.{linear}
-use Rattle.uc_model.proofs.Sums.{below_or_last, sum_below-le, sum_below-same}
+use Rattle.uc_model.proofs.Ring.{linear, le_trans}
+use Rattle.uc_model.proofs.Sums.{below_or_last, sum_below-same}
 use Rattle.start_costs.specs.Cheapest.{IsCheapestAbove}
 use Rattle.schedule_check.specs.SizedNumbers.{output_at}
 use Rattle.dispatch_repair.specs.Dispatch.{HasPeriods, IsCommittedCell, IsDispatchThrough, IsFilling, amounts, period_after}
+use Rattle.dispatch_repair.specs.Filling.{IsFillable}
 use Rattle.dispatch_repair.specs.MeritOrder.{IsInMeritOrder, IsReserveInOrder}
 use Rattle.dispatch_repair.specs.Period.{Period, FromRenewable, FromThermal, IsSourceOf, Source, commitment_at, demand_of, head_of, heads, high_of, low_of, minimums, need_of, output_before, renewable_sum, thermal_sum}
 use Rattle.dispatch_repair.specs.Stuck.{IsFirstObstacle, IsRegular, IsStuckBy, stuck_period}
 use Rattle.dispatch_repair.specs.Shortage.{greatest_room, served, shed_of, short_of}
-use Rattle.dispatch_repair.proofs.Filled.{max_left}
-use Rattle.dispatch_repair.proofs.Shortages.{price_cases, shed_nonneg, shed_none, short_none}
+use Rattle.dispatch_repair.proofs.Filled.{filled_period, max_left, max_right}
+use Rattle.dispatch_repair.proofs.Shortages.{max_le, merit_fillable, price_cases, shed_nonneg, shed_none, short_none}
 use Rattle.dispatch_repair.specs.OneDispatch.{Instance, Pattern, Printed, Stuck, DispatchesAreSame, NeverBoth, StuckPeriodsAreSame}
+use Rattle.dispatch_repair.specs.Rooms.{AreSameBelow}
 use Rattle.dispatch_repair.proofs.OneFilling.{one_filling}
+use Rattle.dispatch_repair.proofs.Periods.{before_same}
 
 -- ---- one cell
 -- the cheapest category is one
@@ -115,28 +117,17 @@ same_entry : {X : Type 0} (one other : List (List X)) (n : ℕ) (g t : ℕ) (d :
     → (g < n → get_or (get_or one g []) t d ≡ get_or (get_or other g []) t d) → get_or (get_or one g []) t d ≡ get_or (get_or other g []) t d
 same_entry {X} one other n g t d a b within = ⊎_elim within (λ past. no_entry one n g t d a past ∙ sym (no_entry other n g t d b past)) (cases_lt g n)
 
--- in the first n periods two dispatches are the same
-pub record AreSameTo (n : ℕ) (one other : Printed) : Type 0 where
-  pub cells : (g t : ℕ) → t < n → cell_at one g t ≡ cell_at other g t
-  pub outputs : (w t : ℕ) → t < n → output_at one w t ≡ output_at other w t
-  pub shed : (t : ℕ) → t < n → shed_at one t ≡ shed_at other t
-  pub short : (t : ℕ) → t < n → short_at one t ≡ short_at other t
-
 module _ (instance : Instance) (patterns : List Pattern) (one other : Printed) (m k : ℕ) (lawful : IsLawfulInstance instance)
     (first : IsDispatchThrough instance patterns m one) (second : IsDispatchThrough instance patterns k other) where
-  before-same : (n g : ℕ) → AreSameTo n one other → output_before instance one g n ≡ output_before instance other g n
-  before-same zero g same = refl
-  before-same (suc t) g same = ap (λ (c : Cell). c.p) (same.cells g t (omega arith))
-
-  next : (n : ℕ) → n < m → n < k → AreSameTo n one other → AreSameIn instance (λ g. cell_at one g n) (λ g. cell_at other g n) (λ w. output_at one w n) (λ w. output_at other w n)
+  next : (n : ℕ) → n < m → n < k → AreSameBelow n other one → AreSameIn instance (λ g. cell_at one g n) (λ g. cell_at other g n) (λ w. output_at one w n) (λ w. output_at other w n)
       (shed_at one n) (shed_at other n) (short_at one n) (short_at other n)
   next n hm hk same =
       one_period instance patterns n (λ g. output_before instance other g n) (λ g. cell_at one g n) (λ g. cell_at other g n) (λ w. output_at one w n) (λ w. output_at other w n)
       (shed_at one n) (shed_at other n) (short_at one n) (short_at other n) lawful
-      (subst (λ z. z) (λ i. IsFilling instance patterns n (λ g. before-same n g same i) (λ g. cell_at one g n) (λ w. output_at one w n) (shed_at one n) (short_at one n)) (first.filled n hm))
+      (subst (λ z. z) (λ i. IsFilling instance patterns n (λ g. before_same instance one other g n (same.cells g) i) (λ g. cell_at one g n) (λ w. output_at one w n) (shed_at one n) (short_at one n)) (first.filled n hm))
       (second.filled n hk)
 
-  pub same_to : (n : ℕ) → n ≤ m → n ≤ k → AreSameTo n one other
+  pub same_to : (n : ℕ) → n ≤ m → n ≤ k → AreSameBelow n other one
   same_to zero hm hk = record {
     cells = λ g t h. absurd (omega (arith, h));
     outputs = λ w t h. absurd (omega (arith, h));
@@ -160,42 +151,37 @@ module _ (instance : Instance) (patterns : List Pattern) (one other : Printed) (
       }
 
 -- ---- an obstacle is in the way of each dispatch
-max_le : (a b c : ℤ) → a ≤ℤ c → b ≤ℤ c → int_max a b ≤ℤ c
-max_le a b c h k = grind (arith, ints, h, k)
-
-no_obstacle : (period : Period) (amount : Source → ℤ) (shed short : ℤ) (reason : Why) → shed ≡ shed_of period → short ≡ short_of period
-    → IsInMeritOrder (served period shed short) amount → ¬ IsFirstObstacle period reason
-no_obstacle period amount shed short (why.Rule number unit) unserved missing is found = found
-no_obstacle period amount shed short (why.Box g low high) unserved missing is found =
-    omega (arith, linear, found.empty, found.low, found.high, is.low (FromThermal g) found.within, is.high (FromThermal g) found.within)
-no_obstacle period amount shed short (why.Over total wanted) unserved missing is found =
-    let t = sum_below-le (thermal_count period.instance) (λ g. low_of period (FromThermal g)) (λ g. amount (FromThermal g)) (λ g h. is.low (FromThermal g) h) in
-    let r = sum_below-le (renewable_count period.instance) (λ w. low_of period (FromRenewable w)) (λ w. amount (FromRenewable w)) (λ w h. is.low (FromRenewable w) h) in
-    omega (arith, linear, found.above, found.least, found.demand, is.demand, t, r, unserved, shed_nonneg period)
-no_obstacle period amount shed short (why.Under total wanted) unserved missing is found =
-    let t = sum_below-le (thermal_count period.instance) (λ g. amount (FromThermal g)) (λ g. high_of period (FromThermal g)) (λ g h. is.high (FromThermal g) h) in
-    let r = sum_below-le (renewable_count period.instance) (λ w. amount (FromRenewable w)) (λ w. high_of period (FromRenewable w)) (λ w h. is.high (FromRenewable w) h) in
-    omega (arith, linear, found.below, found.most, found.demand, is.demand, t, r, unserved, shed_none period found.firm)
-no_obstacle period amount shed short (why.Reserve spare wanted) unserved missing is found =
+no_obstacle : (period : Period) (shed short : ℤ) (reason : Why) → shed ≡ shed_of period → short ≡ short_of period
+    → IsFillable (served period shed short) → ¬ IsFirstObstacle period reason
+no_obstacle period shed short (why.Rule number unit) unserved missing well found = found
+no_obstacle period shed short (why.Box g low high) unserved missing well found =
+    omega (arith, linear, found.empty, found.low, found.high, well.ranges g found.within)
+no_obstacle period shed short (why.Over total wanted) unserved missing well found =
+    omega (arith, linear, found.above, found.least, found.demand, well.least, unserved, shed_nonneg period)
+no_obstacle period shed short (why.Under total wanted) unserved missing well found =
+    omega (arith, linear, found.below, found.most, found.demand, well.most, unserved, shed_none period found.firm)
+no_obstacle period shed short (why.Reserve spare wanted) unserved missing well found =
     omega (arith, linear, found.below, found.room, found.need, roomy)
   where
-    lows : thermal_sum period (low_of period) ≤ℤ thermal_sum period amount
-    lows = sum_below-le (thermal_count period.instance) (λ g. low_of period (FromThermal g)) (λ g. amount (FromThermal g)) (λ g h. is.low (FromThermal g) h)
+    lows : ℤ
+    lows = thermal_sum period (low_of period)
 
-    highs : renewable_sum period amount ≤ℤ renewable_sum period (high_of period)
-    highs = sum_below-le (renewable_count period.instance) (λ w. amount (FromRenewable w)) (λ w. high_of period (FromRenewable w)) (λ w h. is.high (FromRenewable w) h)
+    asked : ℤ
+    asked = demand_of period -ℤ minimums period -ℤ renewable_sum period (high_of period)
 
-    -- what the thermal units give leaves what is needed of the heads
-    left : (given : ℤ) → given ≤ℤ thermal_sum period amount → need_of period ≤ℤ (heads period -ℤ given)
-    left given covered =
-        omega (arith, linear, is.limit, covered, max_left (need_of period -ℤ short) (pos 0), missing, short_none period found.firm)
+    rest : ℤ
+    rest = demand_of (served period shed short) -ℤ minimums period -ℤ renewable_sum period (high_of period)
+
+    kept : (given : ℤ) → given ≤ℤ int_max lows rest
+        → need_of period ≤ℤ (heads period -ℤ given)
+    kept given h = omega (arith, linear, well.reserve, h, missing, short_none period found.firm)
 
     roomy : need_of period ≤ℤ greatest_room period
     roomy = ⊎_elim
-        (λ some. subst (λ z. need_of period ≤ℤ z) (sym (cond-true _ _ _ some)) (left (thermal_sum period (low_of period)) lows))
+        (λ some. subst (λ z. need_of period ≤ℤ z) (sym (cond-true _ _ _ some)) (kept lows (max_left lows rest)))
         (λ none. subst (λ z. need_of period ≤ℤ z) (sym (cond-false _ _ _ (ap (nat_lt 0) none)))
-        (left (int_max (thermal_sum period (low_of period)) (demand_of period -ℤ minimums period -ℤ renewable_sum period (high_of period)))
-        (max_le _ _ _ lows (omega (arith, linear, is.demand, highs, unserved, shed_none period none)))))
+        (kept (int_max lows asked) (max_le lows asked (int_max lows rest) (max_left lows rest)
+        (le_trans asked rest (int_max lows rest) (omega (arith, linear, unserved, shed_none period none)) (max_right lows rest)))))
         (price_cases period.instance.a)
 
 -- a commitment that is dispatched through a period isn't stuck there
@@ -204,11 +190,11 @@ not_stuck : (instance : Instance) (patterns : List Pattern) (printed : Printed) 
     → ¬ IsFirstObstacle (stuck_period instance patterns stuck) stuck.why
 not_stuck instance patterns printed stuck n lawful dispatch within prefix found =
     let same = same_to instance patterns printed stuck.prefix n stuck.period lawful dispatch prefix stuck.period (omega (arith, within)) (omega arith) in
+    let filled = dispatch.filled stuck.period within in
     no_obstacle (period_after instance patterns stuck.period (λ g. output_before instance printed g stuck.period))
-    (amounts (λ g. cell_at printed g stuck.period) (λ w. output_at printed w stuck.period))
-    (shed_at printed stuck.period) (short_at printed stuck.period) stuck.why
-    (dispatch.filled stuck.period within).unserved (dispatch.filled stuck.period within).missing (dispatch.filled stuck.period within).merit
-    (subst (λ z. z) (λ i. IsFirstObstacle (period_after instance patterns stuck.period (λ g. sym (before-same instance patterns printed stuck.prefix n stuck.period lawful dispatch prefix stuck.period g same) i)) stuck.why) found)
+    (shed_at printed stuck.period) (short_at printed stuck.period) stuck.why filled.unserved filled.missing
+    (merit_fillable (filled_period instance patterns printed stuck.period) _ filled.merit)
+    (subst (λ z. z) (λ i. IsFirstObstacle (period_after instance patterns stuck.period (λ g. sym (before_same instance printed stuck.prefix g stuck.period (same.cells g)) i)) stuck.why) found)
 
 -- where a commitment is stuck it goes through the periods before, and something is in the way; or it breaks a rule
 data IsStuckSo (instance : Instance) (patterns : List Pattern) (stuck : Stuck) : Type 0 where
@@ -258,7 +244,7 @@ one_dispatch instance patterns one other lawful first second = record {
     past_last xs ys t xs_long ys_long past =
         get_or-eq_default xs (pos 0) {n = t} (subst (λ k. k ≤ t) (sym xs_long) past) ∙ sym (get_or-eq_default ys (pos 0) {n = t} (subst (λ k. k ≤ t) (sym ys_long) past))
 
-    same : AreSameTo instance.periods one other
+    same : AreSameBelow instance.periods other one
     same = same_to instance patterns one other instance.periods instance.periods lawful first.periods second.periods instance.periods (omega arith) (omega arith)
 
 pub never_both : NeverBoth

@@ -1,38 +1,52 @@
 -- In a period the order of merit leaves one choice: where two fillings differ, a watt of one could move.
-use Rattle.std.proofs.Common.{◌≡◌, ◌≢◌, ◌⊎◌, inl, inr, ⊎_elim, ℕ, ◌<◌, ◌≤◌, arith, refl, sym, ap, subst, ℤ, pos, ◌+ℤ◌, ◌-ℤ◌, ◌*ℤ◌, ◌≤ℤ◌, ◌<ℤ◌}
-use Rattle.std.proofs.lemmas.Bool.{cases_lt, cond_both}
+use Rattle.std.proofs.Common.{◌≡◌, ◌≢◌, ◌⊎◌, inl, inr, ⊎_elim, ℕ, suc, zero, ◌<◌, ◌≤◌, arith, refl, sym, ap, subst, ℤ, pos, ◌+ℤ◌, ◌-ℤ◌, ◌*ℤ◌, ◌≤ℤ◌, ◌<ℤ◌}
+use Rattle.std.proofs.lemmas.Bool.{cases_lt}
 use Rattle.uc_model.specs.Limits.{IsLawfulInstance}
 use Rattle.uc_model.specs.Sums.{sum_below}
 use Rattle.uc_model.specs.Schedule.{thermal_count, thermal_unit, renewable_count}
 use Rattle.uc_model.specs.declared.instance.Instance.{Instance}
-use Rattle.uc_model.proofs.Ring.{linear, le_or_lt, le_antisymm, le_trans, zero-mul}
-use Rattle.uc_model.proofs.Tests.{int_min_left, int_min_right}
+use Rattle.uc_model.proofs.Ring.{linear, le_or_lt, le_antisymm, zero-mul}
+use Rattle.uc_model.proofs.Sums.{below_or_last, sum_below-le}
 use Rattle.cost_curves.specs.LowerHull.{width_of}
-use Rattle.cost_curves.specs.declared.slope.Slope.{Slope}
-use Rattle.cost_curves.proofs.Lines.{flatter_trans}
-use Rattle.cost_curves.proofs.Slopes.{slope_run}
 use Rattle.cost_curves.proofs.UnitPoints.{lawful_points}
-use Rattle.dispatch_repair.specs.Period.{Period, Source, FromRenewable, FromThermal, IsSourceOf, low_of, high_of, is_off_next, thermal_sum, thermal_limit}
-use Rattle.dispatch_repair.specs.MeritOrder.{ComesBefore, HasLastSlope, HasNextSlope, IsInMeritOrder, IsPreferred, thermal_part}
+use Rattle.dispatch_repair.specs.Period.{Period, Source, FromRenewable, FromThermal, IsSourceOf, low_of, high_of, thermal_sum, thermal_limit}
+use Rattle.dispatch_repair.specs.MeritOrder.{Slope, ComesBefore, HasLastSlope, HasNextSlope, IsInMeritOrder, IsPreferred, thermal_part}
+use Rattle.dispatch_repair.specs.Segments.{IsAtMost}
 use Rattle.dispatch_repair.proofs.Filled.{max_left}
-use Rattle.dispatch_repair.proofs.SourceSlopes.{left-there, right-there, right-le-left}
-use Rattle.dispatch_repair.proofs.LesserSums.{lesser_term, none_above, same_terms}
+use Rattle.dispatch_repair.proofs.Merit.{high-le-width}
+use Rattle.dispatch_repair.proofs.SourceSlopes.{at_most_trans, left-there, next_of, right-there, right-le-left, source_run}
 
--- a unit's range lies on its curve
-high-le-width : (period : Period) (g : ℕ) → high_of period (FromThermal g) ≤ℤ width_of (thermal_unit period.instance g).points
-high-le-width period g =
-    cond_both (is_off_next period.instance.periods (period.on g) period.t) _ _ (λ z. z ≤ℤ width_of (thermal_unit period.instance g).points)
-    (λ off. le_trans _ _ _ (int_min_left _ _) (int_min_right _ _)) (λ on. int_min_right _ _)
+-- ---- sums of which each term is at most the other's
+-- each term is at most the other's, or one is above it
+none_above : (n : ℕ) (f g : ℕ → ℤ) → ((k : ℕ) → k < n → f k ≤ℤ g k) ⊎ ((k : ℕ) × (k < n) × (g k <ℤ f k))
+none_above zero f g = inl (λ k h. absurd (omega (arith, h)))
+none_above (suc n) f g = elim (none_above n f g) [
+  | inr found ↦ inr (found.0, omega (arith, found.1), found.2)
+  | inl all ↦ elim (le_or_lt (f n) (g n)) [
+    | inr above ↦ inr (n, omega arith, above)
+    | inl last ↦ inl (λ k h. ⊎_elim (λ early. all k early) (λ same. subst (λ j. f j ≤ℤ g j) (sym same) last) (below_or_last n k h))
+  ]
+]
+
+-- a lesser sum has a lesser term
+lesser_term : (n : ℕ) (f g : ℕ → ℤ) → sum_below n f <ℤ sum_below n g → (k : ℕ) × (k < n) × (f k <ℤ g k)
+lesser_term n f g less = elim (none_above n g f) [
+  | inr found ↦ found
+  | inl all ↦ absurd (omega (arith, linear, less, sum_below-le n g f all))
+]
+
+-- terms that are at most the others are those where the sums are the same
+same_terms : (n : ℕ) (f g : ℕ → ℤ) → ((k : ℕ) → k < n → f k ≤ℤ g k) → sum_below n f ≡ sum_below n g → (k : ℕ) → k < n → f k ≡ g k
+same_terms zero f g all same k h = absurd (omega (arith, h))
+same_terms (suc n) f g all same k h =
+    let below = sum_below-le n f g (λ j hj. all j (omega (arith, hj))) in
+    let last = all n (omega arith) in
+    ⊎_elim
+    (λ early. same_terms n f g (λ j hj. all j (omega (arith, hj))) (le_antisymm _ _ below (omega (arith, linear, same, last))) k early)
+    (λ here. subst (λ j. f j ≡ g j) (sym here) (le_antisymm _ _ last (omega (arith, linear, same, below))))
+    (below_or_last n k h)
 
 -- ---- slopes
-abbrev IsAtMost : Slope → Slope → Type 0
-IsAtMost a b = (a.rise *ℤ b.run) ≤ℤ (b.rise *ℤ a.run)
-
-chain : (x y z : Slope) → pos 0 <ℤ x.run → pos 0 <ℤ y.run → pos 0 <ℤ z.run → IsAtMost x y → IsAtMost y z → IsAtMost x z
-chain x y z hx hy hz h g =
-    (flatter_trans x.run x.rise y.run y.rise z.run z.rise (omega (arith, linear, hx)) hy (omega (arith, linear, hz))
-    (record { products = h }) (record { products = g })).products
-
 -- a source that isn't preferred costs as much or more, and where it costs as much it doesn't come before
 not_preferred : (to from : Source) (next last : Slope) → ¬ IsPreferred to next from last → IsAtMost last next × (IsAtMost next last → ¬ ComesBefore to from)
 not_preferred to from next last none = (
@@ -40,20 +54,17 @@ not_preferred to from next last none = (
   λ back before. none (inr (le_antisymm _ _ back (elim (le_or_lt (last.rise *ℤ next.run) (next.rise *ℤ last.run)) [ inl up ↦ up | inr less ↦ absurd (none (inl less)) ]), before)),
 )
 
+strict : (m n : ℕ) → n ≤ m → m ≢ n → n < m
+strict m n h ne = omega (arith, h, ne)
+
 -- of two sources one comes before the other
 ordered : (a b : Source) → a ≢ b → ComesBefore a b ⊎ ComesBefore b a
 ordered (FromRenewable v) (FromRenewable w) apart =
     ⊎_elim (λ (less : v < w). inl less) (λ (up : w ≤ v). inr (strict v w up (λ same. apart (ap FromRenewable same)))) (cases_lt v w)
-  where
-    strict : (m n : ℕ) → n ≤ m → m ≢ n → n < m
-    strict m n h ne = omega (arith, h, ne)
 ordered (FromRenewable v) (FromThermal g) apart = inl tt
 ordered (FromThermal g) (FromRenewable w) apart = inr tt
 ordered (FromThermal g) (FromThermal h) apart =
     ⊎_elim (λ (less : g < h). inl less) (λ (up : h ≤ g). inr (strict g h up (λ same. apart (ap FromThermal same)))) (cases_lt g h)
-  where
-    strict : (m n : ℕ) → n ≤ m → m ≢ n → n < m
-    strict m n h ne = omega (arith, h, ne)
 
 -- ---- two fillings of a period
 record AreFillings (period : Period) (one other : Source → ℤ) : Type 0 where
@@ -70,7 +81,7 @@ module _ (period : Period) (lawful : IsLawfulInstance period.instance) (amount :
   next-there (FromRenewable w) h less = (record { rise = pos 0; run = pos 1 }, (refl, omega (arith, linear)))
   next-there (FromThermal g) h less =
       let low = max_left (pos 0) (period.before g -ℤ (thermal_unit period.instance g).rd) in
-      let within = high-le-width period g in
+      let within : high_of period (FromThermal g) ≤ℤ width_of (thermal_unit period.instance g).points = high-le-width period g in
       right-there (thermal_unit period.instance g).points (amount (FromThermal g)) (lawful_points _ (lawful.thermal g h))
       (omega (arith, linear, low, is.low (FromThermal g) h)) (omega (arith, linear, within, less))
 
@@ -78,17 +89,9 @@ module _ (period : Period) (lawful : IsLawfulInstance period.instance) (amount :
   last-there (FromRenewable w) h less = (record { rise = pos 0; run = pos 1 }, (refl, omega (arith, linear)))
   last-there (FromThermal g) h less =
       let low = max_left (pos 0) (period.before g -ℤ (thermal_unit period.instance g).rd) in
-      let within = high-le-width period g in
+      let within : high_of period (FromThermal g) ≤ℤ width_of (thermal_unit period.instance g).points = high-le-width period g in
       left-there (thermal_unit period.instance g).points (amount (FromThermal g)) (lawful_points _ (lawful.thermal g h))
       (omega (arith, linear, low, less)) (omega (arith, linear, within, is.high (FromThermal g) h))
-
-next_run : (instance : Instance) (s : Source) (watt : ℤ) (slope : Slope) → HasNextSlope instance s watt slope → pos 0 <ℤ slope.run
-next_run instance (FromRenewable w) watt slope h = h.1
-next_run instance (FromThermal g) watt slope h = slope_run (thermal_unit instance g).points slope h.left h.right h.segment
-
-last_run : (instance : Instance) (s : Source) (watt : ℤ) (slope : Slope) → HasLastSlope instance s watt slope → pos 0 <ℤ slope.run
-last_run instance (FromRenewable w) watt slope h = h.1
-last_run instance (FromThermal g) watt slope h = slope_run (thermal_unit instance g).points slope h.left h.right h.segment
 
 -- the next watt costs at most what the last one of a greater output does
 rises : (instance : Instance) (s : Source) (a b : ℤ) (next last : Slope) → a <ℤ b → HasNextSlope instance s a next → HasLastSlope instance s b last → IsAtMost next last
@@ -125,14 +128,14 @@ no_clash period one other s r are it =
       up = omega (arith, linear, it.r_less, are.first.high r it.is_r);
       limit = it.room_other;
     }) l2.1 n2.1) in
-    let rn1 = next_run period.instance s _ n1.0 n1.1 in
-    let rl1 = last_run period.instance r _ l1.0 l1.1 in
-    let rn2 = next_run period.instance r _ n2.0 n2.1 in
-    let rl2 = last_run period.instance s _ l2.0 l2.1 in
+    let rn1 = source_run period.instance s _ n1.0 n1.1 in
+    let rl1 = source_run period.instance r _ l1.0 (next_of period.instance r _ l1.0 l1.1) in
+    let rn2 = source_run period.instance r _ n2.0 n2.1 in
+    let rl2 = source_run period.instance s _ l2.0 (next_of period.instance s _ l2.0 l2.1) in
     let up_s : IsAtMost n1.0 l2.0 = rises period.instance s _ _ n1.0 l2.0 it.s_less n1.1 l2.1 in
     let up_r : IsAtMost n2.0 l1.0 = rises period.instance r _ _ n2.0 l1.0 it.r_less n2.1 l1.1 in
-    let back_one : IsAtMost n1.0 l1.0 = chain n1.0 l2.0 l1.0 rn1 rl2 rl1 up_s (chain l2.0 n2.0 l1.0 rl2 rn2 rl1 other_way.0 up_r) in
-    let back_other : IsAtMost n2.0 l2.0 = chain n2.0 l1.0 l2.0 rn2 rl1 rl2 up_r (chain l1.0 n1.0 l2.0 rl1 rn1 rl2 one_way.0 up_s) in
+    let back_one : IsAtMost n1.0 l1.0 = at_most_trans n1.0 l2.0 l1.0 rn1 rl2 rl1 up_s (at_most_trans l2.0 n2.0 l1.0 rl2 rn2 rl1 other_way.0 up_r) in
+    let back_other : IsAtMost n2.0 l2.0 = at_most_trans n2.0 l1.0 l2.0 rn2 rl1 rl2 up_r (at_most_trans l1.0 n1.0 l2.0 rl1 rn1 rl2 one_way.0 up_s) in
     elim (ordered s r apart) [ inl before ↦ one_way.1 back_one before | inr before ↦ other_way.1 back_other before ]
   where
     apart : s ≢ r

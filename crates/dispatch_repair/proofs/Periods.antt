@@ -6,7 +6,7 @@ use Rattle.std.proofs.Math.ListN.{get_or-eq_default}
 use Rattle.std.proofs.lemmas.Int.{ints}
 use Rattle.uc_model.specs.Sums.{sum_below, bit}
 use Rattle.uc_model.specs.Commitment.{initial_p}
-use Rattle.uc_model.specs.Limits.{IsLawfulThermal}
+use Rattle.uc_model.specs.Limits.{IsLawfulInstance, IsLawfulThermal}
 use Rattle.uc_model.proofs.Ring.{one-mul, zero-mul}
 use Rattle.uc_model.specs.StartCategory.{category_cost}
 use Rattle.uc_model.specs.Schedule.{thermal_unit, thermal_count, renewable_count, reserve_at, no_unit}
@@ -18,59 +18,28 @@ use Rattle.dispatch_repair.specs.Period.{Instance, Pattern, Printed, Thermal, Pe
 use Rattle.dispatch_repair.specs.MeritOrder.{IsInMeritOrder}
 use Rattle.dispatch_repair.specs.Shortage.{served, shed_of, short_of}
 use Rattle.dispatch_repair.specs.Dispatch.{Cell, HasPeriods, IsCommittedCell, amounts, period_after, IsFilling, IsFilled, IsDispatchThrough}
-use Rattle.dispatch_repair.specs.Stuck.{Stuck, Why, IsRegular, IsFirstBrokenRule, IsStuckInPeriod, IsFirstObstacle, stuck_period, IsStuckBy, IsStuckOf}
-use Rattle.dispatch_repair.specs.Rooms.{Obstacle, Room, IsObstacleOf, IsRoomOf, IsStuckAfter, AreCommitted, AreSameBelow}
+use Rattle.dispatch_repair.specs.Stuck.{Stuck, Why, IsRegular, IsFirstBrokenRule, IsDispatchOf, IsStuckInPeriod, IsFirstObstacle, stuck_period, IsStuckBy, IsStuckOf}
+use Rattle.dispatch_repair.specs.Rooms.{Obstacle, IsObstacleOf, IsStuckAfter, AreCommitted, AreSameBelow}
 use Rattle.dispatch_repair.specs.Amounts.{amount_at, amount_of, thermal_amount, IsSizedOutput}
 use Rattle.dispatch_repair.specs.Filled.{Shortage, IsDispatchedFrom}
-use Rattle.dispatch_repair.specs.Progress.{AreBefore, AreFilledBelow}
-use Rattle.dispatch_repair.specs.inside.Rows.{AreSameBut, IsLacking, IsWritten}
+use Rattle.dispatch_repair.specs.inside.Rows.{IsWritten}
 use Rattle.dispatch_repair.specs.Segments.{source_count}
 use Rattle.dispatch_repair.proofs.Impossible.{impossible}
 
 -- ---- what was filled stays so
--- the outputs before, and the cells, the renewable outputs and what is missing in period t are the same
-pub record AreSameAt (instance : Instance) (t : ℕ) (old new : Printed) : Type 0 where
-  pub before : (g : ℕ) → output_before instance old g t ≡ output_before instance new g t
-  pub cells : (g : ℕ) → cell_at old g t ≡ cell_at new g t
-  pub outputs : (w : ℕ) → output_at old w t ≡ output_at new w t
-  pub shed : shed_at old t ≡ shed_at new t
-  pub short : short_at old t ≡ short_at new t
+-- what came before a period hangs on the cells before it
+pub before_same : (instance : Instance) (one other : Printed) (g t : ℕ) → ((k : ℕ) → k < t → cell_at one g k ≡ cell_at other g k)
+    → output_before instance one g t ≡ output_before instance other g t
+before_same instance one other g zero same = refl
+before_same instance one other g (suc t) same = ap (λ (c : Cell). c.p) (same t (omega arith))
 
-pub filled_moved : (instance : Instance) (patterns : List Pattern) (t : ℕ) (old new : Printed) → AreSameAt instance t old new
+filled_moved : (instance : Instance) (patterns : List Pattern) (n t : ℕ) (old new : Printed) → AreSameBelow n old new → t < n
     → IsFilled instance patterns old t → IsFilled instance patterns new t
-filled_moved instance patterns t old new same filled =
-    subst (λ z. z) (λ i. IsFilling instance patterns t (λ g. same.before g i) (λ g. same.cells g i) (λ w. same.outputs w i) (same.shed i) (same.short i)) filled
-
-same_below : (instance : Instance) (periods t : ℕ) (old new : Printed) → AreSameBelow periods old new → t < periods → AreSameAt instance t old new
-same_below instance periods t old new same h = record {
-  before = λ g. before g t h;
-  cells = λ g. sym (same.cells g t h);
-  outputs = λ w. sym (same.outputs w t h);
-  shed = sym (same.shed t h);
-  short = sym (same.short t h);
-}
-  where
-    before : (g k : ℕ) → k < periods → output_before instance old g k ≡ output_before instance new g k
-    before g zero k = refl
-    before g (suc k) hk = ap (λ (c : Cell). c.p) (sym (same.cells g k (omega arith)))
-
-pub same_but : (instance : Instance) (t k : ℕ) (old new : Printed) (shortage : Shortage) → AreSameBut t old new → IsLacking shortage t old new → k < t → AreSameAt instance k old new
-same_but instance t k old new shortage same lacking h = record {
-  before = λ g. before g k h;
-  cells = λ g. sym (same.cells g k (omega arith));
-  outputs = λ w. sym (same.outputs w k (omega arith));
-  shed = sym (lacking.other_shed k (omega arith));
-  short = sym (lacking.other_short k (omega arith));
-}
-  where
-    before : (g j : ℕ) → j < t → output_before instance old g j ≡ output_before instance new g j
-    before g zero hj = refl
-    before g (suc j) hj = ap (λ (c : Cell). c.p) (sym (same.cells g j (omega arith)))
-
--- what came before a period stands when it is written
-before_same : (instance : Instance) (t : ℕ) (old new : Printed) (g : ℕ) → AreSameBut t old new → output_before instance old g t ≡ output_before instance new g t
-before_same instance zero old new g same = refl
-before_same instance (suc t) old new g same = ap (λ (c : Cell). c.p) (sym (same.cells g t (omega arith)))
+filled_moved instance patterns n t old new same h filled =
+    let before : (g : ℕ) → output_before instance old g t ≡ output_before instance new g t =
+    λ g. before_same instance old new g t (λ k hk. sym (same.cells g k (omega (arith, hk, h)))) in
+    subst (λ z. z) (λ i. IsFilling instance patterns t (λ g. before g i) (λ g. sym (same.cells g t h) i) (λ w. sym (same.outputs w t h) i) (sym (same.shed t h) i)
+    (sym (same.short t h) i)) filled
 
 -- ---- past the last unit
 no_cells : (instance : Instance) (periods : ℕ) (printed : Printed) (g t : ℕ) → HasPeriods instance periods printed → thermal_count instance ≤ g → (cell_at printed g t).p ≡ pos 0
@@ -86,24 +55,45 @@ no_outputs instance periods printed w t shape h =
     let none : slice_index_or printed.renewable w [] ≡ [] = get_or-eq_default printed.renewable [] (subst (λ n. n ≤ w) (sym shape.renewable) h) in
     ap (λ (row : List ℤ). slice_index_or row t (pos 0)) none
 
-pub no_amount : (instance : Instance) (numbers : List ℤ) (g : ℕ) → length numbers ≡ source_count instance → thermal_count instance ≤ g → thermal_amount instance numbers g ≡ pos 0
+no_amount : (instance : Instance) (numbers : List ℤ) (g : ℕ) → length numbers ≡ source_count instance → thermal_count instance ≤ g → thermal_amount instance numbers g ≡ pos 0
 no_amount instance numbers g count h = get_or-eq_default numbers (pos 0) (subst (λ n. n ≤ renewable_count instance + g) (sym count) (omega arith))
 
-pub no_initial : (instance : Instance) (g : ℕ) → thermal_count instance ≤ g → initial_p (thermal_unit instance g) ≡ pos 0
+no_initial : (instance : Instance) (g : ℕ) → thermal_count instance ≤ g → initial_p (thermal_unit instance g) ≡ pos 0
 no_initial instance g h = ap initial_p (get_or-eq_default instance.thermal no_unit h)
 
--- the amounts before the first period
-pub begun : (instance : Instance) (patterns : List Pattern) (printed : Printed) (room : Room) → AreCommitted instance patterns printed → IsRoomOf instance room
-    → ((g : ℕ) → g < thermal_count instance → thermal_amount instance room.amounts.items g ≡ initial_p (thermal_unit instance g))
-    → ((g : ℕ) → g < thermal_count instance → IsSizedOutput (thermal_amount instance room.amounts.items g))
-    → AreFilledBelow instance patterns 0 printed room
-begun instance patterns printed room committed of_room initial sizes = record {
+-- the size of what a unit gives initially
+pub initial_size : (unit : Thermal) → IsLawfulThermal unit → IsSizedOutput (initial_p unit)
+initial_size unit lawful = by unit.on0 (unit.p0 -ℤ unit.pmin) (grind (arith, ints, lawful.initial_output, lawful.minimum.power))
+  where
+    by : (b : Bool) (z : ℤ) → IsSizedOutput z → IsSizedOutput (bit b *ℤ z)
+    by true z h = subst IsSizedOutput (sym (one-mul z)) h
+    by false z h = subst IsSizedOutput (sym (zero-mul z)) (omega arith)
+
+-- ---- how far a dispatch has come
+-- the amounts of the thermal units are their outputs in the period before t
+pub record AreBefore (instance : Instance) (printed : Printed) (t : ℕ) (numbers : List ℤ) : Type 0 where
+  pub are : (g : ℕ) → thermal_amount instance numbers g ≡ output_before instance printed g t
+  pub sizes : (g : ℕ) → g < thermal_count instance → IsSizedOutput (thermal_amount instance numbers g)
+
+-- the first t periods are filled, and these are the amounts of the last of them
+pub record AreFilledBelow (instance : Instance) (patterns : List Pattern) (t : ℕ) (printed : Printed) (numbers : List ℤ) : Type 0 where
+  pub committed : AreCommitted instance patterns printed
+  pub filled : (k : ℕ) → k < t → IsFilled instance patterns printed k
+  pub count : length numbers ≡ source_count instance
+  pub before : AreBefore instance printed t numbers
+
+-- none is filled yet, after what the units give initially
+pub begun : (instance : Instance) (patterns : List Pattern) (printed : Printed) (numbers : List ℤ) → IsLawfulInstance instance → AreCommitted instance patterns printed
+    → length numbers ≡ source_count instance
+    → ((g : ℕ) → g < thermal_count instance → thermal_amount instance numbers g ≡ initial_p (thermal_unit instance g))
+    → AreFilledBelow instance patterns 0 printed numbers
+begun instance patterns printed numbers lawful committed count initial = record {
   committed = committed;
   filled = λ k h. absurd (omega (arith, h));
-  room = of_room;
+  count = count;
   before = record {
-    are = λ g. ⊎_elim (λ low. initial g low) (λ high. no_amount instance room.amounts.items g of_room.amounts high ∙ sym (no_initial instance g high)) (cases_lt g (thermal_count instance));
-    sizes = sizes;
+    are = λ g. ⊎_elim (λ low. initial g low) (λ high. no_amount instance numbers g count high ∙ sym (no_initial instance g high)) (cases_lt g (thermal_count instance));
+    sizes = λ g h. subst IsSizedOutput (sym (initial g h)) (initial_size (thermal_unit instance g) (lawful.thermal g h));
   };
 }
 
@@ -118,7 +108,7 @@ committed_cell instance patterns g t old new on category is = record {
 
 module _ (instance : Instance) (patterns : List Pattern) (t : ℕ) (old new : Printed) (before after heads : List ℤ) (shortage : Shortage)
     (shape : HasPeriods instance instance.periods new) (count : length after ≡ source_count instance)
-    (was : AreBefore instance old t before) (committed : AreCommitted instance patterns old) (within : t < instance.periods)
+    (below : AreFilledBelow instance patterns t old before) (within : t < instance.periods)
     (dispatched : IsDispatchedFrom (period_after instance patterns t (thermal_amount instance before)) shortage after heads)
     (written : IsWritten instance after heads shortage t old new) where
   abbrev gave : Source → ℤ
@@ -129,72 +119,72 @@ module _ (instance : Instance) (patterns : List Pattern) (t : ℕ) (old new : Pr
 
   gives : (s : Source) → amount_of instance after s ≡ gave s
   gives (FromRenewable w) = ⊎_elim
-      (λ (h : w < renewable_count instance). cond-true (nat_lt w (renewable_count instance)) _ _ (lt-ltb w (renewable_count instance) h) ∙ sym (written.powers.outputs w h))
+      (λ (h : w < renewable_count instance). cond-true (nat_lt w (renewable_count instance)) _ _ (lt-ltb w (renewable_count instance) h) ∙ sym (written.outputs w h))
       (λ h. cond-false (nat_lt w (renewable_count instance)) _ _ (le-ltb w (renewable_count instance) h) ∙ sym (no_outputs instance instance.periods new w t shape h))
       (cases_lt w (renewable_count instance))
   gives (FromThermal g) = ⊎_elim
-      (λ (h : g < thermal_count instance). sym (written.powers.cells g h).p)
+      (λ (h : g < thermal_count instance). sym (written.cells g h).p)
       (λ h. no_amount instance after g count h ∙ sym (no_cells instance instance.periods new g t shape h))
       (cases_lt g (thermal_count instance))
 
   gave_before : (g : ℕ) → thermal_amount instance before g ≡ output_before instance new g t
-  gave_before g = was.are g ∙ before_same instance t old new g written.powers.others
+  gave_before g = below.before.are g ∙ before_same instance old new g t (λ k h. sym (written.others.cells g k (omega (arith, h))))
 
   same_period : period_after instance patterns t (thermal_amount instance before) ≡ period
   same_period = λ i. period_after instance patterns t (λ g. gave_before g i)
 
-  pub filled_period : IsFilled instance patterns new t
-  filled_period = record {
-    cells = λ g h. committed_cell instance patterns g t (cell_at old g t) (cell_at new g t) (written.powers.cells g h).on (written.powers.cells g h).category (committed.cells g t h within);
-    unserved = written.lacking.shed ∙ dispatched.shortages.shed ∙ ap shed_of same_period;
-    missing = written.lacking.short ∙ dispatched.shortages.short ∙ ap short_of same_period;
-    merit = subst (λ z. z) (λ i. IsInMeritOrder (served (same_period i) (sym written.lacking.shed i) (sym written.lacking.short i)) (λ s. gives s i)) dispatched.merit;
+  filled_here : IsFilled instance patterns new t
+  filled_here = record {
+    cells = λ g h. committed_cell instance patterns g t (cell_at old g t) (cell_at new g t) (written.cells g h).on (written.cells g h).category (below.committed.cells g t h within);
+    unserved = written.shed ∙ dispatched.shortages.shed ∙ ap shed_of same_period;
+    missing = written.short ∙ dispatched.shortages.short ∙ ap short_of same_period;
+    merit = subst (λ z. z) (λ i. IsInMeritOrder (served (same_period i) (sym written.shed i) (sym written.short i)) (λ s. gives s i)) dispatched.merit;
     reserve = λ g h.
         let head : amount_at heads g ≡ head_of period g = (dispatched.heads g h).is ∙ ap (λ p. head_of p g) same_period in
-        (written.powers.cells g h).r
-        ∙ (λ i. int_min (head i -ℤ gives (FromThermal g) i) (int_max ((reserve_at instance t -ℤ sym written.lacking.short i) -ℤ sum_below g (λ k. (cell_at new k t).r)) (pos 0)));
+        (written.cells g h).r
+        ∙ (λ i. int_min (head i -ℤ gives (FromThermal g) i) (int_max ((reserve_at instance t -ℤ sym written.short i) -ℤ sum_below g (λ k. (cell_at new k t).r)) (pos 0)));
   }
 
-  pub committed_still : AreCommitted instance patterns new
+  committed_still : AreCommitted instance patterns new
   committed_still = record {
     shape = shape;
     cells = λ g k hg hk. ⊎_elim
-        (λ (same : k ≡ t). subst (λ j. IsCommittedCell instance patterns g j (cell_at new g j)) (sym same)
-        (committed_cell instance patterns g t (cell_at old g t) (cell_at new g t) (written.powers.cells g hg).on (written.powers.cells g hg).category (committed.cells g t hg within)))
-        (λ other. subst (IsCommittedCell instance patterns g k) (sym (written.powers.others.cells g k other)) (committed.cells g k hg hk))
+        (λ (same : k ≡ t). subst (λ j. IsCommittedCell instance patterns g j (cell_at new g j)) (sym same) (filled_here.cells g hg))
+        (λ other. subst (IsCommittedCell instance patterns g k) (sym (written.others.cells g k other)) (below.committed.cells g k hg hk))
         (cases_eq k t);
   }
 
-  pub before_next : AreBefore instance new (suc t) after
-  before_next = record { are = λ g. gives (FromThermal g); sizes = dispatched.sizes }
-
--- the next period, after one was dispatched and written
-pub next_filled : (instance : Instance) (patterns : List Pattern) (t : ℕ) (old new : Printed) (was is : Room) (shortage : Shortage) → AreFilledBelow instance patterns t old was
-    → t < instance.periods → IsRoomOf instance is → HasPeriods instance instance.periods new
-    → IsDispatchedFrom (period_after instance patterns t (thermal_amount instance was.amounts.items)) shortage is.amounts.items is.heads.items
-    → IsWritten instance is.amounts.items is.heads.items shortage t old new → AreFilledBelow instance patterns (suc t) new is
-next_filled instance patterns t old new was is shortage below within room shape dispatched written = record {
-  committed = committed_still instance patterns t old new was.amounts.items is.amounts.items is.heads.items shortage shape room.amounts below.before below.committed within dispatched written;
-  filled = λ k h. ⊎_elim
-      (λ (early : k < t). filled_moved instance patterns k old new (same_but instance t k old new shortage written.powers.others written.lacking early) (below.filled k early))
-      (λ (late : t ≤ k). subst (IsFilled instance patterns new) (omega arith)
-      (filled_period instance patterns t old new was.amounts.items is.amounts.items is.heads.items shortage shape room.amounts below.before below.committed within dispatched written))
-      (cases_lt k t);
-  room = room;
-  before = before_next instance patterns t old new was.amounts.items is.amounts.items is.heads.items shortage shape room.amounts below.before below.committed within dispatched written;
-}
+  pub next_filled : AreFilledBelow instance patterns (suc t) new after
+  next_filled = record {
+    committed = committed_still;
+    filled = λ k h. ⊎_elim
+        (λ (early : k < t). filled_moved instance patterns t k old new same early (below.filled k early))
+        (λ (late : t ≤ k). subst (IsFilled instance patterns new) (omega (arith, h, late)) filled_here)
+        (cases_lt k t);
+    count = count;
+    before = record { are = λ g. gives (FromThermal g); sizes = dispatched.sizes };
+  }
+    where
+      same : AreSameBelow t old new
+      same = record {
+        cells = λ g j h. written.others.cells g j (omega (arith, h));
+        outputs = λ w j h. written.others.outputs w j (omega (arith, h));
+        shed = λ j h. written.others.shed j (omega (arith, h));
+        short = λ j h. written.others.short j (omega (arith, h));
+      }
 
 -- ---- the end
-pub through : (instance : Instance) (patterns : List Pattern) (printed : Printed) (room : Room) → AreFilledBelow instance patterns instance.periods printed room
-    → IsDispatchThrough instance patterns instance.periods printed
-through instance patterns printed room below = record { shape = below.committed.shape; filled = below.filled }
+-- all are filled
+pub dispatch_through : (instance : Instance) (patterns : List Pattern) (printed : Printed) (numbers : List ℤ) → IsRegular instance patterns
+    → AreFilledBelow instance patterns instance.periods printed numbers → IsDispatchOf instance patterns printed
+dispatch_through instance patterns printed numbers regular below = record { regular = regular; periods = record { shape = below.committed.shape; filled = below.filled } }
 
 -- what is in the way in period t, after those before it
-pub obstacle_of : (instance : Instance) (patterns : List Pattern) (t : ℕ) (printed : Printed) (room : Room) (reason : Why)
-    → AreFilledBelow instance patterns t printed room → t < instance.periods
-    → IsFirstObstacle (period_after instance patterns t (thermal_amount instance room.amounts.items)) reason
+pub obstacle_of : (instance : Instance) (patterns : List Pattern) (t : ℕ) (printed : Printed) (numbers : List ℤ) (reason : Why)
+    → AreFilledBelow instance patterns t printed numbers → t < instance.periods
+    → IsFirstObstacle (period_after instance patterns t (thermal_amount instance numbers)) reason
     → IsObstacleOf instance patterns printed (record { period = t; why = reason })
-obstacle_of instance patterns t printed room reason below within obstacle = record {
+obstacle_of instance patterns t printed numbers reason below within obstacle = record {
   within = within;
   filled = below.filled;
   first = subst (λ z. z) (λ i. IsFirstObstacle (period_after instance patterns t (λ g. below.before.are g i)) reason) obstacle;
@@ -209,7 +199,7 @@ stuck_period_is instance patterns printed obstacle stuck regular shape found is 
   within = within;
   prefix = subst (λ k. IsDispatchThrough instance patterns k stuck.prefix) (sym is.is_period) (record {
     shape = is.prefix.shape instance shape (omega (arith, found.within));
-    filled = λ k h. filled_moved instance patterns k printed stuck.prefix (same_below instance t k printed stuck.prefix is.prefix.same h) (found.filled k h);
+    filled = λ k h. filled_moved instance patterns t k printed stuck.prefix is.prefix.same h (found.filled k h);
   });
   obstacle = first;
   impossible = impossible (stuck_period instance patterns stuck) stuck.why within refl refl first;
@@ -221,12 +211,11 @@ stuck_period_is instance patterns printed obstacle stuck regular shape found is 
     within : stuck.period < instance.periods
     within = subst (λ k. k < instance.periods) (sym is.is_period) found.within
 
-    before : (g k : ℕ) → k ≡ t → output_before instance printed g k ≡ output_before instance stuck.prefix g k
-    before g zero e = refl
-    before g (suc k) e = ap (λ (c : Cell). c.p) (sym (is.prefix.same.cells g k (omega (arith, e))))
+    before : (g : ℕ) → output_before instance printed g t ≡ output_before instance stuck.prefix g t
+    before g = before_same instance printed stuck.prefix g t (λ k h. sym (is.prefix.same.cells g k h))
 
     same : period_after instance patterns t (λ g. output_before instance printed g t) ≡ stuck_period instance patterns stuck
-    same = (λ i. period_after instance patterns t (λ g. before g t refl i))
+    same = (λ i. period_after instance patterns t (λ g. before g i))
         ∙ (λ i. period_after instance patterns (sym is.is_period i) (λ g. output_before instance stuck.prefix g (sym is.is_period i)))
 
     first : IsFirstObstacle (stuck_period instance patterns stuck) stuck.why
@@ -256,11 +245,3 @@ stuck_by_rule instance patterns printed number unit stuck shape broken is =
       prefix = is.prefix.shape instance shape (omega arith);
       broken = broken;
     })
-
--- the size of what a unit gives initially
-pub initial_size : (unit : Thermal) → IsLawfulThermal unit → IsSizedOutput (initial_p unit)
-initial_size unit lawful = by unit.on0 (unit.p0 -ℤ unit.pmin) (grind (arith, ints, lawful.initial_output, lawful.minimum.power))
-  where
-    by : (b : Bool) (z : ℤ) → IsSizedOutput z → IsSizedOutput (bit b *ℤ z)
-    by true z h = subst IsSizedOutput (sym (one-mul z)) h
-    by false z h = subst IsSizedOutput (sym (zero-mul z)) (omega arith)

@@ -1,18 +1,16 @@
 -- The rows of cells, as a period is written into them.
-use Rattle.std.proofs.Common.{◌≡◌, ◌≢◌, ℕ, suc, ◌+◌, ◌*◌, ◌<◌, ◌≤◌, inl, inr, below_more, length, sym, ap, subst, ◌∙◌, arith, List, [], ℤ, pos, ◌+ℤ◌, ◌-ℤ◌, ◌≤ℤ◌, slice_set, unsigned_abs, get_or-set_same, get_or-set_other, length-set}
+use Rattle.std.proofs.Common.{◌≡◌, ℕ, suc, ◌+◌, ◌*◌, ◌<◌, ◌≤◌, length, sym, ap, subst, ◌∙◌, arith, List, [], ℤ, pos, ◌+ℤ◌, ◌-ℤ◌, ◌≤ℤ◌, slice_set, unsigned_abs}
 use Rattle.std.specs.Int.{int_min, int_max}
 use Rattle.std.proofs.lemmas.Int.{ints, clamps, to_z-of_z, fits_signed_from_abs}
-use Rattle.std.proofs.lemmas.Bool.{cases_eq}
 use mir.Syntax.{w64}
 use mir.Val.{SFits, to_z, of_z}
-use Rattle.uc_model.specs.Sums.{sum_below}
 use Rattle.uc_model.specs.declared.limits.TheConstants.{MAX_POWER, MAX_UNITS}
 use Rattle.uc_model.proofs.Ring.{linear}
 use Rattle.uc_model.proofs.CostBound.{within_of_abs, abs_of_within}
 use Rattle.uc_model.proofs.Sizes.{narrow}
-use Rattle.uc_model.proofs.Sums.{sum_below-same}
 use Rattle.dispatch_repair.specs.Amounts.{IsSizedOutput, IsSizedEnd, amount_at}
-use Rattle.dispatch_repair.specs.inside.Rows.{Cell, AreCellsWritten, HasPower, IsLeft, cell_of, reserve_of, row_at, with_power}
+use Rattle.dispatch_repair.specs.inside.Rows.{Cell, IsLeft, cell_of, cells_with, given, reserve_of, row_at, with_power}
+use Rattle.dispatch_repair.proofs.Listed.{IsListedTo, listed_more}
 
 -- ---- numbers that fit
 -- the most that is ever left to give
@@ -75,102 +73,32 @@ left_taken left output end is sized_output sized_end =
 
 -- ---- the rows so far
 -- the first n rows are written, and what is left is the need without their reserves
-pub record IsWrittenSoFar (amounts heads : List ℤ) (need : ℤ) (t n : ℕ) (old rows : List (List Cell)) (left : ℤ) : Type 0 where
-  pub cells : AreCellsWritten amounts heads need t n old rows
+pub record IsWrittenSoFar (amounts heads : List ℤ) (need : ℤ) (t n : ℕ) (old now : List (List Cell)) (left : ℤ) : Type 0 where
+  pub rows : IsListedTo [] (cells_with (amount_at amounts) (amount_at heads) need t old) n old now
   pub size : IsLeft n left
-  pub unmet : left ≡ need -ℤ sum_below n (λ g. (cell_of (row_at rows g) t).r)
-
-pub suc_is : (n : ℕ) → suc n ≡ n + 1
-suc_is n = omega arith
-
--- a fact at each place is one at place n and one at the others
-by_place : (P : ℕ → Type 0) (n : ℕ) → P n → ((g : ℕ) → g ≢ n → P g) → (g : ℕ) → P g
-by_place P n here others g = elim (cases_eq g n) [ inl same ↦ subst P (sym same) here | inr apart ↦ others g apart ]
+  pub unmet : left ≡ need -ℤ given (amount_at amounts) (amount_at heads) need n
 
 -- one more row is written
-module _ (amounts heads : List ℤ) (need : ℤ) (t n : ℕ) (old rows written : List (List Cell)) (left : ℤ)
-    (before : IsWrittenSoFar amounts heads need t n old rows left)
-    (inside : n < length rows) (period : t < length (row_at rows n))
-    (is : written ≡ slice_set rows n (slice_set (row_at rows n) t (with_power (cell_of (row_at rows n) t) (amount_at amounts n) (reserve_of (amount_at amounts n) (amount_at heads n) left))))
-  where
-    other : (g : ℕ) → g ≢ n → row_at written g ≡ row_at rows g
-    other g apart = ap (λ (xs : List (List Cell)). row_at xs g) is ∙ get_or-set_other rows n g _ [] apart
-
-    same : row_at written n ≡ slice_set (row_at rows n) t (with_power (cell_of (row_at rows n) t) (amount_at amounts n) (reserve_of (amount_at amounts n) (amount_at heads n) left))
-    same = ap (λ (xs : List (List Cell)). row_at xs n) is ∙ get_or-set_same rows n _ [] inside
-
-    same_cell : cell_of (row_at written n) t ≡ with_power (cell_of (row_at rows n) t) (amount_at amounts n) (reserve_of (amount_at amounts n) (amount_at heads n) left)
-    same_cell = ap (λ (row : List Cell). cell_of row t) same ∙ get_or-set_same (row_at rows n) t _ _ period
-
-    old_cell : cell_of (row_at rows n) t ≡ cell_of (row_at old n) t
-    old_cell = ap (λ (row : List Cell). cell_of row t) (before.cells.rest n (omega arith))
-
-    reserves_same : (g : ℕ) → g ≤ n → sum_below g (λ h. (cell_of (row_at written h) t).r) ≡ sum_below g (λ h. (cell_of (row_at rows h) t).r)
-    reserves_same g within =
-        sum_below-same g (λ h. (cell_of (row_at written h) t).r) (λ h. (cell_of (row_at rows h) t).r)
-        (λ h below. ap (λ (row : List Cell). (cell_of row t).r) (other h (omega arith)))
-
-    lengths : (g : ℕ) → length (row_at written g) ≡ length (row_at old g)
-    lengths =
-        by_place (λ g. length (row_at written g) ≡ length (row_at old g)) n
-        (ap length same ∙ length-set (row_at rows n) t _ ∙ before.cells.lengths n)
-        (λ g apart. ap length (other g apart) ∙ before.cells.lengths g)
-
-    others : (g k : ℕ) → k ≢ t → cell_of (row_at written g) k ≡ cell_of (row_at old g) k
-    others g k apart =
-        by_place (λ h. cell_of (row_at written h) k ≡ cell_of (row_at old h) k) n
-        (ap (λ (row : List Cell). cell_of row k) same ∙ get_or-set_other (row_at rows n) t k _ _ apart ∙ before.cells.others n k apart)
-        (λ h away. ap (λ (row : List Cell). cell_of row k) (other h away) ∙ before.cells.others h k apart) g
-
-    -- what a unit's cell is, by the rows that are there
-    abbrev Filled : List (List Cell) → ℕ → Type 0
-    Filled now g =
-        HasPower (cell_of (row_at old g) t) (cell_of (row_at now g) t) (amount_at amounts g)
-        (reserve_of (amount_at amounts g) (amount_at heads g) (need -ℤ sum_below g (λ h. (cell_of (row_at now h) t).r)))
-
-    next : Filled written n
-    next =
-        let reserve = ap (λ z. reserve_of (amount_at amounts n) (amount_at heads n) z)
-        (before.unmet ∙ ap (λ z. need -ℤ z) (sym (reserves_same n (omega arith)))) in
-        record {
-          on = ap (λ (cell : Cell). cell.on) (same_cell) ∙ ap (λ (cell : Cell). cell.on) old_cell;
-          category = ap (λ (cell : Cell). cell.category) same_cell ∙ ap (λ (cell : Cell). cell.category) old_cell;
-          p = ap (λ (cell : Cell). cell.p) same_cell;
-          r = ap (λ (cell : Cell). cell.r) same_cell ∙ reserve;
-        }
-
-    earlier : (g : ℕ) → g < n → Filled written g
-    earlier g below =
-        let was = before.cells.cells g below in
-        let cell : cell_of (row_at written g) t ≡ cell_of (row_at rows g) t = ap (λ (row : List Cell). cell_of row t) (other g (omega arith)) in
-        record {
-          on = ap (λ (c : Cell). c.on) cell ∙ was.on;
-          category = ap (λ (c : Cell). c.category) cell ∙ was.category;
-          p = ap (λ (c : Cell). c.p) cell ∙ was.p;
-          r = ap (λ (c : Cell). c.r) cell ∙ was.r
-              ∙ ap (λ z. reserve_of (amount_at amounts g) (amount_at heads g) (need -ℤ z)) (sym (reserves_same g (omega arith)));
-        }
-
-    written_cells : AreCellsWritten amounts heads need t (suc n) old written
-    written_cells = record {
-      count = ap length is ∙ length-set rows n _ ∙ before.cells.count;
-      lengths = lengths;
-      others = others;
-      rest = λ g above. other g (omega arith) ∙ before.cells.rest g (omega arith);
-      cells = λ g below. subst (λ m. (k : ℕ) → k < m → Filled written k) (sym (suc_is n)) (below_more (Filled written) n earlier next) g below;
+pub written_more : (amounts heads : List ℤ) (need : ℤ) (t n : ℕ) (old rows now : List (List Cell)) (left remaining : ℤ) → n < length rows
+    → IsSizedOutput (amount_at amounts n) → IsSizedEnd (amount_at heads n) → IsWrittenSoFar amounts heads need t n old rows left
+    → now ≡ slice_set rows n (slice_set (row_at rows n) t (with_power (cell_of (row_at rows n) t) (amount_at amounts n) (reserve_of (amount_at amounts n) (amount_at heads n) left)))
+    → remaining ≡ left -ℤ reserve_of (amount_at amounts n) (amount_at heads n) left → IsWrittenSoFar amounts heads need t (n + 1) old now remaining
+written_more amounts heads need t n old rows now left remaining inside sized_output sized_end was is is_remaining =
+    let row = was.rows.rest n (omega arith) in
+    let same = is ∙ (λ i. slice_set rows n (slice_set (row i) t (with_power (cell_of (row i) t) (amount_at amounts n)
+    (reserve_of (amount_at amounts n) (amount_at heads n) (was.unmet i))))) in
+    record {
+      rows = subst (IsListedTo [] (cells_with (amount_at amounts) (amount_at heads) need t old) (n + 1) old) (sym same)
+          (listed_more [] (cells_with (amount_at amounts) (amount_at heads) need t old) n old rows inside was.rows);
+      size = subst (λ k. IsLeft k remaining) (suc_is n)
+          (subst (IsLeft (suc n)) (sym is_remaining) (left_more n left (amount_at amounts n) (amount_at heads n) was.size sized_output sized_end));
+      unmet = subst (λ k. remaining ≡ need -ℤ given (amount_at amounts) (amount_at heads) need k) (suc_is n)
+          (is_remaining ∙ (λ i. was.unmet i -ℤ reserve_of (amount_at amounts n) (amount_at heads n) (was.unmet i))
+          ∙ taken need (given (amount_at amounts) (amount_at heads) need n) _);
     }
+  where
+    suc_is : (m : ℕ) → suc m ≡ m + 1
+    suc_is m = omega arith
 
-    pub written_more : (remaining : ℤ) → remaining ≡ left -ℤ reserve_of (amount_at amounts n) (amount_at heads n) left
-        → IsSizedOutput (amount_at amounts n) → IsSizedEnd (amount_at heads n)
-        → IsWrittenSoFar amounts heads need t (suc n) old written remaining
-    written_more remaining is_remaining sized_output sized_end =
-        let reserve : (cell_of (row_at written n) t).r ≡ reserve_of (amount_at amounts n) (amount_at heads n) left =
-        ap (λ (cell : Cell). cell.r) same_cell in
-        let sums = reserves_same n (omega arith) in
-        let unmet = before.unmet in
-        record {
-          cells = written_cells;
-          size = subst (IsLeft (suc n)) (sym is_remaining)
-              (left_more n left (amount_at amounts n) (amount_at heads n) before.size sized_output sized_end);
-          unmet = omega (arith, linear);
-        }
+    taken : (whole first more : ℤ) → (whole -ℤ first) -ℤ more ≡ whole -ℤ (first +ℤ more)
+    taken whole first more = omega (arith, linear)

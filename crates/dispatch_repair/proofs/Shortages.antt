@@ -1,6 +1,6 @@
 -- What a dispatch sheds and lacks: the rest can be filled, and each is within the limits of M16 and M17.
 -- Cite by `use Rattle.dispatch_repair.proofs.Shortages.{fillable, shed_part}`.
-use Rattle.std.proofs.Common.{◌≡◌, ℕ, ◌<◌, ◌≤◌, ◌⊎◌, inl, inr, ⊎_elim, true, false, refl, sym, ap, subst, ◌∙◌, arith, nat_lt, ◌==◌, ◌&&◌, List, ℤ, pos, ◌+ℤ◌, ◌-ℤ◌, ◌≤ℤ◌, ◌<ℤ◌}
+use Rattle.std.proofs.Common.{◌≡◌, ℕ, ◌<◌, ◌≤◌, ◌⊎◌, inl, inr, ⊎_elim, true, false, refl, sym, ap, subst, ◌∙◌, arith, nat_lt, ◌==◌, ◌&&◌, List, length, ℤ, pos, ◌+ℤ◌, ◌-ℤ◌, ◌≤ℤ◌, ◌<ℤ◌}
 use Rattle.std.specs.Int.{int_max}
 use Rattle.std.proofs.lemmas.Int.{ints}
 use Rattle.std.proofs.lemmas.Bool.{cond-true, cond-false, and_parts, cases_lt, eqb-true, false_from_ne_true, lt-ltb, ltb-true}
@@ -17,12 +17,13 @@ use Rattle.dispatch_repair.specs.Shortage.{reserve_room, served, unmet, lacking,
 use Rattle.dispatch_repair.specs.MeritOrder.{IsInMeritOrder}
 use Rattle.dispatch_repair.specs.Dispatch.{period_after, IsFilled}
 use Rattle.dispatch_repair.specs.Stuck.{HaveRanges, IsFree}
-use Rattle.dispatch_repair.specs.Amounts.{Range, AreRangesOf}
-use Rattle.dispatch_repair.specs.Filled.{Shortage, AreShortages, served_by}
-use Rattle.dispatch_repair.specs.Filling.{IsFillable}
-use Rattle.dispatch_repair.specs.Totals.{Totals, AreTotalsOf}
+use Rattle.dispatch_repair.specs.Amounts.{Range, AreHeadsOf, AreRangesOf}
+use Rattle.dispatch_repair.specs.Filled.{Shortage, AreShortages, IsDispatchedFrom, served_by}
+use Rattle.dispatch_repair.specs.Filling.{Left, Start, IsFillable, IsFilledTo, IsFirstLeft, IsStart}
+use Rattle.dispatch_repair.specs.Totals.{Totals, AreTotalsOf, IsSizedLeft}
+use Rattle.dispatch_repair.specs.Segments.{Segment, AreInMeritOrder}
 use Rattle.dispatch_repair.proofs.Filled.{filled_period, max_left, max_right}
-use Rattle.dispatch_repair.proofs.Merit.{high-le-head, good_renewable}
+use Rattle.dispatch_repair.proofs.Merit.{IsFilledUp, first_need, first_room, good_renewable, high-le-head, in_merit_order, width_size}
 
 -- ---- what demand and need have no part in
 low_same : (period : Period) (shed short : ℤ) (s : Source) → low_of (served period shed short) s ≡ low_of period s
@@ -68,7 +69,7 @@ kept_room : (need space : ℤ) → (need -ℤ lack need space) ≤ℤ space
 kept_room need space = grind (arith, ints)
 
 -- the parts of a greatest number
-max_le : (a b c : ℤ) → a ≤ℤ c → b ≤ℤ c → int_max a b ≤ℤ c
+pub max_le : (a b c : ℤ) → a ≤ℤ c → b ≤ℤ c → int_max a b ≤ℤ c
 max_le a b c h k = grind (arith, ints, h, k)
 
 max_low : (a b : ℤ) → a ≤ℤ b → int_max a b ≡ b
@@ -307,7 +308,7 @@ module _ (period : Period) where
 
 -- ---- a filled period
 -- what merit order meets can be filled
-merit_fillable : (period : Period) (amount : Source → ℤ) → IsInMeritOrder period amount → IsFillable period
+pub merit_fillable : (period : Period) (amount : Source → ℤ) → IsInMeritOrder period amount → IsFillable period
 merit_fillable period amount merit = record {
   ranges = λ g hg. le_trans _ _ _ (merit.low (FromThermal g) hg) (merit.high (FromThermal g) hg);
   least = omega (arith, linear, thermal_least, renewable_least, merit.demand);
@@ -363,3 +364,44 @@ kept_size instance patterns t before shortage lawful within are well =
     subst (λ z. IsPower (reserve_at instance t -ℤ z)) (sym are.short)
     (power_left (reserve_at instance t) (short_of period)
     (All-get_or IsPower instance.reserves t (pos 0) (subst (λ n. t < n) (sym lawful.reserves_length) within) lawful.reserves) part.low part.high)
+
+-- ---- from an obstacle's absence to a dispatch
+-- what a period without an obstacle is filled from
+pub started : (period : Period) (start : Start) → IsLawfulInstance period.instance → period.t < period.instance.periods → IsFree period
+    → AreShortages period start.shortage → IsFirstLeft (served_by period start.shortage) start.left → IsSizedLeft start.left.need → IsSizedLeft start.left.room
+    → IsStart period start
+started period start lawful within free are first need room =
+    let kept = served_by period start.shortage in
+    let well : IsFillable kept = subst (λ z. z) (λ i. IsFillable (served period (sym are.shed i) (sym are.short i))) (fillable period lawful within free.balance.ranges free) in
+    record {
+      shortages = are;
+      fillable = well;
+      first = first;
+      sizes = record { need = first_need kept start.left well first; room = first_room kept start.left well first; need_size = need; room_size = room };
+    }
+
+-- a period that is filled from that is dispatched
+pub dispatched_from : (instance : Instance) (patterns : List Pattern) (t : ℕ) (before : ℕ → ℤ) (order : List Segment) (ranges : List Range) (start : Start)
+    (amounts numbers : List ℤ) (rest : Left) → IsLawfulInstance instance → t < instance.periods → AreInMeritOrder instance order
+    → AreRangesOf (period_after instance patterns t before) ranges → AreHeadsOf (period_after instance patterns t before) numbers
+    → IsStart (period_after instance patterns t before) start → IsFilledTo instance order ranges start.left (length order) amounts rest
+    → IsDispatchedFrom (period_after instance patterns t before) start.shortage amounts numbers
+dispatched_from instance patterns t before order ranges start amounts numbers rest lawful within merit are tops is filled =
+    let period = period_after instance patterns t before in
+    let kept = served_by period start.shortage in
+    let all : IsFilledUp kept order ranges start.left amounts rest = record {
+      lawful = lawful;
+      within = within;
+      order = merit;
+      ranges = ranges_served period start.shortage.shed start.shortage.short ranges are;
+      free = is.fillable;
+      first = is.first;
+      filled = filled;
+    } in
+    record {
+      shortages = is.shortages;
+      merit = in_merit_order kept order ranges start.left amounts rest all;
+      heads = tops;
+      sizes = width_size kept order ranges start.left amounts rest all;
+      kept = kept_size instance patterns t before start.shortage lawful within is.shortages is.fillable;
+    }

@@ -1,15 +1,19 @@
--- The slopes of a source beside an output: they are there, and they rise.
-use Rattle.std.proofs.Common.{◌-◌, arith, refl, sym, subst, List, length, ℤ, pos, ◌+ℤ◌, ◌*ℤ◌, ◌≤ℤ◌, ◌<ℤ◌}
+-- The slopes of a source beside an output: they are there, have a width, and rise.
+use Rattle.std.proofs.Common.{ℕ, ◌-◌, arith, refl, sym, subst, List, length, ℤ, pos, ◌+ℤ◌, ◌-ℤ◌, ◌*ℤ◌, ◌≤ℤ◌, ◌<ℤ◌}
 use Rattle.uc_model.specs.Points.{output_of}
 use Rattle.uc_model.specs.Hull.{rise, run}
+use Rattle.uc_model.specs.Schedule.{thermal_unit}
 use Rattle.uc_model.specs.declared.instance.Point.{Point}
 use Rattle.uc_model.proofs.Ring.{linear}
 use Rattle.uc_model.proofs.HullSegments.{pair_there, is_segment}
 use Rattle.cost_curves.specs.LeastCost.{IsLeftSlope, IsRightSlope}
 use Rattle.cost_curves.specs.LowerHull.{AreLawfulPoints, width_of}
-use Rattle.cost_curves.specs.declared.slope.Slope.{Slope}
 use Rattle.cost_curves.proofs.HullValues.{slope_right}
-use Rattle.cost_curves.proofs.Slopes.{slopes_rise}
+use Rattle.cost_curves.proofs.Lines.{flatter_trans}
+use Rattle.cost_curves.proofs.Slopes.{slope_run, slopes_rise}
+use Rattle.dispatch_repair.specs.Period.{Instance, Source, FromRenewable, FromThermal}
+use Rattle.dispatch_repair.specs.MeritOrder.{Slope, HasLastSlope, HasNextSlope}
+use Rattle.dispatch_repair.specs.Segments.{IsAtMost, source_at}
 
 pub left-there : (points : List Point) (p : ℤ) → AreLawfulPoints points → pos 0 <ℤ p → p ≤ℤ width_of points → (slope : Slope) × IsLeftSlope points p slope
 left-there points p lawful low high =
@@ -44,3 +48,29 @@ right-le-left points p q right left less a b =
     let begins : output_of points a.left <ℤ output_of points b.right = omega (arith, linear, less, a.begins, b.reaches) in
     let rises = slopes_rise points b.left b.right a.left a.right b.segment.right_within a.segment.left_within b.segment.segment a.segment.segment begins in
     subst (λ z. z) (λ i. (sym a.segment.rise i *ℤ sym b.segment.run i) ≤ℤ (sym b.segment.rise i *ℤ sym a.segment.run i)) rises
+
+-- ---- a source's slopes
+-- its next watt has a slope over a width
+pub source_run : (instance : Instance) (s : Source) (watt : ℤ) (slope : Slope) → HasNextSlope instance s watt slope → pos 0 <ℤ slope.run
+source_run instance (FromRenewable w) watt slope h = h.1
+source_run instance (FromThermal g) watt slope h = slope_run (thermal_unit instance g).points slope h.left h.right h.segment
+
+pub next_run : (instance : Instance) (n : ℕ) (watt : ℤ) (slope : Slope) → HasNextSlope instance (source_at instance n) watt slope → pos 0 <ℤ slope.run
+next_run instance n = source_run instance (source_at instance n)
+
+-- its last watt is the next one of a watt less
+pub next_of : (instance : Instance) (s : Source) (amount : ℤ) (slope : Slope) → HasLastSlope instance s amount slope → HasNextSlope instance s (amount -ℤ pos 1) slope
+next_of instance (FromRenewable w) amount slope h = h
+next_of instance (FromThermal g) amount slope h = record {
+  left = h.left;
+  right = h.right;
+  segment = h.segment;
+  begins = omega (arith, linear, h.begins);
+  reaches = omega (arith, linear, h.reaches);
+}
+
+-- ---- slopes one after another
+pub at_most_trans : (x y z : Slope) → pos 0 <ℤ x.run → pos 0 <ℤ y.run → pos 0 <ℤ z.run → IsAtMost x y → IsAtMost y z → IsAtMost x z
+at_most_trans x y z hx hy hz h g =
+    (flatter_trans x.run x.rise y.run y.rise z.run z.rise (omega (arith, linear, hx)) hy (omega (arith, linear, hz))
+    (record { products = h }) (record { products = g })).products

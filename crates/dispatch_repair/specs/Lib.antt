@@ -9,7 +9,6 @@ pub mod Totals
 pub mod Filled
 pub mod Filling
 pub mod Rooms
-pub mod Progress
 pub mod inside
 pub mod MostOn
 pub mod OneDispatch

@@ -120,7 +120,12 @@ pub fn is_empty(range: &Range) -> bool
 }
 
 /// The first obstacle on the whole system in a period of this demand and need of reserve, in watts, where no range is empty.
-pub fn imbalance(instance: &Instance, totals: &Totals, demand: &i64, need: &i64) -> Option<Why>
+pub(crate) fn imbalance(
+    instance: &Instance,
+    totals: &Totals,
+    demand: &i64,
+    need: &i64,
+) -> Option<Why>
     requires sizes { AreSizedTotals totals.now }
     requires demand { IsPower demand.now }
     requires need { IsPower need.now }

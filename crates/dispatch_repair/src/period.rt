@@ -7,7 +7,7 @@ ghost use Rattle.uc_model.specs.Limits.{IsLawfulInstance, IsPower};
 ghost use Rattle.uc_model.specs.Schedule.{thermal_count, thermal_unit};
 ghost use Rattle.dispatch_repair.specs.Dispatch.{period_after};
 ghost use Rattle.dispatch_repair.specs.Period.{Period, demand_of, need_of};
-ghost use Rattle.dispatch_repair.specs.Stuck.{IsFirstObstacle};
+ghost use Rattle.dispatch_repair.specs.Stuck.{HaveRanges, IsFirstObstacle};
 ghost use Rattle.dispatch_repair.specs.Rooms.{IsRoomOf};
 ghost use Rattle.dispatch_repair.specs.Amounts.{AreBeforePeriod, AreHeadsOf, AreRangesOf, AreSizedHeads, AreSizedRanges, amount_at, next_period, range_at, thermal_amount};
 ghost use Rattle.dispatch_repair.specs.Filled.{AreShortages, IsDispatchedFrom, served_by};
@@ -89,7 +89,8 @@ pub(crate) fn dispatch_period(
     }
 }
 
-/// The same after these amounts of all sources, in watts by their places, which become those of this period.
+/// Dispatches period t, from 0, after these amounts of all sources, in watts by their places, which become those of this
+/// period. Answers what is missing, in watts; the error is the first reason why the period can't be filled.
 pub fn dispatch_after(
     room: &mut Room,
     instance: &Instance,
@@ -141,14 +142,33 @@ fn begin_period(
     let totals = totals(instance, patterns, t, &room.ranges, &room.heads);
     let demand = &instance.demand.as_slice()[t];
     let need = &instance.reserves.as_slice()[t];
-    match imbalance(instance, &totals, demand, need) {
+    start_from(instance, &totals, demand, need)
+}
+
+/// What a period of this demand and need of reserve, in watts, is filled from, by the sums over its sources, where no range is empty;
+/// the error is the first obstacle on the whole system.
+pub fn start_from(
+    instance: &Instance,
+    totals: &Totals,
+    demand: &i64,
+    need: &i64,
+) -> Result<Start, Why>
+    requires lawful { IsLawfulInstance instance.now }
+    requires sizes { AreSizedTotals totals.now }
+    requires demand { IsPower demand.now }
+    requires need { IsPower need.now }
+    ensures { (period : Period) → period.instance ≡ instance.now → period.t < period.instance.periods
+        → HaveRanges period (thermal_count period.instance) → AreTotalsOf period totals.now → demand.now ≡ demand_of period
+        → need.now ≡ need_of period → MatchResult result (IsStart period) (IsFirstObstacle period) }
+{
+    match imbalance(instance, totals, demand, need) {
         Some(why) => Err(why),
-        None => Ok(start_of(instance, &totals, demand, need)),
+        None => Ok(start_of(instance, totals, demand, need)),
     }
 }
 
-/// What is missing of this demand and need of reserve, in watts, and what is left to give of the rest.
-pub fn start_of(instance: &Instance, totals: &Totals, demand: &i64, need: &i64) -> Start
+// What is missing of this demand and need of reserve, in watts, and what is left to give of the rest.
+fn start_of(instance: &Instance, totals: &Totals, demand: &i64, need: &i64) -> Start
     requires sizes { AreSizedTotals totals.now }
     requires demand { IsPower demand.now }
     requires need { IsPower need.now }

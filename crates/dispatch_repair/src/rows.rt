@@ -1,12 +1,12 @@
 //! The rows of a schedule while it is dispatched.
 
 ghost use Rattle.std.specs.Prelude.{◌≡◌, ℕ, ◌<◌, ◌≤◌, ◌-ℤ◌, All, IfOk, length, map, slice_set, take};
-ghost use Rattle.uc_model.specs.Schedule.{reserve_at, thermal_count};
+ghost use Rattle.uc_model.specs.Schedule.{renewable_count, reserve_at, thermal_count};
 ghost use Rattle.uc_model.specs.Limits.{IsLawfulInstance, IsPower};
 ghost use Rattle.dispatch_repair.specs.Dispatch.{Instance, Pattern, HasPeriods};
 ghost use Rattle.dispatch_repair.specs.Rooms.{ArePowerless, AreRowsOf, AreSameBelow, IsNewCell, IsRoomOf, printed_of, rows_of};
 ghost use Rattle.dispatch_repair.specs.Amounts.{IsSizedEnd, IsSizedOutput, amount_at, thermal_amount};
-ghost use Rattle.dispatch_repair.specs.inside.Rows.{AreCellsWritten, AreCommittedRows, AreOutputsWritten, IsCommittedRow, IsLeft, IsPowered, IsWritten, cell_of, reserve_of, row_at, with_power};
+ghost use Rattle.dispatch_repair.specs.inside.Rows.{AreCommittedRows, IsCommittedRow, IsLeft, cell_of, cells_with, list_of, outputs_with, reserve_of, row_at, with_power, written};
 
 use crate::room::Room;
 use crate::shortage::Shortage;
@@ -127,8 +127,7 @@ pub(crate) fn write_period(
     requires units { IsLawfulInstance instance.now }
     requires amounts { (g : ℕ) → g < thermal_count instance.now → IsSizedOutput (thermal_amount instance.now room.now.amounts.items g) }
     requires heads { (g : ℕ) → g < thermal_count instance.now → IsSizedEnd (amount_at room.now.heads.items g) }
-    ensures shape { HasPeriods instance.now instance.now.periods (printed_of rows.new) }
-    ensures written { IsWritten instance.now room.now.amounts.items room.now.heads.items shortage.now t (printed_of rows.old) (printed_of rows.new) }
+    ensures { printed_of rows.new ≡ written instance.now room.now.amounts.items room.now.heads.items shortage.now t (printed_of rows.old) }
 {
     let kept = without(instance.reserves.as_slice()[t], shortage.short);
     write_powers(instance, rows, room, kept, t);
@@ -162,8 +161,10 @@ fn write_powers(instance: &Instance, rows: &mut Rows, room: &Room, need: i64, t:
     requires units { IsLawfulInstance instance.now }
     requires amounts { (g : ℕ) → g < thermal_count instance.now → IsSizedOutput (thermal_amount instance.now room.now.amounts.items g) }
     requires heads { (g : ℕ) → g < thermal_count instance.now → IsSizedEnd (amount_at room.now.heads.items g) }
-    ensures shape { HasPeriods instance.now instance.now.periods (printed_of rows.new) }
-    ensures powered { IsPowered instance.now room.now.amounts.items room.now.heads.items need t (printed_of rows.old) (printed_of rows.new) }
+    ensures thermal { rows_of rows.new.thermal.items ≡ list_of (thermal_count instance.now)
+        (cells_with (thermal_amount instance.now room.now.amounts.items) (amount_at room.now.heads.items) need t (rows_of rows.old.thermal.items)) }
+    ensures renewable { rows_of rows.new.renewable.items ≡ list_of (renewable_count instance.now)
+        (outputs_with (amount_at room.now.amounts.items) t (rows_of rows.old.renewable.items)) }
     ensures shed { rows.new.shed ≡ rows.old.shed }
     ensures short { rows.new.short ≡ rows.old.short }
 {
@@ -183,7 +184,7 @@ fn write_powers(instance: &Instance, rows: &mut Rows, room: &Room, need: i64, t:
 fn write_outputs(rows: &mut Vec<Vec<i64>>, amounts: &[i64], t: usize)
     requires units { length amounts.now ≡ length rows.old.items }
     requires period { (w : ℕ) → w < length rows.old.items → t < length (row_at (rows_of rows.old.items) w) }
-    ensures { AreOutputsWritten amounts.now t (length rows.old.items) (rows_of rows.old.items) (rows_of rows.new.items) }
+    ensures { rows_of rows.new.items ≡ list_of (length rows.old.items) (outputs_with (amount_at amounts.now) t (rows_of rows.old.items)) }
 {
     for w in 0..amounts.len() {
         set_at(rows, w, t, &amounts[w]);
@@ -199,7 +200,8 @@ fn write_cells(rows: &mut Vec<Vec<Cell>>, amounts: &[i64], heads: &[i64], need: 
     requires need { IsPower need }
     requires outputs { (g : ℕ) → g < length rows.old.items → IsSizedOutput (amount_at amounts.now g) }
     requires ends { (g : ℕ) → g < length rows.old.items → IsSizedEnd (amount_at heads.now g) }
-    ensures { AreCellsWritten amounts.now heads.now need t (length rows.old.items) (rows_of rows.old.items) (rows_of rows.new.items) }
+    ensures { rows_of rows.new.items ≡ list_of (length rows.old.items)
+        (cells_with (amount_at amounts.now) (amount_at heads.now) need t (rows_of rows.old.items)) }
 {
     let mut left = need;
     for g in 0..amounts.len() {

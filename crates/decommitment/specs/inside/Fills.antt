@@ -5,12 +5,12 @@ use Rattle.uc_model.specs.Commitment.{Commitment}
 use Rattle.uc_model.specs.Schedule.{renewable_count, thermal_count, thermal_unit}
 use Rattle.uc_model.specs.Sums.{bit, sum_below}
 use Rattle.dispatch_repair.specs.Amounts.{AreBeforePeriod, AreHeadsOf, IsSizedEnd, amount_at, next_period, thermal_amount}
-use Rattle.dispatch_repair.specs.Filled.{AreShortages, IsDispatchedFrom, served_by}
-use Rattle.dispatch_repair.specs.Filling.{IsFirstLeft}
+use Rattle.dispatch_repair.specs.Filled.{IsDispatchedFrom}
+use Rattle.dispatch_repair.specs.Filling.{IsStart}
 use Rattle.dispatch_repair.specs.Period.{Instance, Pattern, Period, FromRenewable, FromThermal, head, highest, lowest, low_of, high_of, renewable_sum}
 use Rattle.dispatch_repair.specs.Segments.{source_count}
-use Rattle.dispatch_repair.specs.Stuck.{HaveRanges, IsFirstObstacle, IsFree}
-use Rattle.dispatch_repair.specs.Totals.{MAX_POWER, MAX_UNITS, AreTotalsOf, IsSizedLeft, IsSum}
+use Rattle.dispatch_repair.specs.Stuck.{HaveRanges, IsFirstObstacle}
+use Rattle.dispatch_repair.specs.Totals.{MAX_POWER, MAX_UNITS, AreTotalsOf, IsSum}
 use Rattle.dispatch_repair.specs.declared.fill.Left.{Left}
 use Rattle.dispatch_repair.specs.declared.segment.Segment.{Segment}
 use Rattle.dispatch_repair.specs.declared.obstacle.Totals.{Totals}
@@ -143,14 +143,17 @@ pub record HasEntered (instance : Instance) (order : List Segment) (patterns : L
   pub count : length fill.amounts.items ≡ source_count instance
   pub ready : IsReady (next_period instance patterns t before) order fill
 
--- what became of it
+-- what became of a period
+abbrev pub IsFillingOf : Instance → List Segment → List Pattern → ℕ → List ℤ → Fill → Filling → Type 0
+IsFillingOf instance order patterns t before fill filling.Filled = IsFill instance order patterns t before fill
+IsFillingOf instance order patterns t before fill (filling.Barred why) = IsFirstObstacle (next_period instance patterns t before) why
+IsFillingOf instance order patterns t before fill (filling.Uneven why) =
+    IsFirstObstacle (next_period instance patterns t before) why × HasEntered instance order patterns t before fill
+IsFillingOf instance order patterns t before fill filling.Bound = Unit {0}
+
 abbrev pub ComesTo : System → Hour → Fill → Filling → Type 0
-ComesTo system hour fill filling.Filled = IsFill system.instance.now system.merit.now.order.items hour.patterns.now hour.t hour.before.now fill
-ComesTo system hour fill (filling.Barred why) = IsFirstObstacle (hour_period system hour) why
-ComesTo system hour fill (filling.Uneven why) =
-    IsFirstObstacle (hour_period system hour) why
-    × HasEntered system.instance.now system.merit.now.order.items hour.patterns.now hour.t hour.before.now fill
-ComesTo system hour fill filling.Bound = Unit {0}
+ComesTo system hour fill result =
+    IsFillingOf system.instance.now system.merit.now.order.items hour.patterns.now hour.t hour.before.now fill result
 
 -- ---- from nothing
 -- no source gives anything
@@ -233,13 +236,9 @@ pub record IsCopy (base fill : Fill) : Type 0 where
   pub totals : fill.totals ≡ base.totals
 
 -- ---- demand
--- nothing is in the way, this is missing, and so much is left to give of the rest
-pub record IsStarted (period : Period) (shortage : Shortage) (left : Left) : Type 0 where
-  pub free : IsFree period
-  pub shortages : AreShortages period shortage
-  pub first : IsFirstLeft (served_by period shortage) left
-  pub need_size : IsSizedLeft left.need
-  pub room_size : IsSizedLeft left.room
+-- this is missing, and so much is left to give of the rest
+abbrev pub IsStarted : Period → Shortage → Left → Type 0
+IsStarted period shortage left = IsStart period (record { shortage = shortage; left = left })
 
 -- all give what they are to, and the thermal units no more than they may
 pub record IsMet (target : Target) (given : Given) : Type 0 where

@@ -22,7 +22,6 @@ use Rattle.decommitment.specs.inside.Levels.{IsMeritOf}
 use Rattle.decommitment.specs.inside.Turns.{AreAllowed, KeepsStuck, ending_of_stand, ending_of_trial}
 pub use Rattle.decommitment.specs.declared.fill.Fill.{Fill}
 pub use Rattle.decommitment.specs.declared.fill.Filling.{Filling}
-use Rattle.decommitment.specs.declared.fill.Filling.TheVariants as filling
 pub use Rattle.decommitment.specs.declared.pass.Pass.{Pass}
 pub use Rattle.decommitment.specs.declared.price.Changed.{Changed}
 pub use Rattle.decommitment.specs.declared.run.Reach.{Reach}
@@ -80,14 +79,6 @@ pub record IsBarred (instance : Instance) (patterns : List Pattern) (start : Lis
   pub within : t < instance.periods
   pub why : Why
   pub first : IsFirstObstacle (next_period instance patterns t (outputs_before start fills t)) why
-
--- what became of a period
-abbrev pub IsFillingOf : Instance → List Segment → List Pattern → ℕ → List ℤ → Fill → Filling → Type 0
-IsFillingOf instance order patterns t before fill filling.Filled = IsFill instance order patterns t before fill
-IsFillingOf instance order patterns t before fill (filling.Barred why) = IsFirstObstacle (next_period instance patterns t before) why
-IsFillingOf instance order patterns t before fill (filling.Uneven why) =
-    IsFirstObstacle (next_period instance patterns t before) why × HasEntered instance order patterns t before fill
-IsFillingOf instance order patterns t before fill filling.Bound = Unit {0}
 
 -- how far a run came
 abbrev pub IsReach : Instance → List Pattern → List ℤ → List Fill → Reach → Type 0

@@ -1,5 +1,6 @@
 -- The rows of a commitment as they are made, and what the writing of a period does to them. This project's own.
-use Rattle.std.specs.Prelude.{◌≡◌, ◌≢◌, ℕ, ◌+◌, ◌*◌, ◌<◌, ◌≤◌, false, List, [], ℤ, pos, ◌+ℤ◌, ◌-ℤ◌, ◌≤ℤ◌, length, slice_index_or, slice_set}
+use Rattle.std.specs.Prelude.{◌≡◌, ◌≢◌, ℕ, zero, suc, ◌+◌, ◌*◌, ◌<◌, ◌≤◌, false, List, [], ℤ, pos, ◌+ℤ◌, ◌-ℤ◌, ◌≤ℤ◌, length, map, slice_index_or, slice_set}
+use Rattle.std.specs.List.{range_with_len}
 use Rattle.std.specs.Int.{int_min, int_max}
 use Rattle.uc_model.specs.Sums.{sum_below}
 use Rattle.uc_model.specs.Schedule.{thermal_count, renewable_count, reserve_at}
@@ -33,6 +34,8 @@ pub record AreCommittedRows (instance : Instance) (patterns : List Pattern) (n :
 pub record AreSameBut (t : ℕ) (old new : Printed) : Type 0 where
   pub cells : (g k : ℕ) → k ≢ t → cell_at new g k ≡ cell_at old g k
   pub outputs : (w k : ℕ) → k ≢ t → output_at new w k ≡ output_at old w k
+  pub shed : (k : ℕ) → k ≢ t → shed_at new k ≡ shed_at old k
+  pub short : (k : ℕ) → k ≢ t → short_at new k ≡ short_at old k
 
 -- a cell keeps its state and category, and gives this output and reserve
 pub record HasPower (old new : Cell) (output spare : ℤ) : Type 0 where
@@ -54,36 +57,39 @@ pub record IsLeft (n : ℕ) (left : ℤ) : Type 0 where
   pub low : pos 0 ≤ℤ (left +ℤ pos MAX_POWER)
   pub high : left ≤ℤ pos (MAX_POWER + n * (5 * MAX_POWER))
 
--- the first n rows of cells were written in period t, with what was left of the need for each
-pub record AreCellsWritten (amounts heads : List ℤ) (need : ℤ) (t n : ℕ) (old new : List (List Cell)) : Type 0 where
-  pub count : length new ≡ length old
-  pub lengths : (g : ℕ) → length (row_at new g) ≡ length (row_at old g)
-  pub others : (g k : ℕ) → k ≢ t → cell_of (row_at new g) k ≡ cell_of (row_at old g) k
-  pub rest : (g : ℕ) → n ≤ g → row_at new g ≡ row_at old g
-  pub cells : (g : ℕ) → g < n → HasPower (cell_of (row_at old g) t) (cell_of (row_at new g) t) (amount_at amounts g)
-      (reserve_of (amount_at amounts g) (amount_at heads g) (need -ℤ sum_below g (λ h. (cell_of (row_at new h) t).r)))
+-- a list by what stands at each place
+abbrev pub list_of : {X : Type 0} → ℕ → (ℕ → X) → List X
+list_of n f = map f (range_with_len 0 n)
 
--- the first n rows of outputs were written in period t
-pub record AreOutputsWritten (amounts : List ℤ) (t n : ℕ) (old new : List (List ℤ)) : Type 0 where
-  pub count : length new ≡ length old
-  pub rest : (w : ℕ) → n ≤ w → row_at new w ≡ row_at old w
-  pub outputs : (w : ℕ) → w < n → row_at new w ≡ slice_set (row_at old w) t (amount_at amounts w)
+-- the reserve that the first n units give of a need, in their order, each up to its head
+abbrev pub given : (ℕ → ℤ) → (ℕ → ℤ) → ℤ → ℕ → ℤ
+given output head need zero = pos 0
+given output head need (suc n) = given output head need n +ℤ reserve_of (output n) (head n) (need -ℤ given output head need n)
 
--- the powers of period t were written: these amounts, and reserve in the order of the file up to what is to be kept
-pub record IsPowered (instance : Instance) (amounts heads : List ℤ) (need : ℤ) (t : ℕ) (old new : Printed) : Type 0 where
+-- unit g's row with its output and reserve in period t, and renewable unit w's with its output
+abbrev pub cells_with : (ℕ → ℤ) → (ℕ → ℤ) → ℤ → ℕ → List (List Cell) → ℕ → List Cell
+cells_with output head need t rows g =
+    slice_set (row_at rows g) t (with_power (cell_of (row_at rows g) t) (output g) (reserve_of (output g) (head g) (need -ℤ given output head need g)))
+
+abbrev pub outputs_with : (ℕ → ℤ) → ℕ → List (List ℤ) → ℕ → List ℤ
+outputs_with output t rows w = slice_set (row_at rows w) t (output w)
+
+-- the schedule with period t: these amounts, reserve in the order of the file up to what is to be kept, and what is missing
+abbrev pub written : Instance → List ℤ → List ℤ → Shortage → ℕ → Printed → Printed
+written instance amounts heads shortage t old = record {
+  thermal = list_of (thermal_count instance)
+      (cells_with (thermal_amount instance amounts) (amount_at heads) (reserve_at instance t -ℤ shortage.short) t old.thermal);
+  renewable = list_of (renewable_count instance) (outputs_with (amount_at amounts) t old.renewable);
+  shed = slice_set old.shed t shortage.shed;
+  short = slice_set old.short t shortage.short;
+  denominator = 1;
+}
+
+-- what is so of a schedule with period t
+pub record IsWritten (instance : Instance) (amounts heads : List ℤ) (shortage : Shortage) (t : ℕ) (old new : Printed) : Type 0 where
   pub others : AreSameBut t old new
   pub outputs : (w : ℕ) → w < renewable_count instance → output_at new w t ≡ amount_at amounts w
   pub cells : (g : ℕ) → g < thermal_count instance → HasPower (cell_at old g t) (cell_at new g t) (thermal_amount instance amounts g)
-      (int_min (amount_at heads g -ℤ thermal_amount instance amounts g) (int_max (need -ℤ sum_below g (λ h. (cell_at new h t).r)) (pos 0)))
-
--- what is missing in period t was written, and in the others it is the same
-pub record IsLacking (shortage : Shortage) (t : ℕ) (old new : Printed) : Type 0 where
+      (reserve_of (thermal_amount instance amounts g) (amount_at heads g) ((reserve_at instance t -ℤ shortage.short) -ℤ sum_below g (λ h. (cell_at new h t).r)))
   pub shed : shed_at new t ≡ shortage.shed
   pub short : short_at new t ≡ shortage.short
-  pub other_shed : (k : ℕ) → k ≢ t → shed_at new k ≡ shed_at old k
-  pub other_short : (k : ℕ) → k ≢ t → short_at new k ≡ short_at old k
-
--- period t was written, both
-pub record IsWritten (instance : Instance) (amounts heads : List ℤ) (shortage : Shortage) (t : ℕ) (old new : Printed) : Type 0 where
-  pub powers : IsPowered instance amounts heads (reserve_at instance t -ℤ shortage.short) t old new
-  pub lacking : IsLacking shortage t old new

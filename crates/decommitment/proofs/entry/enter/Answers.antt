@@ -10,7 +10,7 @@ use Rattle.dispatch_repair.specs.Rooms.{rows_of}
 use Rattle.dispatch_repair.specs.Segments.{source_count}
 use Rattle.decommitment.specs.inside.Fills.{IsSizedAmount, hour_period, part_at}
 use Rattle.decommitment.specs.inside.Levels.{IsLeastAt}
-use Rattle.decommitment.proofs.Parts.{entered, high_is, least_sized, low_is, part_read}
+use Rattle.decommitment.proofs.Entries.{entered, high_is, least_sized, low_is, part_read}
 use Rattle.decommitment.proofs.Places.{places_of}
 use Rattle.decommitment.proofs.Steps.{amount_kept}
 use Rattle.decommitment.proofs.entry.enter.Goals as goal

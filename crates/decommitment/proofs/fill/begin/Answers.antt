@@ -3,7 +3,7 @@ use Rattle.std.proofs.Common.{◌*◌, arith, refl}
 use Rattle.uc_model.proofs.Sizes.{narrow}
 use Rattle.dispatch_repair.specs.Totals.{MAX_POWER, MAX_UNITS}
 use Rattle.decommitment.specs.inside.Fills.{hour_period}
-use Rattle.decommitment.proofs.Begun.{begun_all}
+use Rattle.decommitment.proofs.Entries.{begun_all}
 use Rattle.decommitment.proofs.fill.begin.Goals as goal
 
 pub returns : goal.returns

@@ -5,7 +5,7 @@ use Rattle.uc_model.proofs.Sizes.{narrow}
 use Rattle.dispatch_repair.specs.Amounts.{MAX_POWER}
 use Rattle.dispatch_repair.proofs.Filled.{max_right}
 use Rattle.decommitment.specs.inside.Fills.{IsBegunTo, IsSizedAmount, hour_period}
-use Rattle.decommitment.proofs.Begun.{begun_more}
+use Rattle.decommitment.proofs.Entries.{begun_more}
 use Rattle.decommitment.proofs.Steps.{amount_kept}
 use Rattle.decommitment.proofs.fill.begin_free.Goals as goal
 

@@ -2,7 +2,7 @@
 use Rattle.std.proofs.Common.{◌≡◌, ◌∙◌, arith, length, refl, sym, subst, ap}
 use Rattle.std.proofs.lemmas.List.{with_items_is}
 use Rattle.decommitment.specs.inside.Fills.{AreGiven}
-use Rattle.decommitment.proofs.Begun.{cleared}
+use Rattle.decommitment.proofs.Entries.{cleared}
 use Rattle.decommitment.proofs.fill.clear.Goals as goal
 
 pub returns : goal.returns

@@ -3,11 +3,11 @@ use Rattle.std.proofs.Common.{arith, sym, subst}
 use Rattle.std.proofs.lemmas.List.{with_items_is}
 use Rattle.dispatch_repair.specs.Dispatch.{period_after}
 use Rattle.dispatch_repair.specs.Amounts.{AreRangesOf, thermal_amount}
-use Rattle.dispatch_repair.specs.Filled.{IsDispatchedFrom, served_by}
+use Rattle.dispatch_repair.specs.Filled.{IsDispatchedFrom}
 use Rattle.dispatch_repair.specs.Filling.{IsStart}
 use Rattle.dispatch_repair.specs.Segments.{AreInMeritOrder}
-use Rattle.dispatch_repair.proofs.Merit.{IsFilledUp, open_ranges, in_merit_order, width_size}
-use Rattle.dispatch_repair.proofs.Shortages.{ranges_served, kept_size}
+use Rattle.dispatch_repair.proofs.Merit.{open_ranges}
+use Rattle.dispatch_repair.proofs.Shortages.{dispatched_from}
 use Rattle.dispatch_repair.proofs.period.dispatch_period.Goals as goal
 
 pub returns-in-Err-clause-dispatched : goal.returns-in-Err-clause-dispatched
@@ -35,23 +35,8 @@ returns-in-Ok-clause-dispatched c =
     let start : IsStart period c.in-Ok.start = c.in-Ok.ensures before c.set_ranges.ensures.ranges c.set_ranges.ensures.heads in
     let shortage = c.in-Ok.start.shortage in
     let is = with_items_is c.set_ranges.new.room.amounts c.fill_from_lows.new.amounts (omega (arith, c.fill_from_lows.ensures.length, c.deref_mut.ensures.len)) in
-    let all : IsFilledUp (served_by period shortage) c.deref.result.now c.deref-in-Ok.result.now c.in-Ok.start.left c.fill_from_lows.new.amounts c.fill_from_lows.result = record {
-      lawful = c.requires.before.lawful;
-      within = c.requires.before.period;
-      order = subst (AreInMeritOrder c.args.instance.now) (sym c.deref.ensures.value) c.set_ranges.ensures.room.order;
-      ranges = ranges_served period shortage.shed shortage.short c.deref-in-Ok.result.now
-          (subst (AreRangesOf period) (sym c.deref-in-Ok.ensures.value) c.set_ranges.ensures.ranges);
-      free = start.fillable;
-      first = start.first;
-      filled = c.fill_from_lows.ensures.filled;
-    } in
-    let merit = in_merit_order (served_by period shortage) c.deref.result.now c.deref-in-Ok.result.now c.in-Ok.start.left c.fill_from_lows.new.amounts c.fill_from_lows.result all in
-    let sizes = width_size (served_by period shortage) c.deref.result.now c.deref-in-Ok.result.now c.in-Ok.start.left c.fill_from_lows.new.amounts c.fill_from_lows.result all in
     subst (λ amounts. IsDispatchedFrom period shortage amounts c.set_ranges.new.room.heads.items) (sym is)
-    (record {
-      shortages = start.shortages;
-      merit = merit;
-      heads = c.set_ranges.ensures.heads;
-      sizes = sizes;
-      kept = kept_size c.args.instance.now c.args.patterns.now c.args.t before shortage c.requires.before.lawful c.requires.before.period start.shortages start.fillable;
-    })
+    (dispatched_from c.args.instance.now c.args.patterns.now c.args.t before c.deref.result.now c.deref-in-Ok.result.now c.in-Ok.start c.fill_from_lows.new.amounts
+    c.set_ranges.new.room.heads.items c.fill_from_lows.result c.requires.before.lawful c.requires.before.period
+    (subst (AreInMeritOrder c.args.instance.now) (sym c.deref.ensures.value) c.set_ranges.ensures.room.order)
+    (subst (AreRangesOf period) (sym c.deref-in-Ok.ensures.value) c.set_ranges.ensures.ranges) c.set_ranges.ensures.heads start c.fill_from_lows.ensures.filled)

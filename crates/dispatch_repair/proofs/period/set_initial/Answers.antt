@@ -4,7 +4,7 @@ use Rattle.std.proofs.lemmas.Int.{to_z-of_z}
 use Rattle.uc_model.specs.Commitment.{initial_p}
 use Rattle.uc_model.specs.Schedule.{renewable_count, thermal_count, thermal_unit}
 use Rattle.dispatch_repair.specs.Amounts.{thermal_amount}
-use Rattle.dispatch_repair.proofs.Written.{below_set_after}
+use Rattle.dispatch_repair.proofs.Listed.{below_set_after}
 use Rattle.dispatch_repair.proofs.period.set_initial.Goals as goal
 
 pub loop-g-preserved : goal.loop-g-preserved

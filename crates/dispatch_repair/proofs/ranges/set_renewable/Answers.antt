@@ -4,7 +4,7 @@ use Rattle.uc_model.specs.Schedule.{renewable_count}
 use Rattle.dispatch_repair.specs.Dispatch.{period_after}
 use Rattle.dispatch_repair.specs.Amounts.{IsRangeOf}
 use Rattle.dispatch_repair.proofs.Places.{renewable_range}
-use Rattle.dispatch_repair.proofs.Written.{below_set}
+use Rattle.dispatch_repair.proofs.Listed.{below_set}
 use Rattle.dispatch_repair.proofs.ranges.set_renewable.Goals as goal
 
 pub loop-w-preserved : goal.loop-w-preserved

@@ -5,7 +5,7 @@ use Rattle.uc_model.specs.Schedule.{renewable_count, thermal_count}
 use Rattle.uc_model.proofs.Sizes.{narrow}
 use Rattle.dispatch_repair.specs.Dispatch.{period_after}
 use Rattle.dispatch_repair.specs.Amounts.{IsHeadOf, IsRangeOf, amount_at, thermal_amount, range_at}
-use Rattle.dispatch_repair.proofs.Written.{below_set, below_set_after, set_after}
+use Rattle.dispatch_repair.proofs.Listed.{below_set, below_set_after, set_after}
 use Rattle.dispatch_repair.proofs.ranges.set_thermal.Goals as goal
 
 pub loop-g-preserved : goal.loop-g-preserved

@@ -1,12 +1,19 @@
 -- One more row is written.
-use Rattle.std.proofs.Common.{suc, ◌+◌, ◌*◌, ◌<◌, ◌≡◌, ◌-ℤ◌, length, arith, sym, subst, ◌∙◌, ℤ, slice_set, w64, to_z, of_z}
+use Rattle.std.proofs.Common.{[], ◌+◌, ◌*◌, ◌<◌, ◌≡◌, ◌-ℤ◌, length, arith, sym, subst, ◌∙◌, ℤ, slice_set, w64, to_z, of_z}
 use Rattle.std.proofs.lemmas.List.{length-map}
 use Rattle.uc_model.proofs.Sizes.{narrow}
 use Rattle.dispatch_repair.specs.Amounts.{MAX_POWER, amount_at}
 use Rattle.dispatch_repair.specs.Rooms.{rows_of}
-use Rattle.dispatch_repair.specs.inside.Rows.{cell_of, reserve_of, row_at, with_power}
-use Rattle.dispatch_repair.proofs.RowsWritten.{IsWrittenSoFar, written_more, left_kept, suc_is}
+use Rattle.dispatch_repair.specs.inside.Rows.{cell_of, cells_with, list_of, reserve_of, row_at, with_power}
+use Rattle.dispatch_repair.proofs.Listed.{listed_all}
+use Rattle.dispatch_repair.proofs.RowsWritten.{IsWrittenSoFar, written_more, left_kept}
 use Rattle.dispatch_repair.proofs.rows.write_cells.Goals as goal
+
+pub write_cell-requires-clause-period : goal.write_cell-requires-clause-period
+write_cell-requires-clause-period c =
+    let before = c.loop-g.invariant in
+    let unit : c.loop-g.g < length c.args.rows.now.items = subst (λ k. c.loop-g.g < k) c.requires.units c.loop-g-test.true in
+    subst (λ row. c.args.t < length row) (sym (before.rows.rest c.loop-g.g (omega arith))) (c.requires.period c.loop-g.g unit)
 
 pub loop-g-preserved : goal.loop-g-preserved
 loop-g-preserved c =
@@ -21,8 +28,7 @@ loop-g-preserved c =
     let left = c.write_cell.new.left in
     let before = c.loop-g.invariant in
     let unit : g < length c.args.rows.now.items = subst (λ k. g < k) c.requires.units c.loop-g-test.true in
-    let inside : g < length rows = subst (λ k. g < k) (sym (before.cells.count ∙ length-map c.args.rows.now.items _)) unit in
-    let period : t < length (row_at rows g) = subst (λ k. t < k) (sym (before.cells.lengths g)) (c.requires.period g unit) in
+    let inside : g < length rows = subst (λ k. g < k) (sym (before.rows.count ∙ length-map c.args.rows.now.items _)) unit in
     let amount = narrow (amount_at amounts g) (2 * MAX_POWER) (c.requires.outputs g unit) (omega arith) in
     let head = narrow (amount_at heads g) (3 * MAX_POWER) (c.requires.ends g unit) (omega arith) in
     let was = to_z w64 c.loop-g.left-bits in
@@ -32,8 +38,16 @@ loop-g-preserved c =
     ∙ (λ i. slice_set rows g (slice_set (row_at rows g) t (with_power (cell_of (row_at rows g) t) (amount i) (reserve_of (amount i) (head i) was)))) in
     let rest : left ≡ was -ℤ reserve_of (amount_at amounts g) (amount_at heads g) was =
     c.write_cell.ensures.left ∙ (λ i. was -ℤ reserve_of (amount i) (head i) was) in
-    let more : IsWrittenSoFar amounts heads need t (suc g) old written left =
-    written_more amounts heads need t g old rows written _ before inside period cell left rest (c.requires.outputs g unit) (c.requires.ends g unit) in
-    subst (λ (z : ℤ). IsWrittenSoFar amounts heads need t (g + 1) old written z)
-    (sym (left_kept (suc g) left (omega (arith, unit, c.requires.few)) more.size))
-    (subst (λ k. IsWrittenSoFar amounts heads need t k old written left) (suc_is g) more)
+    let more : IsWrittenSoFar amounts heads need t (g + 1) old written left =
+    written_more amounts heads need t g old rows written _ left inside (c.requires.outputs g unit) (c.requires.ends g unit) before cell rest in
+    subst (IsWrittenSoFar amounts heads need t (g + 1) old written) (sym (left_kept (g + 1) left (omega (arith, unit, c.requires.few)) more.size)) more
+
+pub returns : goal.returns
+returns c =
+    let old = rows_of c.args.rows.now.items in
+    let row = cells_with (amount_at c.args.amounts.now) (amount_at c.args.heads.now) (to_z w64 (of_z w64 c.args.need)) c.args.t old in
+    let count : length c.args.rows.now.items ≡ length old = sym (length-map c.args.rows.now.items _) in
+    let whole : c.loop-g.g ≡ length c.args.rows.now.items = omega (arith, c.loop-g-test.false, c.loop-g.auto.g-end, c.requires.units) in
+    let need = narrow c.args.need MAX_POWER c.requires.need (omega arith) in
+    subst (λ n. rows_of c.loop-g.rows.items ≡ list_of n row) whole (listed_all [] row c.loop-g.g old (rows_of c.loop-g.rows.items) (whole ∙ count) c.loop-g.invariant.rows)
+    ∙ (λ i. list_of (length c.args.rows.now.items) (cells_with (amount_at c.args.amounts.now) (amount_at c.args.heads.now) (need i) c.args.t old))

@@ -1,19 +1,20 @@
 -- A period more is filled, or the dispatch is stuck in it.
-use Rattle.std.proofs.Common.{arith, sym, subst}
+use Rattle.std.proofs.Common.{arith, suc, subst, sym}
 use Rattle.dispatch_repair.specs.Rooms.{printed_of}
-use Rattle.dispatch_repair.specs.Amounts.{IsSizedOutput}
-use Rattle.dispatch_repair.specs.Progress.{AreFilledBelow}
-use Rattle.dispatch_repair.proofs.Periods.{begun, initial_size, next_filled, obstacle_of, through}
+use Rattle.dispatch_repair.proofs.Periods.{AreFilledBelow, begun, dispatch_through, next_filled, obstacle_of}
+use Rattle.dispatch_repair.proofs.Writing.{written_is, written_shape}
 use Rattle.dispatch_repair.proofs.schedule.dispatch_rows.Goals as goal
 
 pub loop-t-init : goal.loop-t-init
-loop-t-init c =
-    begun c.args.instance.now c.args.patterns.now (printed_of c.args.rows.now) c.begin.new.room c.requires.rows c.begin.ensures.room c.begin.ensures.initial
-    (λ g h. subst IsSizedOutput (sym (c.begin.ensures.initial g h)) (initial_size _ (c.requires.lawful.thermal g h)))
+loop-t-init c = record {
+  room = c.begin.ensures.room;
+  filled = begun c.args.instance.now c.args.patterns.now (printed_of c.args.rows.now) c.begin.new.room.amounts.items c.requires.lawful c.requires.rows
+      c.begin.ensures.room.amounts c.begin.ensures.initial;
+}
 
 pub returns-in-Err-clause-dispatch : goal.returns-in-Err-clause-dispatch
 returns-in-Err-clause-dispatch c =
-    obstacle_of c.args.instance.now c.args.patterns.now c.loop-t.t (printed_of c.loop-t.rows) c.loop-t.room c.in-Err.why c.loop-t.invariant
+    obstacle_of c.args.instance.now c.args.patterns.now c.loop-t.t (printed_of c.loop-t.rows) c.loop-t.room.amounts.items c.in-Err.why c.loop-t.invariant.filled
     c.loop-t-test.true c.in-Err.ensures.dispatched
 
 pub dispatch_period-requires-clause-before : goal.dispatch_period-requires-clause-before
@@ -22,19 +23,27 @@ dispatch_period-requires-clause-before c = record {
   pattern_count = c.requires.patterns;
   period = c.loop-t-test.true;
   count = c.loop-t.invariant.room.amounts;
-  sizes = c.loop-t.invariant.before.sizes;
+  sizes = c.loop-t.invariant.filled.before.sizes;
 }
 
 pub loop-t-preserved : goal.loop-t-preserved
 loop-t-preserved c =
-    subst (λ k. AreFilledBelow c.args.instance.now c.args.patterns.now k (printed_of c.write_period.new.rows) c.dispatch_period.new.room) (omega arith)
-    (next_filled c.args.instance.now c.args.patterns.now c.loop-t.t (printed_of c.loop-t.rows) (printed_of c.write_period.new.rows) c.loop-t.room c.dispatch_period.new.room
-    c.in-Ok.shortage c.loop-t.invariant c.loop-t-test.true c.dispatch_period.ensures.room c.write_period.ensures.shape c.in-Ok.ensures.dispatched c.write_period.ensures.written)
+    let instance = c.args.instance.now in
+    let old = printed_of c.loop-t.rows in
+    let room = c.dispatch_period.new.room in
+    let before = c.loop-t.invariant.filled in
+    record {
+      room = c.dispatch_period.ensures.room;
+      filled = subst (λ k. AreFilledBelow instance c.args.patterns.now k (printed_of c.write_period.new.rows) room.amounts.items) (omega arith)
+          (subst (λ new. AreFilledBelow instance c.args.patterns.now (suc c.loop-t.t) new room.amounts.items) (sym c.write_period.ensures)
+          (next_filled instance c.args.patterns.now c.loop-t.t old _ c.loop-t.room.amounts.items room.amounts.items room.heads.items c.in-Ok.shortage
+          (written_shape instance room.amounts.items room.heads.items c.in-Ok.shortage c.loop-t.t old before.committed.shape c.loop-t-test.true)
+          c.dispatch_period.ensures.room.amounts before c.loop-t-test.true c.in-Ok.ensures.dispatched
+          (written_is instance room.amounts.items room.heads.items c.in-Ok.shortage c.loop-t.t old before.committed.shape c.loop-t-test.true)));
+    }
 
 pub returns-clause-dispatch : goal.returns-clause-dispatch
-returns-clause-dispatch c = record {
-  regular = c.requires.regular;
-  periods = through c.args.instance.now c.args.patterns.now (printed_of c.loop-t.rows) c.loop-t.room
-      (subst (λ k. AreFilledBelow c.args.instance.now c.args.patterns.now k (printed_of c.loop-t.rows) c.loop-t.room)
-      (omega (arith, c.loop-t-test.false, c.loop-t.auto.t-end)) c.loop-t.invariant);
-}
+returns-clause-dispatch c =
+    dispatch_through c.args.instance.now c.args.patterns.now (printed_of c.loop-t.rows) c.loop-t.room.amounts.items c.requires.regular
+    (subst (λ k. AreFilledBelow c.args.instance.now c.args.patterns.now k (printed_of c.loop-t.rows) c.loop-t.room.amounts.items)
+    (omega (arith, c.loop-t-test.false, c.loop-t.auto.t-end)) c.loop-t.invariant.filled)
