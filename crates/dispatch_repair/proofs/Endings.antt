@@ -1,12 +1,10 @@
 -- Each commitment that keeps the rules on commitments is dispatched, or stuck.
-use Rattle.std.proofs.Common.{◌≡◌, ◌≢◌, ℕ, zero, suc, ◌+◌, ◌*◌, ◌-◌, ◌<◌, ◌≤◌, ◌⊎◌, inl, inr, refl, sym, ap, subst, ◌∙◌, arith, List, length, ℤ, pos, ◌-ℤ◌, ◌≤ℤ◌, unsigned_abs}
+use Rattle.std.proofs.Common.{◌≡◌, ℕ, zero, suc, ◌+◌, ◌*◌, ◌-◌, ◌<◌, ◌≤◌, ◌⊎◌, inl, inr, refl, sym, ap, subst, ◌∙◌, arith, List, length, ℤ, pos, ◌-ℤ◌, ◌≤ℤ◌, unsigned_abs}
 use Rattle.std.specs.Int.{int_max}
 use Rattle.std.proofs.lemmas.Int.{ints}
-use Rattle.std.proofs.lemmas.Bool.{cases_lt}
 use Rattle.std.proofs.lemmas.List.Elements.{All-get_or}
 use Rattle.uc_model.specs.Commitment.{initial_p}
 use Rattle.uc_model.specs.Limits.{IsLawfulInstance, IsPower}
-use Rattle.uc_model.specs.PrintedSchedule.{cell_at, shed_at, short_at}
 use Rattle.uc_model.specs.Schedule.{thermal_unit, thermal_count, renewable_count, demand_at}
 use Rattle.uc_model.specs.Sums.{sum_below}
 use Rattle.uc_model.proofs.CostBound.{within_of_abs}
@@ -14,10 +12,9 @@ use Rattle.uc_model.proofs.Ring.{linear, pos-mul, pos-le-pos}
 use Rattle.uc_model.proofs.Sums.{sum_below-const, sum_below-le}
 use Rattle.dispatch_repair.specs.Period.{Instance, Pattern, Printed, Period, low_of, head_of, heads, total_output, demand_of, need_of, thermal_limit, thermal_sum}
 use Rattle.dispatch_repair.specs.Shortage.{served, shed_of, short_of}
-use Rattle.dispatch_repair.specs.Dispatch.{IsFilled, period_after}
-use Rattle.dispatch_repair.specs.Rooms.{AreCommitted, IsObstacleOf}
+use Rattle.dispatch_repair.specs.Dispatch.{period_after}
 use Rattle.dispatch_repair.specs.Segments.{Segment, AreInMeritOrder, source_count}
-use Rattle.dispatch_repair.specs.Stuck.{Stuck, Why, IsDispatchOf, IsFirstObstacle, IsFree, IsRegular, IsStuckOf}
+use Rattle.dispatch_repair.specs.Stuck.{Stuck, IsDispatchOf, IsFree, IsRegular, IsStuckOf}
 use Rattle.dispatch_repair.specs.Amounts.{IsSizedOutput, amount_at, thermal_amount}
 use Rattle.dispatch_repair.specs.Filled.{Shortage, IsDispatchedFrom}
 use Rattle.dispatch_repair.specs.Filling.{Start, IsFirstLeft, IsStart}

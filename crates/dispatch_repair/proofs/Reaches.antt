@@ -13,7 +13,7 @@ use Rattle.dispatch_repair.specs.Amounts.{MAX_POWER, Range, AreHeadsOf, AreRange
 use Rattle.dispatch_repair.specs.Segments.{source_at, source_count}
 use Rattle.dispatch_repair.proofs.CurveSegments.{renewable_at, thermal_at}
 use Rattle.dispatch_repair.specs.inside.Rows.{list_of}
-use Rattle.dispatch_repair.proofs.Listed.{listed, listed_length}
+use Rattle.dispatch_repair.proofs.Listed.{listed}
 use Rattle.dispatch_repair.proofs.Places.{renewable_range, thermal_range, ranges_from}
 
 -- ---- sizes

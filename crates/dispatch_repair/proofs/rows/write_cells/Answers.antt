@@ -1,5 +1,5 @@
 -- One more row is written.
-use Rattle.std.proofs.Common.{[], ◌+◌, ◌*◌, ◌<◌, ◌≡◌, ◌-ℤ◌, length, arith, sym, subst, ◌∙◌, ℤ, slice_set, w64, to_z, of_z}
+use Rattle.std.proofs.Common.{[], ◌+◌, ◌*◌, ◌<◌, ◌≡◌, ◌-ℤ◌, length, arith, sym, subst, ◌∙◌, slice_set, w64, to_z, of_z}
 use Rattle.std.proofs.lemmas.List.{length-map}
 use Rattle.uc_model.proofs.Sizes.{narrow}
 use Rattle.dispatch_repair.specs.Amounts.{MAX_POWER, amount_at}

@@ -1,5 +1,5 @@
 -- One more row is written.
-use Rattle.std.proofs.Common.{◌≡◌, ◌<◌, ◌+◌, [], ap, arith, length, slice_set, subst, sym, ◌∙◌}
+use Rattle.std.proofs.Common.{◌≡◌, ◌<◌, ◌+◌, [], arith, length, slice_set, subst, sym, ◌∙◌}
 use Rattle.std.proofs.lemmas.List.{length-map}
 use Rattle.dispatch_repair.specs.Amounts.{amount_at}
 use Rattle.dispatch_repair.specs.Rooms.{rows_of}

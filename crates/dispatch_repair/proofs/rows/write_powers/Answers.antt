@@ -1,5 +1,5 @@
 -- The thermal units' amounts are behind the renewable ones', and the need is the one that is passed on.
-use Rattle.std.proofs.Common.{◌≡◌, ℕ, ◌+◌, ◌-◌, ◌<◌, ◌≤◌, [], List, ap, arith, drop, get_or-drop, get_or-take, length, pos, slice_set, sym, take, ◌∙◌}
+use Rattle.std.proofs.Common.{◌≡◌, ◌+◌, ◌-◌, [], ap, arith, drop, get_or-drop, get_or-take, length, pos, slice_set, sym, take, ◌∙◌}
 use Rattle.std.proofs.lemmas.List.{length-drop, length-map, take_all}
 use Rattle.uc_model.specs.Schedule.{renewable_count, thermal_count}
 use Rattle.uc_model.specs.declared.limits.TheConstants.{MAX_POWER}
