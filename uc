@@ -21,7 +21,7 @@ weights='uc_model 72 dual_model 48 outside 66 outside_system 132 decimal_json 14
   quick_value 258 pivot_run 144 fractions 20 dispatch_program 16 dispatch_rules 28 dispatch_prices 74
   dispatch_table 240 dispatch_schedule 86 pivot_dispatch 56 found_schedule 24 decided_nodes 44 pivot_closing 24 opening_tables 60
   uplift 144 bundle 168 prices 216 repair_state 192 schedule_repair 228 roll 114
-  branch_tree 78 incumbent 42 steal_pool 96 search_core 84 claims 42 book 150 decommitment 270 opening 138
+  branch_tree 78 incumbent 42 steal_pool 96 search_machine 84 claims 42 book 150 decommitment 270 opening 138
   search_desk 110 node_visits 110 closing_pass 100 tree_search 300 search_answers 90 workers 130
   schedule_check 126 state_walk 126 leaf_values 114 cert_check 126 demo_gen 48 command_line 222 command_runs 48 uc_check 69
   uc_uplift 69 uc_cli 126 uc 210'

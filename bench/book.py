@@ -13,7 +13,7 @@ import tempfile
 
 import unproved
 
-LIBRARIES = "book branch_tree demo_gen dual_model search_core uc_model".split()
+LIBRARIES = "book branch_tree demo_gen dual_model search_machine uc_model".split()
 
 PROGRAM = """#![tactic(auto)]
 
@@ -21,7 +21,7 @@ use book::{Book, Claimed};
 use branch_tree::Outcome;
 use demo_gen::instance;
 use dual_model::{Fixing, Node, Table};
-use search_core::Move;
+use search_machine::Move;
 use std::alloc::Global;
 use std::io;
 use std::marker::Brand;

@@ -18,21 +18,21 @@ use Rattle.branch_tree.specs.TrueFound.{IsTrueEntry, AreApart, IsTrueLog}
 use Rattle.branch_tree.specs.declared.found.Entry.{Entry}
 use Rattle.branch_tree.specs.declared.found.Outcome.{Outcome}
 use Rattle.branch_tree.specs.declared.tree.Leaf.TheVariants as leaf
-use Rattle.search_core.specs.Machine.{Machine, IsHeldIn, IsLive, IsOpen, IsHolding, no_desk, spot_stored, stored_at}
-use Rattle.search_core.specs.declared.holder.Holder.{Holder}
-use Rattle.search_core.specs.declared.stored.Stored.{Stored}
+use Rattle.search_machine.specs.Machine.{Machine, IsHeldIn, IsLive, IsOpen, IsHolding, no_desk, spot_stored, stored_at}
+use Rattle.search_machine.specs.declared.holder.Holder.{Holder}
+use Rattle.search_machine.specs.declared.stored.Stored.{Stored}
 use Rattle.std.specs.Option.{IfSome}
 use Rattle.branch_tree.specs.declared.tree.Spot.TheVariants as spot
-use Rattle.search_core.specs.Moves.{kept, children_by, tickets_of, IsMoveLegal}
-use Rattle.search_core.specs.declared.event.Move.{Move}
-use Rattle.search_core.specs.declared.event.Move.TheVariants.{Again, Prune}
-use Rattle.search_core.specs.declared.event.Event.TheVariants as event
-use Rattle.search_core.specs.Orderly.{IsOrderly}
-use Rattle.search_core.specs.Runs.{IsTrueOutcome, IsTrueEvent, IsTrueStart, TreeHoldsAt, TreeRunsHold}
-use Rattle.search_core.specs.Steps.{AnyCost, IsLegalBy}
-use Rattle.search_core.proofs.Claims.{IsHoldable, holdable, holder_place, one_held}
-use Rattle.search_core.proofs.Growth.{tree_grows, leaf_part, holds_of_leaf}
-use Rattle.search_core.proofs.OrderlySteps.{free_for, sound_of}
+use Rattle.search_machine.specs.Moves.{kept, children_by, tickets_of, IsMoveLegal}
+use Rattle.search_machine.specs.declared.event.Move.{Move}
+use Rattle.search_machine.specs.declared.event.Move.TheVariants.{Again, Prune}
+use Rattle.search_machine.specs.declared.event.Event.TheVariants as event
+use Rattle.search_machine.specs.Orderly.{IsOrderly}
+use Rattle.search_machine.specs.Runs.{IsTrueOutcome, IsTrueEvent, IsTrueStart, TreeHoldsAt, TreeRunsHold}
+use Rattle.search_machine.specs.Steps.{AnyCost, IsLegalBy}
+use Rattle.search_machine.proofs.Claims.{IsHoldable, holdable, holder_place, one_held}
+use Rattle.search_machine.proofs.Growth.{tree_grows, leaf_part, holds_of_leaf}
+use Rattle.search_machine.proofs.OrderlySteps.{free_for, sound_of}
 use Rattle.book.specs.BookView.{BookView, state_of, opened}
 use Rattle.book.specs.Calls.{claimed, committed, given_back, MayBe}
 use Rattle.book.specs.Claims.{Claim, Status, Held, Committed, GivenBack, holder_by, holders, claim_of, ended}

@@ -4,20 +4,20 @@ use Rattle.std.proofs.Common.{◌≡◌, ◌≢◌, ℕ, suc, ◌-◌, ◌<◌, 
 use Rattle.std.proofs.lemmas.List.{map-append, length-map, nil_from_length}
 use Rattle.std.proofs.lemmas.List.Elements.{All-map}
 use Rattle.branch_tree.specs.TreeView.{HasFreeCell}
-use Rattle.search_core.specs.Machine.{Machine, holder_in, holder_of, IsHolding, entries_of}
+use Rattle.search_machine.specs.Machine.{Machine, holder_in, holder_of, IsHolding, entries_of}
 use Rattle.branch_tree.specs.declared.found.Entry.{Entry}
 use Rattle.dual_model.specs.declared.table.Table.{Table}
-use Rattle.search_core.specs.declared.holder.Holder.{Holder}
-use Rattle.search_core.specs.declared.desk.Desk.{Desk}
-use Rattle.search_core.specs.Moves.{IsMoveLegal, tickets_of}
-use Rattle.search_core.specs.declared.event.Move.TheVariants.{Again, Prune}
-use Rattle.search_core.specs.declared.event.Move.{Move}
+use Rattle.search_machine.specs.declared.holder.Holder.{Holder}
+use Rattle.search_machine.specs.declared.desk.Desk.{Desk}
+use Rattle.search_machine.specs.Moves.{IsMoveLegal, tickets_of}
+use Rattle.search_machine.specs.declared.event.Move.TheVariants.{Again, Prune}
+use Rattle.search_machine.specs.declared.event.Move.{Move}
 use Rattle.branch_tree.specs.declared.found.Outcome.{Outcome}
-use Rattle.search_core.specs.Runs.{IsTrueEvent}
+use Rattle.search_machine.specs.Runs.{IsTrueEvent}
 use Rattle.uc_model.specs.declared.instance.Instance.{Instance}
-use Rattle.search_core.specs.Steps.{AnyCost, IsLegalBy, committed, committed_by, after, with_desk, with_tickets}
-use Rattle.search_core.specs.declared.event.Event.TheVariants as event
-use Rattle.search_core.proofs.Claims.{one_held}
+use Rattle.search_machine.specs.Steps.{AnyCost, IsLegalBy, committed, committed_by, after, with_desk, with_tickets}
+use Rattle.search_machine.specs.declared.event.Event.TheVariants as event
+use Rattle.search_machine.proofs.Claims.{one_held}
 use Rattle.book.specs.Replay.{with_unit}
 
 -- the state with other claims and desks, and with its log's units renamed

@@ -5,9 +5,9 @@ use Rattle.std.proofs.lemmas.List.{map-append, map-set, length-map}
 use Rattle.std.proofs.lemmas.List.Elements.{All-head, All-tail, filter-append}
 use Rattle.std.proofs.lemmas.Option.{slice_get-map, get_or_from_slice_get, slice_get_within}
 use Rattle.branch_tree.proofs.Changes.{from_some, get-append}
-use Rattle.search_core.specs.Machine.{holder_in, IsHeldIn}
-use Rattle.search_core.specs.declared.holder.Holder.{Holder}
-use Rattle.search_core.proofs.Claims.{holder_place}
+use Rattle.search_machine.specs.Machine.{holder_in, IsHeldIn}
+use Rattle.search_machine.specs.declared.holder.Holder.{Holder}
+use Rattle.search_machine.proofs.Claims.{holder_place}
 use Rattle.book.specs.BookView.{Entry}
 use Rattle.book.specs.Claims.{Claim, Status, Held, Committed, GivenBack, holder_by, holder_of, holders, IsHeldBy, stays, kept_claims, are_kept, unit_anew, no_claim, claim_of, ended, move_by, move_of}
 use Rattle.book.specs.Running.{IsMarked}

@@ -4,8 +4,8 @@ use Rattle.std.proofs.Math.Seq.{take-length, drop-length, take-add}
 use Rattle.std.proofs.lemmas.Bool.{cases_Bool}
 use Rattle.std.proofs.lemmas.List.{take-append-drop, take-append-le, drop-append-le, take-map, drop-map, drop-drop, length-drop, map-append}
 use Rattle.std.proofs.lemmas.List.Sums.{sum_by-append, sum_by-cons, sum_by-take-drop}
-use Rattle.search_core.specs.declared.event.Event.{Event}
-use Rattle.search_core.specs.declared.event.Event.TheVariants as event
+use Rattle.search_machine.specs.declared.event.Event.{Event}
+use Rattle.search_machine.specs.declared.event.Event.TheVariants as event
 use Rattle.book.specs.Claims.{Claim, Status, stays, kept_claims, IsRising}
 use Rattle.book.specs.Replay.{claim_event, woven}
 

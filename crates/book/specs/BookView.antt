@@ -5,10 +5,10 @@ use Rattle.uc_model.specs.Schedule.{thermal_count}
 use Rattle.branch_tree.specs.NumberedTree.{EndAt}
 use Rattle.branch_tree.specs.TreeView.{TreeView}
 use Rattle.branch_tree.specs.declared.tree.Leaf.TheVariants as leaf
-pub use Rattle.search_core.specs.Machine.{Machine}
+pub use Rattle.search_machine.specs.Machine.{Machine}
 pub use Rattle.branch_tree.specs.declared.found.Entry.{Entry}
 pub use Rattle.dual_model.specs.declared.table.Table.{Table}
-use Rattle.search_core.specs.Machine.{no_desk, room_for}
+use Rattle.search_machine.specs.Machine.{no_desk, room_for}
 use Rattle.book.specs.Claims.{Claim, holders}
 use Rattle.book.specs.Opening.{Opening}
 

@@ -1,10 +1,10 @@
 -- What a book keeps of its claims: of each unit its worker and its node, how many entries the log had at the claim, and how the
 -- claim stands. This project's own form. Units count from 1, places in the list from 0.
 use Rattle.std.specs.Prelude.{◌≡◌, ℕ, zero, suc, ◌-◌, ◌≤◌, Bool, true, false, List, [], ◌∷◌, Option, Some, None, filter, map, slice_set, slice_index_or, if◌then◌else◌}
-pub use Rattle.search_core.specs.declared.holder.Holder.{Holder}
-pub use Rattle.search_core.specs.declared.event.Move.{Move}
-use Rattle.search_core.specs.Machine.{holder_in}
-use Rattle.search_core.specs.declared.event.Move.TheVariants.{Again}
+pub use Rattle.search_machine.specs.declared.holder.Holder.{Holder}
+pub use Rattle.search_machine.specs.declared.event.Move.{Move}
+use Rattle.search_machine.specs.Machine.{holder_in}
+use Rattle.search_machine.specs.declared.event.Move.TheVariants.{Again}
 pub use Rattle.book.specs.declared.claims.Claim.{Claim}
 pub use Rattle.book.specs.declared.claims.Status.{Status}
 pub use Rattle.book.specs.declared.claims.Status.TheVariants.{Held, Committed, GivenBack}

@@ -8,10 +8,10 @@ use Rattle.dual_model.specs.Cover.{IsTableBound}
 use Rattle.dual_model.specs.Prices.{IsLawfulTable}
 use Rattle.dual_model.specs.Tree.{root}
 use Rattle.branch_tree.specs.Claims.{no_table}
-pub use Rattle.search_core.specs.Machine.{Machine}
+pub use Rattle.search_machine.specs.Machine.{Machine}
 pub use Rattle.dual_model.specs.declared.table.Table.{Table}
-use Rattle.search_core.specs.Machine.{start_of}
-pub use Rattle.search_core.specs.declared.limits.TheConstants.{MAX_BUDGET}
+use Rattle.search_machine.specs.Machine.{start_of}
+pub use Rattle.search_machine.specs.declared.limits.TheConstants.{MAX_BUDGET}
 
 -- the instance, for how many claims there is room, the gap in parts per million, and the root's table with its bound
 pub record Opening : Type 0 where

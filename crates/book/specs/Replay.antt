@@ -3,9 +3,9 @@
 -- project's own form.
 use Rattle.std.specs.Prelude.{ℕ, ◌-◌, List, [], ◌∷◌, ◌++◌, None, map, take, drop}
 use Rattle.branch_tree.specs.Claims.{table_at}
-use Rattle.search_core.specs.declared.desk.Desk.{Desk}
-pub use Rattle.search_core.specs.declared.event.Event.{Event}
-use Rattle.search_core.specs.declared.event.Event.TheVariants as event
+use Rattle.search_machine.specs.declared.desk.Desk.{Desk}
+pub use Rattle.search_machine.specs.declared.event.Event.{Event}
+use Rattle.search_machine.specs.declared.event.Event.TheVariants as event
 use Rattle.book.specs.BookView.{BookView, Entry, Table, Machine}
 use Rattle.book.specs.Claims.{Claim, holders, kept_claims, are_kept, unit_anew, move_of}
 

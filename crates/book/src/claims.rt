@@ -3,7 +3,7 @@
 ghost use Rattle.std.specs.Prelude.{◌≡◌, ◌↔◌, IsTrue};
 ghost use Rattle.book.specs.Claims.{Held};
 
-use search_core::Move;
+use search_machine::Move;
 use std::alloc::Global;
 use std::marker::Model;
 use uc_model::NoMemory;
@@ -63,8 +63,8 @@ impl Model for Claims {
 
 impl Claims {
     ghost use Rattle.std.specs.Prelude.{◌≡◌, ◌↔◌, ℕ, suc, ◌+◌, ◌*◌, ◌<◌, ◌≤◌, ◌++◌, ◌∷◌, [], IsTrue, IfOk, IfSome, None, length};
-    ghost use Rattle.search_core.specs.declared.limits.TheConstants.{MAX_BUDGET};
-    ghost use Rattle.search_core.specs.Machine.{IsHeldIn};
+    ghost use Rattle.search_machine.specs.declared.limits.TheConstants.{MAX_BUDGET};
+    ghost use Rattle.search_machine.specs.Machine.{IsHeldIn};
     ghost use Rattle.book.specs.Claims.{Held, IsHeldBy, holders, holder_by, ended};
 
     /// No claims, with room for so many, over so many nodes.

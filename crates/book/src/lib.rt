@@ -1,7 +1,7 @@
 //! The book: a tree of commitments that several workers share under one lock, with its tables, its log and its claims.
 //!
 //! Contracts see a book as the record of `specs/BookView`. `specs/Calls` says what each call answers and leaves, and `specs/Running` what
-//! holds of every book: its log's commits and its claims, in their order, are a run of `search_core`'s machine that gives it.
+//! holds of every book: its log's commits and its claims, in their order, are a run of `search_machine`'s machine that gives it.
 #![tactic(auto)]
 
 pub mod book;

@@ -7,7 +7,7 @@ ghost use Rattle.decided_nodes.specs.Decided.{DecidesEach};
 use crate::branching::most_divided;
 use decided_nodes::{decides, free_cell};
 use dual_model::Node;
-use search_core::limits::NODE_ENTRIES;
+use search_machine::limits::NODE_ENTRIES;
 use uc_model::{Instance, LEAST_DIVIDED_SHARE};
 
 /// What an ascent tells of where to split its node: how often each unit was on in each period, unit by unit, or nothing; and a cell, a unit

@@ -11,9 +11,9 @@ use Rattle.branch_tree.specs.Closing.{is_schedule_within}
 use Rattle.branch_tree.specs.StoredTree.{tree_bound}
 use Rattle.branch_tree.specs.TreeView.{IsOpenAt, tree_of}
 use Rattle.branch_tree.proofs.Grown.{all_closed}
-use Rattle.search_core.specs.Machine.{IsHeld, IsOpen}
-use Rattle.search_core.specs.Runs.{IsBestWithin, TreeRunsHold}
-use Rattle.search_core.proofs.TrueSteps.{closed_within}
+use Rattle.search_machine.specs.Machine.{IsHeld, IsOpen}
+use Rattle.search_machine.specs.Runs.{IsBestWithin, TreeRunsHold}
+use Rattle.search_machine.proofs.TrueSteps.{closed_within}
 use Rattle.book.specs.BookView.{BookView, state_of}
 use Rattle.book.specs.Claims.{holder_of, holders, stays_by}
 use Rattle.book.specs.declared.claims.Claim.{Claim}

@@ -6,10 +6,10 @@ use Rattle.branch_tree.specs.Closing.{is_within_gap}
 use Rattle.branch_tree.specs.TreeView.{IsFreeAt}
 use Rattle.branch_tree.specs.declared.found.Outcome.{Outcome}
 use Rattle.branch_tree.specs.declared.found.Outcome.TheVariants as outcome
-use Rattle.search_core.specs.Machine.{stored_at}
-use Rattle.search_core.specs.Moves.{IsMoveLegal, MayGoOn, bound_of, kept, kept_after}
-use Rattle.search_core.specs.declared.event.Move.{Move}
-use Rattle.search_core.specs.declared.stored.Stored.{Stored}
+use Rattle.search_machine.specs.Machine.{stored_at}
+use Rattle.search_machine.specs.Moves.{IsMoveLegal, MayGoOn, bound_of, kept, kept_after}
+use Rattle.search_machine.specs.declared.event.Move.{Move}
+use Rattle.search_machine.specs.declared.stored.Stored.{Stored}
 use Rattle.book.specs.BookView.{BookView, Table, state_of}
 use Rattle.search_desk.specs.Commits.{bound_after, move_of, open_move, value_move}
 

@@ -9,12 +9,12 @@ use Rattle.dual_model.specs.declared.node.Node.{Node}
 use Rattle.branch_tree.specs.NumberedTree.{node_at}
 use Rattle.branch_tree.specs.declared.found.Entry.{Entry}
 use Rattle.branch_tree.specs.declared.found.Outcome.{Outcome}
-use Rattle.search_core.specs.Machine.{Machine, entries_of, stored_at}
-use Rattle.search_core.specs.Moves.{IsMoveLegal}
-use Rattle.search_core.specs.Steps.{IsFresh, IsStoredTable}
-use Rattle.search_core.specs.Runs.{TreeRunsHold}
-use Rattle.search_core.specs.declared.event.Move.{Move}
-use Rattle.search_core.proofs.TrueSteps.{NeverDecreases}
+use Rattle.search_machine.specs.Machine.{Machine, entries_of, stored_at}
+use Rattle.search_machine.specs.Moves.{IsMoveLegal}
+use Rattle.search_machine.specs.Steps.{IsFresh, IsStoredTable}
+use Rattle.search_machine.specs.Runs.{TreeRunsHold}
+use Rattle.search_machine.specs.declared.event.Move.{Move}
+use Rattle.search_machine.proofs.TrueSteps.{NeverDecreases}
 use Rattle.book.specs.BookView.{BookView, state_of}
 use Rattle.book.specs.Calls.{IsCommitted, IsHeldUnit, IsStoredAt, MayCommit}
 use Rattle.book.specs.Opening.{Opening}

@@ -15,8 +15,8 @@ use crate::settling::{Held, Settling};
 use book::{Book, Claimed};
 use decided_nodes::Pivoting;
 use outside::Gate;
-use search_core::laws::tree_runs_hold;
 use search_desk::{Run, cheaper, is_closed};
+use search_machine::laws::tree_runs_hold;
 use std::sync::Wait;
 use uc_model::{Instance, NoMemory, Printed};
 

@@ -8,7 +8,7 @@ use Rattle.decided_nodes.specs.Decided.{DecidesEach}
 use Rattle.decided_nodes.specs.Pivoting.{uses_exact_dispatch}
 use Rattle.decided_nodes.specs.declared.pivoting.Pivoting.{Pivoting}
 use Rattle.decided_nodes.specs.declared.pivoting.Pivoting.TheVariants.{Exhaustive}
-use Rattle.search_core.specs.Runs.{IsTrueOutcome}
+use Rattle.search_machine.specs.Runs.{IsTrueOutcome}
 use Rattle.opening.specs.Outcomes.{IsSized}
 use Rattle.search_desk.specs.declared.desk.Claim.{Claim}
 use Rattle.search_desk.specs.declared.desk.Evaluated.{Evaluated}

@@ -6,7 +6,7 @@ ghost use Rattle.opening.specs.inside.Kept.{Instance, IsKeptOf};
 
 use dual_model::{Fixing, Node, Table};
 use dual_value::{Inherited, Valued};
-use search_core::tables::is_same_table;
+use search_machine::tables::is_same_table;
 use std::alloc::Global;
 use uc_model::{List, NoMemory};
 

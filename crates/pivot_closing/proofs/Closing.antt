@@ -19,7 +19,7 @@ use Rattle.branch_tree.specs.TrueFound.{IsOutcome, IsTrueEntry, IsTrueLog}
 use Rattle.branch_tree.specs.declared.found.Entry.{Entry}
 use Rattle.branch_tree.specs.declared.found.Outcome.{Outcome}
 use Rattle.branch_tree.specs.declared.found.Outcome.TheVariants.{Value, Empty}
-use Rattle.search_core.specs.Machine.{entries_of}
+use Rattle.search_machine.specs.Machine.{entries_of}
 use Rattle.dispatch_rules.specs.CommitmentTask.{Pattern, AreAllowed}
 use Rattle.pivot_dispatch.specs.Answers.{IsAnswer}
 use Rattle.pivot_dispatch.specs.declared.pivot.Pivot.{Pivot}

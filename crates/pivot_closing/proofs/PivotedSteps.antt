@@ -13,16 +13,16 @@ use Rattle.branch_tree.specs.declared.found.Entry.{Entry}
 use Rattle.branch_tree.specs.declared.found.Outcome.{Outcome}
 use Rattle.branch_tree.specs.declared.found.Outcome.TheVariants.{Value, Empty}
 use Rattle.branch_tree.proofs.Changes.{get-append, place_part}
-use Rattle.search_core.specs.Machine.{entries_of}
-use Rattle.search_core.specs.Moves.{IsFreeFor, kept, tree_after}
-use Rattle.search_core.specs.declared.event.Move.{Move}
-use Rattle.search_core.specs.declared.stored.Stored.{Stored}
-use Rattle.search_core.specs.declared.event.Move.TheVariants.{Again, Split, Prune, Ray, Empty as EmptyMove}
-use Rattle.search_core.proofs.Claims.{get_push_last, holdable}
-use Rattle.search_core.proofs.Growth as growth
-use Rattle.search_core.proofs.Growth.{node_after, open_before, free_before, open_again_only, tree_grows}
-use Rattle.search_core.proofs.OrderlySteps.{sound_of}
-use Rattle.search_core.proofs.OwnSteps.{entries_own, entries_same, no_entries}
+use Rattle.search_machine.specs.Machine.{entries_of}
+use Rattle.search_machine.specs.Moves.{IsFreeFor, kept, tree_after}
+use Rattle.search_machine.specs.declared.event.Move.{Move}
+use Rattle.search_machine.specs.declared.stored.Stored.{Stored}
+use Rattle.search_machine.specs.declared.event.Move.TheVariants.{Again, Split, Prune, Ray, Empty as EmptyMove}
+use Rattle.search_machine.proofs.Claims.{get_push_last, holdable}
+use Rattle.search_machine.proofs.Growth as growth
+use Rattle.search_machine.proofs.Growth.{node_after, open_before, free_before, open_again_only, tree_grows}
+use Rattle.search_machine.proofs.OrderlySteps.{sound_of}
+use Rattle.search_machine.proofs.OwnSteps.{entries_own, entries_same, no_entries}
 use Rattle.pivot_dispatch.specs.declared.pivot.Pivot.{Pivot}
 use Rattle.pivot_dispatch.specs.declared.pivot.Pivot.TheVariants.{Best, Ray as RayAnswer, Wide}
 use Rattle.pivot_closing.specs.Pivoted.{Instance, GoesOn, IsByAnswer, IsExactFirst, IsPivoted}

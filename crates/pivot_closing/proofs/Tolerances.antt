@@ -30,7 +30,7 @@ use Rattle.start_costs.specs.Cheapest.{HasLeastCategory}
 use Rattle.start_costs.specs.Regular.{AreStartsRegular}
 use Rattle.start_costs.proofs.RegularStarts.{regular}
 use Rattle.branch_tree.specs.Closing.{is_within_gap}
-use Rattle.search_core.specs.Moves.{bound_of}
+use Rattle.search_machine.specs.Moves.{bound_of}
 use Rattle.dispatch_rules.specs.CommitmentTask.{Pattern, AreAllowed, commitment_at}
 use Rattle.pivot_dispatch.specs.Commitments.{IsBestOf, IsRayOf, IsDecidedAt, denominator_of, shown}
 use Rattle.pivot_closing.specs.Pivoted.{rounding_limit}

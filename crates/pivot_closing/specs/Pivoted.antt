@@ -17,8 +17,8 @@ use Rattle.branch_tree.specs.TrueFound.{IsTrueLog}
 use Rattle.branch_tree.specs.declared.found.Entry.{Entry}
 use Rattle.branch_tree.specs.declared.found.Outcome.{Outcome}
 use Rattle.branch_tree.specs.declared.found.Outcome.TheVariants.{Value, Empty}
-use Rattle.search_core.specs.Machine.{entries_of}
-use Rattle.search_core.specs.Moves.{bound_of}
+use Rattle.search_machine.specs.Machine.{entries_of}
+use Rattle.search_machine.specs.Moves.{bound_of}
 use Rattle.dispatch_rules.specs.CommitmentTask.{Pattern}
 use Rattle.decided_nodes.specs.Decided.{ArePatternsAt}
 use Rattle.pivot_dispatch.specs.Answers.{IsAnswer}

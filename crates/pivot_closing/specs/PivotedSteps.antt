@@ -7,12 +7,12 @@ use Rattle.branch_tree.specs.StoredTree.{IsNodeAt}
 use Rattle.branch_tree.specs.TreeView.{TreeView, HasFreeCell}
 use Rattle.branch_tree.specs.declared.found.Entry.{Entry}
 use Rattle.branch_tree.specs.declared.found.Outcome.{Outcome}
-use Rattle.search_core.specs.Machine.{Machine, IsHolding, entries_of}
-use Rattle.search_core.specs.Moves.{IsFreeFor}
-use Rattle.search_core.specs.Orderly.{IsOrderly}
-use Rattle.search_core.specs.Steps.{committed}
-use Rattle.search_core.specs.declared.event.Move.{Move}
-use Rattle.search_core.specs.declared.event.Move.TheVariants.{Again}
+use Rattle.search_machine.specs.Machine.{Machine, IsHolding, entries_of}
+use Rattle.search_machine.specs.Moves.{IsFreeFor}
+use Rattle.search_machine.specs.Orderly.{IsOrderly}
+use Rattle.search_machine.specs.Steps.{committed}
+use Rattle.search_machine.specs.declared.event.Move.{Move}
+use Rattle.search_machine.specs.declared.event.Move.TheVariants.{Again}
 use Rattle.pivot_closing.specs.Pivoted.{Instance, IsExactFirst, IsPivoted}
 use Rattle.decided_nodes.specs.Pivoting.{node_limit}
 

@@ -18,8 +18,8 @@ use Rattle.branch_tree.specs.TrueFound.{IsTrueFound}
 use Rattle.branch_tree.specs.UsedTables.{used_tables}
 use Rattle.branch_tree.specs.declared.layout.Layout.{Layout}
 use Rattle.pivot_closing.proofs.Closing.{closed_statuses, pivoted_searches_close}
-use Rattle.search_core.specs.declared.stored.Stored.{Stored}
-use Rattle.search_core.specs.Moves.{bound_of}
+use Rattle.search_machine.specs.declared.stored.Stored.{Stored}
+use Rattle.search_machine.specs.Moves.{bound_of}
 use Rattle.branch_tree.specs.declared.found.Found.{Found}
 use Rattle.uc_model.specs.declared.instance.Instance.{Instance}
 use Rattle.dual_model.specs.declared.table.Table.{Table}

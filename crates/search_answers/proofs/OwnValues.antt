@@ -16,10 +16,10 @@ use Rattle.branch_tree.specs.declared.found.Outcome.TheVariants as outcome
 use Rattle.branch_tree.specs.declared.tree.Leaf.{Leaf}
 use Rattle.branch_tree.specs.declared.tree.Leaf.TheVariants as leaf
 use Rattle.branch_tree.proofs.Bounds.{lesser_greatest}
-use Rattle.search_core.specs.declared.stored.Stored.{Stored}
-use Rattle.search_core.specs.Machine.{entries_of}
-use Rattle.search_core.specs.Moves.{bound_of, kept_after}
-use Rattle.search_core.specs.OwnTables.{HoldsStored, OwnsBelow, stored_after, stored_by}
+use Rattle.search_machine.specs.declared.stored.Stored.{Stored}
+use Rattle.search_machine.specs.Machine.{entries_of}
+use Rattle.search_machine.specs.Moves.{bound_of, kept_after}
+use Rattle.search_machine.specs.OwnTables.{HoldsStored, OwnsBelow, stored_after, stored_by}
 use Rattle.opening.specs.Outcomes.{IsSized}
 use Rattle.branch_tree.specs.declared.found.Entry.{Entry}
 use Rattle.dual_model.specs.declared.table.Table.{Table}

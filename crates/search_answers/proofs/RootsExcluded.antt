@@ -31,7 +31,7 @@ use Rattle.opening.proofs.OpeningRays.{first_is_one as first_ray_is_one, no_ray,
 use Rattle.opening_tables.proofs.RayTables.{ray_lawful}
 use Rattle.pivot_closing.proofs.Closing.{closed_statuses}
 use Rattle.pivot_closing.proofs.PivotedSteps.{none_pivoted}
-use Rattle.search_core.specs.Moves.{empty_leaf, ray_leaf}
+use Rattle.search_machine.specs.Moves.{empty_leaf, ray_leaf}
 use Rattle.search_answers.specs.SearchResult.{FollowsOpening, IsExcludedByFirst, IsExcludedByUnit, IsNoDearer}
 use Rattle.search_desk.specs.Kinds.{IsOfKind}
 use Rattle.branch_tree.specs.declared.found.Found.{Found}

@@ -10,7 +10,7 @@ use Rattle.branch_tree.specs.declared.found.Found.{Found}
 use Rattle.search_answers.specs.Pivoted.{IsPivotedFound}
 use Rattle.search_answers.specs.Writable.{IsWritable}
 use Rattle.search_answers.specs.Best.{told_of}
-use Rattle.search_core.specs.Moves.{bound_of}
+use Rattle.search_machine.specs.Moves.{bound_of}
 use Rattle.decommitment.specs.DropCommitment.{Ending}
 use Rattle.uc_model.specs.declared.schedule.Printed.{Printed}
 use Rattle.search_answers.specs.SearchResult.{IsSearchResult, is_ending_within}

@@ -17,8 +17,8 @@ use Rattle.branch_tree.specs.StoredTree.{tree_bound}
 use Rattle.branch_tree.specs.TreeView.{tree_of}
 use Rattle.branch_tree.specs.TrueFound.{IsTrueFound}
 use Rattle.branch_tree.specs.declared.found.Found.{Found}
-use Rattle.search_core.specs.Moves.{bound_of, empty_leaf, ray_leaf}
-use Rattle.search_core.specs.OwnTables.{Owns, HasFewEntries}
+use Rattle.search_machine.specs.Moves.{bound_of, empty_leaf, ray_leaf}
+use Rattle.search_machine.specs.OwnTables.{Owns, HasFewEntries}
 use Rattle.search_desk.specs.Kinds.{IsOfKind}
 use Rattle.decommitment.specs.DropCommitment.{Ending, Dispatched, StuckIn, IsDropCommitment}
 use Rattle.decommitment.specs.MostOnStuck.{TellsMostOn}

@@ -9,7 +9,7 @@ ghost use Rattle.branch_tree.specs.TreeView.{IsWhole, tree_of};
 ghost use Rattle.branch_tree.specs.UsedTables.{stored_tables};
 ghost use Rattle.schedule_check.specs.Accepted.{IsAcceptedIfFound};
 ghost use Rattle.decommitment.specs.Standings.{IsDropped, ending_of};
-ghost use Rattle.search_core.specs.Moves.{empty_leaf, ray_leaf};
+ghost use Rattle.search_machine.specs.Moves.{empty_leaf, ray_leaf};
 ghost use Rattle.opening.specs.Blocked.{HasNoBlockedUnit};
 ghost use Rattle.opening.specs.Rays.{HasNoRay, IsFirstRay};
 ghost use Rattle.opening.specs.RootTables.{IsPricedOf};

@@ -1,6 +1,2 @@
-pub mod Machine
-pub mod Moves
-pub mod Steps
-pub mod Orderly
-pub mod OwnTables
-pub mod Runs
+pub mod Fields
+pub mod MachineCode

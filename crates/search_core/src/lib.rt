@@ -1,19 +1,17 @@
-//! The search machine: several workers on one tree of commitments, as one state that goes from event to event, and what holds of its runs.
+//! The state of the search machine, and its steps: what `search_machine` defines, as data and calls.
 //!
-//! `specs/Machine` has the state, and `specs/Steps` says where an event is legal and what the state is after it.
+//! Contracts see a state as the record of `search_machine/specs/Machine`, and `step` does what `search_machine/specs/Steps` says.
 #![tactic(auto)]
 
-pub mod desk;
-pub mod event;
-pub mod holder;
-pub mod laws;
-pub mod legal;
-pub mod limits;
-pub mod moves;
-pub mod start;
-pub mod stored;
-pub mod tables;
+mod costs;
+mod desk;
+mod desks;
+mod holder;
+mod lists;
+mod log;
+mod record;
+mod start;
+pub mod state;
 
-pub use branch_tree::{Entry, Outcome};
-pub use event::{Event, Move, StepFault};
-pub use stored::{Stored, kept_after};
+pub use search_machine::{Entry, Event, Move, Outcome, StepFault, Stored};
+pub use state::State;

@@ -15,14 +15,14 @@ use Rattle.book.specs.declared.claims.Claim.{Claim}
 use Rattle.book.specs.declared.claims.Claimed.TheVariants.{Mine}
 use Rattle.book.specs.declared.claims.Status.TheVariants.{Held}
 use Rattle.book.proofs.Units.{held_part}
-use Rattle.search_core.specs.Machine.{IsHolding, entries_of, holder_in}
-use Rattle.search_core.specs.declared.holder.Holder.{Holder}
+use Rattle.search_machine.specs.Machine.{IsHolding, entries_of, holder_in}
+use Rattle.search_machine.specs.declared.holder.Holder.{Holder}
 use Rattle.book.specs.Opening.{Opening, IsTrueOpening}
 use Rattle.book.specs.Replay.{number_of, replayed}
 use Rattle.book.proofs.Books.{run_holds}
 use Rattle.book.proofs.Steps.{held_still}
-use Rattle.search_core.specs.Runs.{TreeRunsHold}
-use Rattle.search_core.proofs.Claims.{holdable}
+use Rattle.search_machine.specs.Runs.{TreeRunsHold}
+use Rattle.search_machine.proofs.Claims.{holdable}
 use Rattle.book.specs.Running.{IsRunning}
 use Rattle.search_desk.specs.Desks.{Instance, Table, IsLaterWithin, IsScaledWithin}
 

@@ -33,16 +33,16 @@ use Rattle.pivot_closing.proofs.Decided.{cell_decided}
 use Rattle.pivot_closing.proofs.PivotedSteps.{none_pivoted, entries_keep_pivoted}
 use Rattle.pivot_closing.proofs.TreeSizes.{entries_below}
 use Rattle.incumbent.specs.Costs.{AtMost}
-use Rattle.search_core.specs.Machine.{IsHolding, entries_of}
-use Rattle.search_core.specs.Moves.{bound_of, kept}
-use Rattle.search_core.specs.Runs.{IsTrueOutcome, TreeRunsHold}
-use Rattle.search_core.specs.declared.event.Move.{Move}
-use Rattle.search_core.specs.declared.stored.Stored.{Stored}
-use Rattle.search_core.specs.declared.event.Move.TheVariants.{Split, Prune, Ray}
-use Rattle.search_core.proofs.Claims.{holdable}
-use Rattle.search_core.proofs.Growth.{tree_grows}
-use Rattle.search_core.proofs.OrderlySteps.{free_for, sound_of}
-use Rattle.search_core.proofs.TrueSteps.{NeverDecreases, best_within}
+use Rattle.search_machine.specs.Machine.{IsHolding, entries_of}
+use Rattle.search_machine.specs.Moves.{bound_of, kept}
+use Rattle.search_machine.specs.Runs.{IsTrueOutcome, TreeRunsHold}
+use Rattle.search_machine.specs.declared.event.Move.{Move}
+use Rattle.search_machine.specs.declared.stored.Stored.{Stored}
+use Rattle.search_machine.specs.declared.event.Move.TheVariants.{Split, Prune, Ray}
+use Rattle.search_machine.proofs.Claims.{holdable}
+use Rattle.search_machine.proofs.Growth.{tree_grows}
+use Rattle.search_machine.proofs.OrderlySteps.{free_for, sound_of}
+use Rattle.search_machine.proofs.TrueSteps.{NeverDecreases, best_within}
 use Rattle.book.specs.BookView.{state_of, opened}
 use Rattle.book.specs.Calls.{IsAbandonAnswer, IsClaimAnswer, IsCommitAnswer, IsHeldUnit, MayBe, committed}
 use Rattle.book.specs.declared.claims.Claimed.{Claimed}

@@ -12,18 +12,18 @@ use Rattle.branch_tree.specs.declared.tree.Leaf.{Leaf}
 use Rattle.branch_tree.specs.declared.tree.Leaf.TheVariants as leaf
 use Rattle.branch_tree.proofs.Grown.{each_leaf_map}
 use Rattle.incumbent.specs.Costs as incumbent
-use Rattle.search_core.specs.Machine.{IsHolding, entries_of}
-use Rattle.search_core.specs.Moves.{IsMoveLegal, kept, unit_of}
-use Rattle.search_core.specs.Runs.{IsBestWithin, IsPrunedWithin, TreeRunsHold}
-use Rattle.search_core.specs.declared.event.Move.{Move}
-use Rattle.search_core.specs.declared.event.Move.TheVariants.{Again, Split, Prune, Ray, Empty}
-use Rattle.search_core.proofs.Claims.{holdable}
-use Rattle.search_core.proofs.Growth.{HoldsOfNew, leaf_part, after_holds, of_ray, of_empty}
-use Rattle.search_core.proofs.OrderlySteps.{sound_of}
-use Rattle.search_core.proofs.Plain.{IsPlainState, plain_after}
-use Rattle.search_core.specs.Steps.{committed_by}
-use Rattle.search_core.specs.declared.event.Event.TheVariants.{Commit}
-use Rattle.search_core.proofs.TrueSteps.{NeverDecreases, best_within}
+use Rattle.search_machine.specs.Machine.{IsHolding, entries_of}
+use Rattle.search_machine.specs.Moves.{IsMoveLegal, kept, unit_of}
+use Rattle.search_machine.specs.Runs.{IsBestWithin, IsPrunedWithin, TreeRunsHold}
+use Rattle.search_machine.specs.declared.event.Move.{Move}
+use Rattle.search_machine.specs.declared.event.Move.TheVariants.{Again, Split, Prune, Ray, Empty}
+use Rattle.search_machine.proofs.Claims.{holdable}
+use Rattle.search_machine.proofs.Growth.{HoldsOfNew, leaf_part, after_holds, of_ray, of_empty}
+use Rattle.search_machine.proofs.OrderlySteps.{sound_of}
+use Rattle.search_machine.proofs.Plain.{IsPlainState, plain_after}
+use Rattle.search_machine.specs.Steps.{committed_by}
+use Rattle.search_machine.specs.declared.event.Event.TheVariants.{Commit}
+use Rattle.search_machine.proofs.TrueSteps.{NeverDecreases, best_within}
 use Rattle.book.specs.BookView.{BookView, state_of, opened}
 use Rattle.book.specs.Calls.{claimed, committed, given_back, MayBe, IsAbandonAnswer, IsClaimAnswer, IsCommitAnswer}
 use Rattle.book.specs.declared.claims.Claimed.{Claimed}

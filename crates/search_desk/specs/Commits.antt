@@ -4,9 +4,9 @@ use Rattle.std.specs.Ordering.{int_eq}
 use Rattle.branch_tree.specs.Closing.{is_within_gap}
 use Rattle.branch_tree.specs.declared.found.Outcome.{Outcome}
 use Rattle.branch_tree.specs.declared.found.Outcome.TheVariants as outcome
-use Rattle.search_core.specs.Moves.{kept_after}
-use Rattle.search_core.specs.declared.event.Move.{Move}
-use Rattle.search_core.specs.declared.event.Move.TheVariants as move
+use Rattle.search_machine.specs.Moves.{kept_after}
+use Rattle.search_machine.specs.declared.event.Move.{Move}
+use Rattle.search_machine.specs.declared.event.Move.TheVariants as move
 use Rattle.book.specs.Calls.{IsCommitted, IsHeldUnit, MayCommit}
 use Rattle.incumbent.specs.Costs.{AtMost}
 use Rattle.search_desk.specs.Desks.{BookView, DeskView}

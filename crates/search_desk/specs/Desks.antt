@@ -10,11 +10,11 @@ pub use Rattle.dual_model.specs.declared.table.Table.{Table}
 use Rattle.branch_tree.specs.Kinds.{IsPlainTree}
 use Rattle.branch_tree.specs.TreeView.{tree_of}
 pub use Rattle.branch_tree.specs.declared.found.Entry.{Entry}
-use Rattle.search_core.specs.Machine.{entries_of}
-use Rattle.search_core.specs.Runs.{IsPrunedWithin}
-use Rattle.search_core.specs.declared.limits.TheConstants.{MAX_BUDGET}
-use Rattle.search_core.specs.declared.event.Move.{Move}
-use Rattle.search_core.specs.declared.event.Move.TheVariants as move
+use Rattle.search_machine.specs.Machine.{entries_of}
+use Rattle.search_machine.specs.Runs.{IsPrunedWithin}
+use Rattle.search_machine.specs.declared.limits.TheConstants.{MAX_BUDGET}
+use Rattle.search_machine.specs.declared.event.Move.{Move}
+use Rattle.search_machine.specs.declared.event.Move.TheVariants as move
 pub use Rattle.incumbent.specs.Passes.{Known}
 pub use Rattle.book.specs.BookView.{BookView}
 use Rattle.book.specs.Claims.{stays}

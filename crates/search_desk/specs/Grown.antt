@@ -15,8 +15,8 @@ use Rattle.branch_tree.specs.TreeView.{TreeView, IsSizeOf, IsWhole, tree_of}
 use Rattle.branch_tree.specs.TrueFound.{IsTrueLog}
 pub use Rattle.branch_tree.specs.declared.found.Entry.{Entry}
 use Rattle.pivot_closing.specs.Pivoted.{IsPivoted}
-use Rattle.search_core.specs.Moves.{bound_of}
-use Rattle.search_core.specs.OwnTables.{Owns, HasFewEntries}
+use Rattle.search_machine.specs.Moves.{bound_of}
+use Rattle.search_machine.specs.OwnTables.{Owns, HasFewEntries}
 pub use Rattle.opening.specs.declared.root_tables.Priced.{Priced}
 use Rattle.search_desk.specs.Desks.{IsSizedEntry}
 use Rattle.search_desk.specs.Kinds.{IsOfKind}

@@ -2,7 +2,7 @@
 
 ghost use Rattle.std.specs.Prelude.{◌≡◌, ◌≤◌, ◌↔◌, IsTrue, false, None, IfOk};
 ghost use Rattle.uc_model.specs.declared.tolerance.TheConstants.{WHOLE_GAP};
-ghost use Rattle.search_core.specs.Runs.{IsTrueOutcome};
+ghost use Rattle.search_machine.specs.Runs.{IsTrueOutcome};
 ghost use Rattle.opening.specs.Outcomes.{IsSized};
 ghost use Rattle.search_desk.specs.Commits.{Stands, bound_after, move_of, open_move, told_move, value_move as value_move_of};
 ghost use Rattle.search_desk.specs.Desks.{IsLaterWithin, IsPrunedBy};
@@ -13,8 +13,8 @@ use book::{Book, Claimed};
 use branch_tree::{Outcome, is_within_gap};
 use dual_model::{Node, Table};
 use incumbent::{Best, Pass};
-use search_core::laws::tree_runs_hold;
-use search_core::{Move, Stored, kept_after};
+use search_machine::laws::tree_runs_hold;
+use search_machine::{Move, Stored, kept_after};
 use std::alloc::Global;
 use std::marker::Model;
 use uc_model::NoMemory;

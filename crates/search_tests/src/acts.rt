@@ -4,8 +4,7 @@ ghost use Rattle.std.specs.Prelude.{◌≡◌, ◌<◌, ◌≤◌, IfOk, length}
 
 use branch_tree::Outcome;
 use dual_model::Table;
-use search_core::{Event, Move, StepFault};
-use search_state::State;
+use search_core::{Event, Move, State, StepFault};
 use std::alloc::Global;
 use std::test::Fail;
 use uc_model::NoMemory;

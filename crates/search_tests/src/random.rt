@@ -4,8 +4,7 @@ ghost use Rattle.std.specs.Prelude.{◌≡◌, ◌<◌, length};
 
 use crate::acts::{Act, is_taken, start};
 use branch_tree::Outcome;
-use search_core::Move;
-use search_state::State;
+use search_core::{Move, State};
 use std::alloc::{AllocError, Global};
 use std::test::Fail;
 

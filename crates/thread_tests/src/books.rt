@@ -8,7 +8,7 @@ ghost use Rattle.dual_model.specs.Fixings.{IsNodeOf};
 ghost use Rattle.dual_model.specs.Prices.{IsLawfulTable};
 ghost use Rattle.dual_model.specs.Tree.{root};
 ghost use Rattle.book.specs.Opening.{IsTrueOpening};
-ghost use Rattle.search_core.specs.Runs.{IsTrueOutcome};
+ghost use Rattle.search_machine.specs.Runs.{IsTrueOutcome};
 
 use book::{Book, Case, Claimed};
 use branch_tree::{Entry, Outcome, Tree};
@@ -16,7 +16,7 @@ use demo_gen::instance;
 use dual_model::{Fixing, Node, Table};
 use dual_value::{ValueFault, value};
 use opening_tables::unpriced;
-use search_core::Move;
+use search_machine::Move;
 use std::alloc::Global;
 use std::marker::Brand;
 use std::process::Abort;

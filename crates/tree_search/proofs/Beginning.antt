@@ -5,8 +5,8 @@ use Rattle.uc_model.specs.declared.schedule.Printed.{Printed}
 use Rattle.uc_model.specs.declared.tolerance.TheConstants.{WHOLE_GAP}
 use Rattle.uc_model.proofs.Quotients.{IsFloor-int_div_euclid}
 use Rattle.branch_tree.specs.Closing.{is_schedule_within}
-use Rattle.search_core.specs.declared.limits.TheConstants.{MAX_BUDGET}
-use Rattle.search_core.specs.Moves.{bound_of}
+use Rattle.search_machine.specs.declared.limits.TheConstants.{MAX_BUDGET}
+use Rattle.search_machine.specs.Moves.{bound_of}
 use Rattle.book.specs.BookView.{BookView, opened}
 use Rattle.book.specs.Opening.{Opening, IsTrueOpening}
 use Rattle.opening.specs.RootTables.{IsPricedOf}

@@ -6,11 +6,11 @@ use Rattle.dual_model.specs.Tree.{root, child}
 use Rattle.dual_model.specs.declared.node.Node.{Node}
 use Rattle.branch_tree.specs.NumberedTree.{NumberedTree, EndAt, SplitAt, node_count}
 use Rattle.branch_tree.specs.TreeView.{IsWhole}
-use Rattle.search_core.specs.Machine.{entries_of}
-use Rattle.search_core.specs.Moves.{bound_of}
-use Rattle.search_core.specs.OwnTables.{HasFreeCellAt, HoldsStored, OwnsBelow, StartsAt, stored_after, stored_by}
-use Rattle.search_core.specs.Runs.{TreeRunsHold}
-use Rattle.search_core.specs.declared.stored.Stored.{Stored}
+use Rattle.search_machine.specs.Machine.{entries_of}
+use Rattle.search_machine.specs.Moves.{bound_of}
+use Rattle.search_machine.specs.OwnTables.{HasFreeCellAt, HoldsStored, OwnsBelow, StartsAt, stored_after, stored_by}
+use Rattle.search_machine.specs.Runs.{TreeRunsHold}
+use Rattle.search_machine.specs.declared.stored.Stored.{Stored}
 use Rattle.book.specs.BookView.{BookView}
 use Rattle.book.specs.Opening.{Opening, IsTrueOpening}
 use Rattle.book.specs.Replay.{with_unit, number_of}

@@ -1,7 +1,7 @@
 -- How far a search goes. This project's own limits.
 use Rattle.std.specs.Prelude.{◌≤◌}
 use Rattle.uc_model.specs.declared.tolerance.TheConstants.{WHOLE_GAP}
-use Rattle.search_core.specs.declared.limits.TheConstants.{MAX_BUDGET}
+use Rattle.search_machine.specs.declared.limits.TheConstants.{MAX_BUDGET}
 use Rattle.tree_search.specs.declared.options.Options.{Options}
 use Rattle.tree_search.specs.declared.options.TheConstants.{MAX_WORKERS}
 

@@ -3,7 +3,7 @@
 ghost use Rattle.std.specs.Prelude.{◌≡◌, ℕ, ◌+◌, ◌*◌, true, [], IfOk, Some};
 ghost use Rattle.uc_model.specs.Limits.{IsLawfulInstance};
 ghost use Rattle.branch_tree.specs.Closing.{is_schedule_within};
-ghost use Rattle.search_core.specs.Moves.{bound_of};
+ghost use Rattle.search_machine.specs.Moves.{bound_of};
 ghost use Rattle.schedule_check.specs.Accepted.{IsAcceptedIfFound};
 ghost use Rattle.opening.specs.RootTables.{IsPricedOf};
 ghost use Rattle.book.specs.BookView.{opened};
@@ -28,8 +28,8 @@ use decided_nodes::Pivoting;
 use incumbent::Best;
 use node_visits::{Start, Worker, beside};
 use outside::Gate;
-use search_core::laws::tree_runs_hold;
 use search_desk::{Grown, Run};
+use search_machine::laws::tree_runs_hold;
 use std::marker::Brand;
 use std::sync::Wait;
 use std::thread::Threads;

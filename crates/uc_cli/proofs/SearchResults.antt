@@ -31,7 +31,7 @@ use Rattle.uc_cli.proofs.ScheduleTexts.{has_schedule_text}
 use Rattle.uc_check.specs.Accepting.{most_rows}
 use Rattle.uc_check.proofs.Accepting.{accepted_for}
 use Rattle.uc_check.proofs.Verdicts.{schedule_true}
-use Rattle.search_core.specs.declared.limits.TheConstants.{MAX_BUDGET}
+use Rattle.search_machine.specs.declared.limits.TheConstants.{MAX_BUDGET}
 use Rattle.uc_cli.proofs.FoundSizes.{found_little}
 
 -- a bound of this size has a text

@@ -19,7 +19,7 @@ use command_line::Solve;
 use command_runs::{End, Failure, ReadOptions, end_of, read_instance, save};
 use outside::{Failed, Files, Gate, Sink, Slot};
 use report::{Fault, write_found};
-use search_core::limits::MAX_BUDGET;
+use search_machine::limits::MAX_BUDGET;
 use std::alloc::Global;
 use std::sync::Wait;
 use std::thread::Threads;

@@ -7,8 +7,8 @@ use Rattle.dual_model.specs.Prices.{IsLawfulTable}
 pub use Rattle.dual_model.specs.declared.node.Node.{Node}
 pub use Rattle.dual_model.specs.declared.table.Table.{Table}
 use Rattle.branch_tree.specs.TreeView.{HasFreeCell}
-use Rattle.search_core.specs.Machine.{entries_of}
-use Rattle.search_core.specs.Steps.{IsFresh, IsStoredTable}
+use Rattle.search_machine.specs.Machine.{entries_of}
+use Rattle.search_machine.specs.Steps.{IsFresh, IsStoredTable}
 pub use Rattle.book.specs.BookView.{BookView}
 use Rattle.book.specs.BookView.{state_of}
 use Rattle.book.specs.Calls.{IsStoredAt}

@@ -4,7 +4,7 @@ use Rattle.uc_model.specs.declared.instance.Instance.{Instance}
 use Rattle.branch_tree.specs.Closing.{is_schedule_within}
 use Rattle.found_schedule.specs.Found.{IsFoundIfAny}
 use Rattle.found_schedule.proofs.Whole.{found_if_accepted}
-use Rattle.search_core.specs.Moves.{bound_of}
+use Rattle.search_machine.specs.Moves.{bound_of}
 use Rattle.book.specs.Opening.{Opening}
 use Rattle.search_desk.specs.Best.{IsNoWorse, cost_of}
 use Rattle.search_desk.specs.Dispatches.{IsPivotedBook}

@@ -2,7 +2,7 @@
 use Rattle.std.proofs.Common.{refl, subst}
 use Rattle.book.specs.BookView.{state_of}
 use Rattle.book.specs.Calls.{MayBe}
-use Rattle.search_core.proofs.Claims.{one_held}
+use Rattle.search_machine.proofs.Claims.{one_held}
 use Rattle.book.proofs.book.Book.commit.Goals as goal
 
 pub returns-then-may_commit : goal.returns-then-may_commit

@@ -4,8 +4,8 @@ use Rattle.std.specs.Int.{w128}
 use Rattle.std.specs.Vec.{vec_capacity}
 use Rattle.std.proofs.lemmas.Option.{slice_get-get_or}
 use Rattle.dual_model.specs.declared.table.Table.{Table}
-use Rattle.search_core.specs.Machine.{stored_at}
-use Rattle.search_core.specs.declared.stored.Stored.{Stored}
+use Rattle.search_machine.specs.Machine.{stored_at}
+use Rattle.search_machine.specs.declared.stored.Stored.{Stored}
 use Rattle.book.specs.BookView.{BookView}
 use Rattle.book.specs.Calls.{IsStoredAt}
 use Rattle.book.specs.inside.Kept.{Rooms, view_of, rooms_of}

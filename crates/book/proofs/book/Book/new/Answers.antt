@@ -8,7 +8,7 @@ use Rattle.uc_model.specs.Schedule.{thermal_count}
 use Rattle.uc_model.specs.declared.instance.Instance.{Instance}
 use Rattle.branch_tree.specs.NumberedTree.{EndAt}
 use Rattle.branch_tree.specs.declared.tree.Leaf.TheVariants as leaf
-use Rattle.search_core.specs.Machine.{room_for}
+use Rattle.search_machine.specs.Machine.{room_for}
 use Rattle.book.specs.BookView.{opened}
 use Rattle.book.specs.inside.Chains.{LogView}
 use Rattle.book.specs.inside.Kept.{ClaimsView, view_of, rooms_of, IsKept}

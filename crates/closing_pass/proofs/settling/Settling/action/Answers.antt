@@ -2,8 +2,8 @@
 use Rattle.std.proofs.Common.{◌∙◌, subst, sym}
 use Rattle.std.specs.Int.{w128}
 use Rattle.std.proofs.lemmas.Int.{to_z-of_z}
-use Rattle.search_core.specs.Moves.{IsMoveLegal}
-use Rattle.search_core.specs.declared.event.Move.{Move}
+use Rattle.search_machine.specs.Moves.{IsMoveLegal}
+use Rattle.search_machine.specs.declared.event.Move.{Move}
 use Rattle.book.specs.BookView.{state_of}
 use Rattle.search_desk.specs.Commits.{move_of}
 use Rattle.closing_pass.proofs.Moves.{move_legal}

@@ -3,7 +3,7 @@ use Rattle.std.proofs.Common.{◌∙◌, ◌≢◌, ⊎_elim, ◌≡◌, ap, ari
 use Rattle.dual_model.specs.Prices.{IsLawfulTable}
 use Rattle.uc_model.proofs.Ring.{linear}
 use Rattle.branch_tree.specs.declared.found.Entry.{Entry}
-use Rattle.search_core.specs.Machine.{entries_of}
+use Rattle.search_machine.specs.Machine.{entries_of}
 use Rattle.book.specs.BookView.{state_of}
 use Rattle.uc_model.specs.declared.instance.Instance.{Instance}
 use Rattle.closing_pass.proofs.Settled.{fresh_second}

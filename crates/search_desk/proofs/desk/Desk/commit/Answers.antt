@@ -3,7 +3,7 @@ use Rattle.std.proofs.Common.{◌≡◌, ◌∙◌, ap, sym, subst, ℤ, Option}
 use Rattle.std.specs.Int.{w128}
 use Rattle.std.proofs.lemmas.Int.{to_z-of_z}
 use Rattle.incumbent.specs.Costs.{AtMost}
-use Rattle.search_core.specs.declared.event.Move.{Move}
+use Rattle.search_machine.specs.declared.event.Move.{Move}
 use Rattle.book.specs.BookView.{BookView}
 use Rattle.search_desk.specs.Commits.{IsEntry, move_for, move_of, told_move}
 use Rattle.search_desk.proofs.Dispatches.{first_lower}

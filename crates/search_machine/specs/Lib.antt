@@ -1,0 +1,6 @@
+pub mod Machine
+pub mod Moves
+pub mod Steps
+pub mod Orderly
+pub mod OwnTables
+pub mod Runs
