@@ -15,16 +15,16 @@ child='' work='' told='' crates=() uses=() began=() took=() proved=0
 . "$top/launch/record.sh"
 
 # What the proof of each crate took when it was measured, in seconds of one processor.
-weights='uc_model 72 dual_model 48 outside 66 outside_system 132 decimal_json 144 instance 228 table_list 108
-  cert_text 366 report 180 cost_curves 72 start_costs 30 period_term 84 ramp_duals 36 system_value 84 interval_graph 36
-  step_functions 114 hull_function 24 unit_path 84 unit_runs 18 unit_exact 144 dispatch_repair 228 dual_value 96
-  quick_value 258 pivot_run 144 fractions 20 dispatch_program 16 dispatch_rules 28 dispatch_prices 74
-  dispatch_table 240 dispatch_schedule 86 pivot_dispatch 56 found_schedule 24 decided_nodes 44 pivot_closing 24 opening_tables 60
-  uplift 144 bundle 168 prices 216 repair_state 192 schedule_repair 228 roll 114
-  branch_tree 78 incumbent 42 steal_pool 96 search_machine 84 claims 42 book 150 decommitment 270 opening 138
-  search_desk 110 node_visits 110 closing_pass 100 tree_search 300 search_answers 90 workers 130
-  schedule_check 126 state_walk 126 leaf_values 114 cert_check 126 demo_gen 48 command_line 222 command_runs 48 uc_check 69
-  uc_uplift 69 uc_cli 126 uc 210'
+weights='uc_model 101 dual_model 75 outside 99 outside_system 135 decimal_json 179 instance 246 table_list 109 cert_text 455
+  report 157 cost_curves 91 start_costs 43 period_term 78 ramp_duals 44 system_value 41 interval_graph 33
+  step_functions 123 pivot_run 194 fractions 24 dispatch_program 18 dispatch_rules 38 dispatch_prices 63
+  dispatch_table 220 dispatch_schedule 95 pivot_dispatch 71 found_schedule 18 hull_function 42 unit_path 91
+  unit_runs 26 unit_exact 129 dispatch_repair 276 dual_value 115 quick_value 314 opening_tables 66 decided_nodes 62
+  uplift 169 bundle 209 prices 369 repair_state 315 schedule_repair 327 roll 131 branch_tree 98 incumbent 40
+  steal_pool 81 search_machine 36 pivot_closing 19 claims 43 book 186 decommitment 301 opening 157 search_desk 130
+  node_visits 141 closing_pass 143 tree_search 481 search_answers 114 workers 180 schedule_check 151 state_walk 119
+  leaf_values 122 cert_check 146 demo_gen 53 command_line 223 command_runs 73 uc_check 74 uc_uplift 60 uc_cli 146
+  uc 256'
 
 say() { printf 'uc: %s\n' "$*" >&2; }
 

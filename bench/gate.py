@@ -142,9 +142,10 @@ def needed(name, uses):
 
 def with_weights(script, names, proofs):
     """The text of `./uc` with the seconds of these crates' proofs, by which it foretells when all is proved."""
-    words = " ".join(f"{it} {max(1, round(proofs[it]))}" for it in names if it in proofs)
-    lines = textwrap.wrap(words, 116, initial_indent="weights='", subsequent_indent="  ", break_on_hyphens=False)
-    return re.sub(r"(?ms)^weights='.*?'$", lambda _: "\n".join(lines) + "'", script)
+    # (a crate and its seconds stand in one line)
+    words = " ".join(f"{it}={max(1, round(proofs[it]))}" for it in names if it in proofs)
+    text = textwrap.fill(words, 116, subsequent_indent="  ", break_on_hyphens=False)
+    return re.sub(r"(?ms)^weights='.*?'$", lambda _: "weights='" + text.replace("=", " ") + "'", script)
 
 
 def row(name, numbers):
