@@ -181,7 +181,8 @@ def conditions(load, clock, new, table):
     kit = subprocess.run(["rt", "version"], capture_output=True, text=True).stdout.split()
     rows = "" if new == table else f"; {new} of {table} numbers are of this run, the others of runs before"
     day = time.strftime("%-d %B %Y", time.gmtime())
-    return f"`{kit[0]}`, {day}, {len(os.sched_getaffinity(0))} processors, load {load:.1f} before it, {clock / 60:.0f} minutes by the clock{rows}."
+    machine = f"{len(os.sched_getaffinity(0))} processors, load {load:.1f} before it"
+    return f"`{kit[0]}`, {day}, {machine}, {clock / 60:.0f} minutes by the clock{rows}."
 
 
 def chain_text(top, table):
