@@ -6,30 +6,22 @@ use Rattle.uc_model.specs.declared.instance.Instance.{Instance}
 use Rattle.dual_model.specs.declared.node.Node.{Node}
 use Rattle.dual_model.specs.declared.table.Table.{Table}
 use Rattle.std.proofs.lemmas.Bool.{cases_lt}
-use Rattle.dual_model.specs.Tree.{root}
-use Rattle.branch_tree.specs.NumberedTree.{NumberedTree, Subtree, IsNumbered, spot_of, subtree_at, spot_at, node_count, node_at}
+use Rattle.dual_model.specs.Prelude.{root}
+use Rattle.branch_tree.specs.Prelude.{NumberedTree, Subtree, IsNumbered, spot_of, subtree_at, spot_at, node_count, node_at, IsNodeAt, StoredHolds, TreeView, IsOpenAt, IsTrueEntry, AreApart, IsTrueLog}
 use Rattle.branch_tree.specs.declared.tree.Spot.{Spot}
 use Rattle.branch_tree.proofs.Changes.{from_some}
 use Rattle.branch_tree.proofs.Subtrees.{part_counted}
-use Rattle.branch_tree.specs.StoredTree.{IsNodeAt}
-use Rattle.branch_tree.specs.TreeLaws.{StoredHolds}
-use Rattle.branch_tree.specs.TreeView.{TreeView, IsOpenAt}
-use Rattle.branch_tree.specs.TrueFound.{IsTrueEntry, AreApart, IsTrueLog}
 use Rattle.branch_tree.specs.declared.found.Entry.{Entry}
 use Rattle.branch_tree.specs.declared.found.Outcome.{Outcome}
 use Rattle.branch_tree.specs.declared.tree.Leaf.TheVariants as leaf
-use Rattle.search_machine.specs.Machine.{Machine, IsHeldIn, IsLive, IsOpen, IsHolding, no_desk, spot_stored, stored_at}
+use Rattle.search_machine.specs.Prelude.{Machine, IsHeldIn, IsLive, IsOpen, IsHolding, no_desk, spot_stored, stored_at, kept, children_by, tickets_of, IsMoveLegal, IsOrderly, IsTrueOutcome, IsTrueEvent, IsTrueStart, TreeHoldsAt, TreeRunsHold, AnyCost, IsLegalBy}
 use Rattle.search_machine.specs.declared.holder.Holder.{Holder}
 use Rattle.search_machine.specs.declared.stored.Stored.{Stored}
 use Rattle.std.specs.Option.{IfSome}
 use Rattle.branch_tree.specs.declared.tree.Spot.TheVariants as spot
-use Rattle.search_machine.specs.Moves.{kept, children_by, tickets_of, IsMoveLegal}
 use Rattle.search_machine.specs.declared.event.Move.{Move}
 use Rattle.search_machine.specs.declared.event.Move.TheVariants.{Again, Prune}
 use Rattle.search_machine.specs.declared.event.Event.TheVariants as event
-use Rattle.search_machine.specs.Orderly.{IsOrderly}
-use Rattle.search_machine.specs.Runs.{IsTrueOutcome, IsTrueEvent, IsTrueStart, TreeHoldsAt, TreeRunsHold}
-use Rattle.search_machine.specs.Steps.{AnyCost, IsLegalBy}
 use Rattle.search_machine.proofs.Claims.{IsHoldable, holdable, holder_place, one_held}
 use Rattle.search_machine.proofs.Growth.{tree_grows, leaf_part, holds_of_leaf}
 use Rattle.search_machine.proofs.OrderlySteps.{free_for, sound_of}

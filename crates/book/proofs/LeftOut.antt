@@ -6,14 +6,12 @@ use Rattle.std.proofs.lemmas.List.{map-append}
 use Rattle.std.proofs.lemmas.List.Sums.{sum_by-cons}
 use Rattle.std.proofs.lemmas.Option.{slice_get_within}
 use Rattle.branch_tree.proofs.Changes.{get-append, get-set_same, get-set_other}
-use Rattle.search_machine.specs.Machine.{Machine, holder_in, holder_of, IsHeldIn, IsHolding}
+use Rattle.search_machine.specs.Prelude.{Machine, holder_in, holder_of, IsHeldIn, IsHolding, IsTrueEvent, IsTrueRunBy, after_all, AnyCost, IsLegalBy, committed, committed_by, after}
 use Rattle.search_machine.specs.declared.holder.Holder.{Holder}
 use Rattle.search_machine.specs.declared.event.Move.{Move}
 use Rattle.branch_tree.specs.declared.found.Outcome.{Outcome}
 use Rattle.dual_model.specs.declared.table.Table.{Table}
-use Rattle.search_machine.specs.Runs.{IsTrueEvent, IsTrueRunBy, after_all}
 use Rattle.uc_model.specs.declared.instance.Instance.{Instance}
-use Rattle.search_machine.specs.Steps.{AnyCost, IsLegalBy, committed, committed_by, after}
 use Rattle.search_machine.specs.declared.event.Event.{Event}
 use Rattle.search_machine.specs.declared.event.Event.TheVariants as event
 use Rattle.search_machine.proofs.Claims.{holder_place}

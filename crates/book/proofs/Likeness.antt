@@ -3,19 +3,16 @@
 use Rattle.std.proofs.Common.{◌≡◌, ◌≢◌, ℕ, suc, ◌-◌, ◌<◌, Bool, true, false, cond, All, List, [], ◌∷◌, length, map, refl, ap, sym, ◌∙◌, subst, Option, Some, None, slice_get, slice_set, ◌==◌, ◌⊎◌}
 use Rattle.std.proofs.lemmas.List.{map-append, length-map, nil_from_length}
 use Rattle.std.proofs.lemmas.List.Elements.{All-map}
-use Rattle.branch_tree.specs.TreeView.{HasFreeCell}
-use Rattle.search_machine.specs.Machine.{Machine, holder_in, holder_of, IsHolding, entries_of}
+use Rattle.branch_tree.specs.Prelude.{HasFreeCell}
+use Rattle.search_machine.specs.Prelude.{Machine, holder_in, holder_of, IsHolding, entries_of, IsMoveLegal, tickets_of, IsTrueEvent, AnyCost, IsLegalBy, committed, committed_by, after, with_desk, with_tickets}
 use Rattle.branch_tree.specs.declared.found.Entry.{Entry}
 use Rattle.dual_model.specs.declared.table.Table.{Table}
 use Rattle.search_machine.specs.declared.holder.Holder.{Holder}
 use Rattle.search_machine.specs.declared.desk.Desk.{Desk}
-use Rattle.search_machine.specs.Moves.{IsMoveLegal, tickets_of}
 use Rattle.search_machine.specs.declared.event.Move.TheVariants.{Again, Prune}
 use Rattle.search_machine.specs.declared.event.Move.{Move}
 use Rattle.branch_tree.specs.declared.found.Outcome.{Outcome}
-use Rattle.search_machine.specs.Runs.{IsTrueEvent}
 use Rattle.uc_model.specs.declared.instance.Instance.{Instance}
-use Rattle.search_machine.specs.Steps.{AnyCost, IsLegalBy, committed, committed_by, after, with_desk, with_tickets}
 use Rattle.search_machine.specs.declared.event.Event.TheVariants as event
 use Rattle.search_machine.proofs.Claims.{one_held}
 use Rattle.book.specs.Replay.{with_unit}

@@ -3,7 +3,7 @@ use Rattle.std.proofs.Common.{◌≡◌, ◌≢◌, ℕ, suc, ◌+◌, ◌<◌, 
 use Rattle.std.proofs.lemmas.Bool.{cases_eq, cases_lt, ne_eqb}
 use Rattle.std.proofs.lemmas.List.Elements.{All-nil, All-cons}
 use Rattle.std.proofs.lemmas.Option.{slice_get_within, slice_get-get_or, get_or_from_slice_get}
-use Rattle.search_machine.specs.Machine.{entries_of}
+use Rattle.search_machine.specs.Prelude.{entries_of}
 use Rattle.search_machine.proofs.Claims.{get_push_cases, get_push_last, get_set_cases}
 use Rattle.search_machine.proofs.OwnSteps.{entries_own, entries_same, no_entries, all_of_node}
 use Rattle.book.specs.inside.Chains.{Entry, Table, IsNewest, AreLinked, IsElsewhere, IsWalked}

@@ -2,7 +2,7 @@
 use Rattle.std.proofs.Common.{◌≡◌, ◌≢◌, ℕ, ◌<◌, Bool, true, false, List, [], ◌∷◌, ◌++◌, length, set, refl, ap, sym, ◌∙◌, subst, arith, ⊎_elim, Option, Some, None, slice_get, slice_index_or, get_or-set_same, get_or-set_other, length-set}
 use Rattle.std.proofs.lemmas.Bool.{cases_eq}
 use Rattle.std.proofs.lemmas.List.{map-append}
-use Rattle.search_machine.specs.Machine.{IsHeldIn}
+use Rattle.search_machine.specs.Prelude.{IsHeldIn}
 use Rattle.search_machine.specs.declared.holder.Holder.{Holder}
 use Rattle.search_machine.proofs.Claims.{get_push_cases, get_set_cases, held_more, held_new, held_before, still_held, was_held}
 use Rattle.book.specs.Claims.{Claim, Held, holder_by, holder_of, holders}

@@ -6,7 +6,7 @@ use Rattle.std.proofs.lemmas.Int.{ints, int_max_is}
 use Rattle.std.proofs.lemmas.List.Elements.{All-push}
 use Rattle.std.proofs.lemmas.Option.{slice_get_within, get_or_from_slice_get}
 use Rattle.branch_tree.proofs.Changes.{get-append}
-use Rattle.search_machine.specs.Machine.{entries_of}
+use Rattle.search_machine.specs.Prelude.{entries_of}
 use Rattle.search_machine.proofs.Claims.{get_push_last}
 use Rattle.book.specs.inside.Chains.{Entry, Table, IsElsewhere, raised, IsScaleNoted}
 use Rattle.book.proofs.Links.{all_entries}

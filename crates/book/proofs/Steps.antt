@@ -6,14 +6,11 @@ use Rattle.std.proofs.lemmas.List.{map-append, length-map, length-replicate, get
 use Rattle.std.proofs.lemmas.List.Elements.{All-nil, All-push}
 use Rattle.std.proofs.lemmas.Simd.{map-map}
 use Rattle.std.proofs.lemmas.Option.{get_or_from_slice_get}
-use Rattle.branch_tree.specs.Claims.{table_at, no_table}
-use Rattle.search_machine.specs.Machine.{Machine, no_desk, first_desk, IsOpen, IsHolding}
+use Rattle.branch_tree.specs.Prelude.{table_at, no_table}
+use Rattle.search_machine.specs.Prelude.{Machine, no_desk, first_desk, IsOpen, IsHolding, tickets_of, IsTrueEvent, IsTrueRunBy, after_all, AnyCost, IsLegalBy, after, with_desk, with_tickets}
 use Rattle.search_machine.specs.declared.holder.Holder.{Holder}
-use Rattle.search_machine.specs.Moves.{tickets_of}
 use Rattle.branch_tree.specs.declared.found.Outcome.{Outcome}
-use Rattle.search_machine.specs.Runs.{IsTrueEvent, IsTrueRunBy, after_all}
 use Rattle.uc_model.specs.declared.instance.Instance.{Instance}
-use Rattle.search_machine.specs.Steps.{AnyCost, IsLegalBy, after, with_desk, with_tickets}
 use Rattle.search_machine.specs.declared.event.Event.{Event}
 use Rattle.search_machine.specs.declared.event.Event.TheVariants as event
 use Rattle.search_machine.proofs.Claims.{get_push_last}

@@ -5,7 +5,7 @@ use Rattle.std.proofs.lemmas.List.{map-append, map-set, length-map}
 use Rattle.std.proofs.lemmas.List.Elements.{All-head, All-tail, filter-append}
 use Rattle.std.proofs.lemmas.Option.{slice_get-map, get_or_from_slice_get, slice_get_within}
 use Rattle.branch_tree.proofs.Changes.{from_some, get-append}
-use Rattle.search_machine.specs.Machine.{holder_in, IsHeldIn}
+use Rattle.search_machine.specs.Prelude.{holder_in, IsHeldIn}
 use Rattle.search_machine.specs.declared.holder.Holder.{Holder}
 use Rattle.search_machine.proofs.Claims.{holder_place}
 use Rattle.book.specs.BookView.{Entry}

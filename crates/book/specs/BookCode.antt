@@ -2,8 +2,7 @@
 use Rattle.std.specs.Prelude.{ℕ, List, refl}
 use Rattle.std.specs.Coded.{Coded, code_by, coded_ℕ, coded_list, coded×}
 use Rattle.dual_model.specs.contracts.table.Table as table
-use Rattle.branch_tree.specs.TreeView.{TreeView}
-use Rattle.branch_tree.specs.TreeCode.{tree_view_code}
+use Rattle.branch_tree.specs.Prelude.{TreeView, tree_view_code}
 use Rattle.branch_tree.specs.contracts.found.Entry as entry
 use Rattle.book.specs.contracts.claims.Claim as claim
 use Rattle.book.specs.BookView.{Entry, Table, BookView}

@@ -1,14 +1,13 @@
 -- What contracts see of a book: a tree with its tables, its log and its claims, and the state of the search machine that it is. This
 -- project's own form.
 use Rattle.std.specs.Prelude.{ℕ, List, [], ◌∷◌, None, replicate, false}
-use Rattle.uc_model.specs.Schedule.{thermal_count}
-use Rattle.branch_tree.specs.NumberedTree.{EndAt}
-use Rattle.branch_tree.specs.TreeView.{TreeView}
+use Rattle.uc_model.specs.Prelude.{thermal_count}
+use Rattle.branch_tree.specs.Prelude.{EndAt, TreeView}
 use Rattle.branch_tree.specs.declared.tree.Leaf.TheVariants as leaf
-pub use Rattle.search_machine.specs.Machine.{Machine}
+pub use Rattle.search_machine.specs.Prelude.{Machine}
 pub use Rattle.branch_tree.specs.declared.found.Entry.{Entry}
 pub use Rattle.dual_model.specs.declared.table.Table.{Table}
-use Rattle.search_machine.specs.Machine.{no_desk, room_for}
+use Rattle.search_machine.specs.Prelude.{no_desk, room_for}
 use Rattle.book.specs.Claims.{Claim, holders}
 use Rattle.book.specs.Opening.{Opening}
 

@@ -1,14 +1,10 @@
 -- What each call of a book answers, and what it leaves. This project's own form.
 use Rattle.std.specs.Prelude.{◌≡◌, ◌≢◌, ℕ, suc, Bool, true, false, [], ◌∷◌, ◌++◌, ℤ, Some, length, slice_get}
-use Rattle.branch_tree.specs.NumberedTree.{spot_at}
-use Rattle.branch_tree.specs.StoredTree.{IsNodeAt}
-use Rattle.branch_tree.specs.TreeView.{TreeView, HasFreeCell}
+use Rattle.branch_tree.specs.Prelude.{spot_at, IsNodeAt, TreeView, HasFreeCell}
 use Rattle.branch_tree.specs.declared.tree.Spot.TheVariants as spot
 pub use Rattle.dual_model.specs.declared.node.Node.{Node}
-use Rattle.search_machine.specs.Machine.{IsOpen, IsHolding, entries_of, stored_at}
-use Rattle.search_machine.specs.Moves.{IsMoveLegal, kept, tree_after}
+use Rattle.search_machine.specs.Prelude.{IsOpen, IsHolding, entries_of, stored_at, IsMoveLegal, kept, tree_after, IsFresh, IsStoredTable}
 use Rattle.branch_tree.specs.declared.found.Outcome.{Outcome}
-use Rattle.search_machine.specs.Steps.{IsFresh, IsStoredTable}
 use Rattle.book.specs.BookView.{BookView, Table, state_of}
 use Rattle.book.specs.Claims.{Move, Held, Committed, GivenBack, ended}
 use Rattle.book.specs.declared.claims.Claimed.{Claimed}

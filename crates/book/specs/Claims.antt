@@ -3,7 +3,7 @@
 use Rattle.std.specs.Prelude.{◌≡◌, ℕ, zero, suc, ◌-◌, ◌≤◌, Bool, true, false, List, [], ◌∷◌, Option, Some, None, filter, map, slice_set, slice_index_or, if◌then◌else◌}
 pub use Rattle.search_machine.specs.declared.holder.Holder.{Holder}
 pub use Rattle.search_machine.specs.declared.event.Move.{Move}
-use Rattle.search_machine.specs.Machine.{holder_in}
+use Rattle.search_machine.specs.Prelude.{holder_in}
 use Rattle.search_machine.specs.declared.event.Move.TheVariants.{Again}
 pub use Rattle.book.specs.declared.claims.Claim.{Claim}
 pub use Rattle.book.specs.declared.claims.Status.{Status}

@@ -1,16 +1,13 @@
 -- With what a book begins. This project's own form.
 use Rattle.std.specs.Prelude.{ℕ, ◌≤◌, ℤ, pos, ◌<ℤ◌, false, []}
-use Rattle.uc_model.specs.Limits.{IsLawfulInstance}
-use Rattle.uc_model.specs.Schedule.{thermal_count}
+use Rattle.uc_model.specs.Prelude.{IsLawfulInstance, thermal_count}
 pub use Rattle.uc_model.specs.declared.instance.Instance.{Instance}
 pub use Rattle.uc_model.specs.declared.tolerance.TheConstants.{WHOLE_GAP}
-use Rattle.dual_model.specs.Cover.{IsTableBound}
-use Rattle.dual_model.specs.Prices.{IsLawfulTable}
-use Rattle.dual_model.specs.Tree.{root}
-use Rattle.branch_tree.specs.Claims.{no_table}
-pub use Rattle.search_machine.specs.Machine.{Machine}
+use Rattle.dual_model.specs.Prelude.{IsTableBound, IsLawfulTable, root}
+use Rattle.branch_tree.specs.Prelude.{no_table}
+pub use Rattle.search_machine.specs.Prelude.{Machine}
 pub use Rattle.dual_model.specs.declared.table.Table.{Table}
-use Rattle.search_machine.specs.Machine.{start_of}
+use Rattle.search_machine.specs.Prelude.{start_of}
 pub use Rattle.search_machine.specs.declared.limits.TheConstants.{MAX_BUDGET}
 
 -- the instance, for how many claims there is room, the gap in parts per million, and the root's table with its bound

@@ -2,7 +2,7 @@
 -- as many of them as the log had at that claim; the units that were given back are left out, and the others are numbered anew. This
 -- project's own form.
 use Rattle.std.specs.Prelude.{ℕ, ◌-◌, List, [], ◌∷◌, ◌++◌, None, map, take, drop}
-use Rattle.branch_tree.specs.Claims.{table_at}
+use Rattle.branch_tree.specs.Prelude.{table_at}
 use Rattle.search_machine.specs.declared.desk.Desk.{Desk}
 pub use Rattle.search_machine.specs.declared.event.Event.{Event}
 use Rattle.search_machine.specs.declared.event.Event.TheVariants as event

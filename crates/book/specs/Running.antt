@@ -1,9 +1,8 @@
 -- What holds of a book whenever its lock is free. Source: this project's own form; the machine is that of `search_machine`.
 use Rattle.std.specs.Prelude.{◌≡◌, ℕ, suc, ◌<◌, ◌≤◌, All, List, Option, Some, length, slice_get}
-use Rattle.branch_tree.specs.TrueFound.{IsTrueLog}
+use Rattle.branch_tree.specs.Prelude.{IsTrueLog}
 use Rattle.search_machine.specs.declared.desk.Desk.{Desk}
-use Rattle.search_machine.specs.Steps.{AnyCost}
-use Rattle.search_machine.specs.Runs.{IsTrueRunBy, TreeHoldsAt, after_all}
+use Rattle.search_machine.specs.Prelude.{AnyCost, IsTrueRunBy, TreeHoldsAt, after_all}
 use Rattle.book.specs.BookView.{BookView, Entry}
 use Rattle.book.specs.Claims.{Claim, Holder, Move, Committed, holders, IsRising}
 use Rattle.book.specs.Opening.{Opening, start_by}

@@ -2,12 +2,9 @@
 use Rattle.std.proofs.Common.{◌≡◌, ℕ, ◌⊎◌, Bool, true, false, List, length, get_or, map, ℤ, refl, ap, sym, ◌∙◌, subst, arith, ⊎_elim, Option, Some, None, slice_get, inl, inr, ◌≤ℤ◌}
 use Rattle.std.proofs.lemmas.List.{get_or-map}
 use Rattle.std.proofs.lemmas.Option.{slice_get_within, slice_get-get_or, get_or_from_slice_get}
-use Rattle.uc_model.proofs.Ring.{linear}
-use Rattle.dual_model.specs.Tree.{root, child, Ends, Splits, map_leaves, EachLeaf}
-use Rattle.dual_model.specs.ValueKind.{HasBlockedUnit}
+use Rattle.uc_model.proofs.Common.{linear}
+use Rattle.dual_model.specs.Prelude.{root, child, Ends, Splits, map_leaves, EachLeaf, HasBlockedUnit, IsBoundedBy, HasBoundOf, IsExcluded, LeafHolds, IsClaimTrue}
 use Rattle.dual_model.specs.Tree as branch
-use Rattle.dual_model.specs.Cover.{IsBoundedBy, HasBoundOf, IsExcluded, LeafHolds}
-use Rattle.dual_model.specs.Laws.{IsClaimTrue}
 use Rattle.dual_model.proofs.Covers.{covers_bound, covers_exclude}
 use Rattle.branch_tree.specs.NumberedTree.{Node, NumberedTree, EndAt, SplitAt, Subtree, unnumbered, spot_of, subtree_below}
 use Rattle.branch_tree.specs.Places.{Inside, Place, HasPlaces, ArePlacesOf, tree_from, place_bound, view_of, IsStored}

@@ -5,8 +5,7 @@ use Rattle.std.specs.Vec.{vec_capacity}
 use Rattle.std.proofs.lemmas.Bool.{cases_lt, cases_eq, eq-eqb, ne_eqb}
 use Rattle.std.proofs.lemmas.List.{map-set, map-append, length-map}
 use Rattle.std.proofs.lemmas.Option.{slice_get_within, same_Some, slice_get-get_or, slice_get_read, get_or_from_slice_get}
-use Rattle.dual_model.specs.Tree.{root, child, is_decided, IsCoverBelow, IsCover}
-use Rattle.dual_model.specs.Fixings.{IsCell}
+use Rattle.dual_model.specs.Prelude.{root, child, is_decided, IsCoverBelow, IsCover, IsCell}
 use Rattle.branch_tree.specs.NumberedTree.{Node, Spot, NumberedTree, EndAt, SplitAt, Subtree, no_tree, number_of, spot_of, node_count, times, subtree_below, subtree_at, spot_at, Leaf, replaced, unnumbered, split_leaf}
 use Rattle.branch_tree.specs.Places.{Inside, Place, HasPlace, HasPlaces, ArePlacesOf, grown_from, trees_of, tree_from, place_bound, IsStored, view_of}
 use Rattle.branch_tree.specs.declared.tree.Spot.TheVariants as spot

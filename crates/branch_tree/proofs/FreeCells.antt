@@ -2,7 +2,7 @@
 use Rattle.std.proofs.Common.{◌≡◌, ◌↔◌, ℕ, ◌<◌, Bool, true, false, not, refl, ap, sym, ◌∙◌, subst, Option, Some, None, IfSome, MatchOption, IsTrue}
 use Rattle.std.specs.Option.{option_map_or}
 use Rattle.std.proofs.lemmas.Bool.{true≢false}
-use Rattle.dual_model.specs.Tree.{is_decided}
+use Rattle.dual_model.specs.Prelude.{is_decided}
 use Rattle.branch_tree.specs.NumberedTree.{Node, NumberedTree, node_at}
 use Rattle.branch_tree.specs.TreeView.{TreeView, IsFreeAt, HasFreeCell}
 use Rattle.branch_tree.specs.inside.Paths.{is_undecided_at}

@@ -4,7 +4,7 @@ use Rattle.std.proofs.Common.{◌≡◌, ◌≢◌, ℕ, suc, ◌+◌, ◌<◌, 
 use Rattle.std.specs.Option.{option_or, option_map}
 use Rattle.std.proofs.lemmas.Bool.{eq-eqb, ne_eqb, cases_lt}
 use Rattle.std.proofs.lemmas.Option.{slice_get-get_or}
-use Rattle.dual_model.specs.Tree.{root, child, EachLeaf}
+use Rattle.dual_model.specs.Prelude.{root, child, EachLeaf}
 use Rattle.dual_model.specs.Tree as branch
 use Rattle.branch_tree.specs.NumberedTree.{Node, Spot, Leaf, NumberedTree, EndAt, SplitAt, Subtree, IsNumbered, unnumbered, number_of, spot_of, node_count, times, subtree_below, subtree_at, spot_at, node_at, replaced, split_leaf}
 use Rattle.branch_tree.specs.Places.{Place, ArePlacesOf, IsPlaced}

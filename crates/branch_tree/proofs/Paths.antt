@@ -7,7 +7,7 @@ use Rattle.std.proofs.lemmas.List.{reverse-append, same_from_push, take_all, tak
 use Rattle.std.proofs.lemmas.List.Folds.{list_any-append}
 use Rattle.std.specs.Option.{option_map, option_map_or}
 use Rattle.std.proofs.lemmas.Option.{same_Some, slice_get_within}
-use Rattle.dual_model.specs.Tree.{root, child, is_decided}
+use Rattle.dual_model.specs.Prelude.{root, child, is_decided}
 use Rattle.dual_model.specs.declared.node.Fixing.{Fixing}
 use Rattle.branch_tree.specs.NumberedTree.{Node, NumberedTree, EndAt, SplitAt, Subtree, IsNumbered, number_of, spot_of, subtree_below, subtree_at, node_at}
 use Rattle.branch_tree.specs.Places.{Place, HasPlaces, ArePlacesOf}

@@ -9,7 +9,7 @@ use Rattle.std.proofs.lemmas.List.Elements.{All-nil, All-cons, All-append, filte
 use Rattle.std.proofs.lemmas.Option.{same_Some}
 use Rattle.std.proofs.lemmas.List.Concat.{flat_map-append}
 use Rattle.std.proofs.lemmas.List.Folds.{list_any-append}
-use Rattle.dual_model.specs.Tree.{root, child}
+use Rattle.dual_model.specs.Prelude.{root, child}
 use Rattle.branch_tree.specs.NumberedTree.{Node, Spot, NumberedTree, EndAt, SplitAt, Subtree, IsNumbered, number_of, spot_of, children_of, numbers, node_count, subtree_at, spot_at, Leaf, unnumbered}
 use Rattle.branch_tree.specs.declared.tree.Spot.TheVariants as spot
 use Rattle.branch_tree.specs.UsedTables.{leaves, leaf_tables, spot_tables, stored_tables, each_once}

@@ -3,7 +3,7 @@ use Rattle.std.proofs.Common.{◌≡◌, ℕ, ◌+◌, ◌*◌, ◌≤◌, ◌�
 use Rattle.std.specs.Option.{option_or}
 use Rattle.std.proofs.lemmas.Bool.{cases_Bool, eqb-true, eqb-false, eq-eqb, ne_eqb, cases_lt}
 use Rattle.std.proofs.lemmas.Option.{same_Some}
-use Rattle.dual_model.specs.Tree.{child}
+use Rattle.dual_model.specs.Prelude.{child}
 use Rattle.branch_tree.specs.NumberedTree.{Leaf, NumberedTree, EndAt, SplitAt, number_of, total, times, replaced, Node, Subtree, spot_of, subtree_below}
 use Rattle.branch_tree.specs.declared.tree.Spot.TheVariants as spot
 

@@ -1,11 +1,9 @@
 -- What the leaves of a search's tree claim, and the certificate that a found answer stands for. This project's own form.
 use Rattle.std.specs.Prelude.{◌≡◌, ℕ, ◌<◌, true, false, List, [], ℤ, pos, Option, Some, None, All, length, slice_index_or, map}
-use Rattle.uc_model.specs.Schedule.{thermal_count, renewable_count}
+use Rattle.uc_model.specs.Prelude.{thermal_count, renewable_count}
 use Rattle.uc_model.specs.declared.schedule.Printed.{Printed}
-use Rattle.dual_model.specs.Tree.{map_leaves}
-use Rattle.dual_model.specs.Cover.{Bound, Ray, Empty}
+use Rattle.dual_model.specs.Prelude.{map_leaves, Bound, Ray, Empty, Certificate, WrittenSchedule}
 use Rattle.dual_model.specs.Cover as cover
-use Rattle.dual_model.specs.Certificate.{Certificate, WrittenSchedule}
 pub use Rattle.dual_model.specs.declared.table.Table.{Table}
 use Rattle.branch_tree.specs.NumberedTree.{Leaf, numbers}
 use Rattle.branch_tree.specs.TreeView.{Instance, tree_of}

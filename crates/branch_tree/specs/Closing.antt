@@ -1,7 +1,7 @@
 -- When a search is closed, and the exit status of what it found. Source: the relative gap of a mixed-integer solver; the
 -- statuses are this project's own.
 use Rattle.std.specs.Prelude.{ℕ, Bool, false, ℤ, pos, ◌-ℤ◌, int_le, Option, Some, None, if◌then◌else◌}
-use Rattle.uc_model.specs.Tolerance.{tolerance_of}
+use Rattle.uc_model.specs.Prelude.{tolerance_of}
 use Rattle.uc_model.specs.declared.schedule.Printed.{Printed}
 use Rattle.branch_tree.specs.StoredTree.{tree_bound}
 use Rattle.branch_tree.specs.declared.found.Found.{Found}

@@ -1,6 +1,6 @@
 -- Trees of values V alone, of which no leaf stores or claims anything by VE. This project's own form.
 use Rattle.std.specs.Prelude.{◌≡◌, false}
-use Rattle.dual_model.specs.Tree.{root, EachLeaf}
+use Rattle.dual_model.specs.Prelude.{root, EachLeaf}
 use Rattle.branch_tree.specs.NumberedTree.{Leaf}
 use Rattle.branch_tree.specs.TreeView.{TreeView, tree_of}
 use Rattle.branch_tree.specs.declared.tree.Leaf.TheVariants as leaf

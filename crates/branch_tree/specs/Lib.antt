@@ -10,3 +10,4 @@ pub mod Kinds
 pub mod Claims
 pub mod TrueFound
 pub mod inside
+pub mod Prelude

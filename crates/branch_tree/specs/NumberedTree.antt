@@ -2,7 +2,7 @@
 -- how a leaf is replaced. This project's own form.
 use Rattle.std.specs.Prelude.{◌≡◌, ℕ, ◌+◌, ◌<◌, ◌≤◌, ◌==◌, true, false, List, [], ◌∷◌, ◌++◌, Option, Some, None, if◌then◌else◌}
 use Rattle.std.specs.Option.{option_or, option_map}
-use Rattle.dual_model.specs.Tree.{Ends, Splits, root, child}
+use Rattle.dual_model.specs.Prelude.{Ends, Splits, root, child}
 use Rattle.dual_model.specs.Tree as branch
 pub use Rattle.dual_model.specs.declared.node.Node.{Node}
 pub use Rattle.branch_tree.specs.declared.tree.Leaf.{Leaf}

@@ -1,7 +1,7 @@
 -- The bounds that are stored at the leaves of a tree. This project's own form.
 use Rattle.std.specs.Prelude.{◌≡◌, ℕ, ℤ, ◌≤ℤ◌, Option, Some, None}
 use Rattle.std.specs.Int.{int_min}
-use Rattle.dual_model.specs.Tree.{Ends, Splits}
+use Rattle.dual_model.specs.Prelude.{Ends, Splits}
 use Rattle.dual_model.specs.Tree as branch
 use Rattle.branch_tree.specs.NumberedTree.{Node, Spot, Leaf, node_at}
 use Rattle.branch_tree.specs.TreeView.{TreeView, tree_of}

@@ -1,13 +1,10 @@
 -- The laws of covers, of what contracts see of a tree. Source: branch and bound on the commitment variables of the reference
 -- model by Knueven, Ostrowski and Watson.
 use Rattle.std.specs.Prelude.{◌≡◌, true, false, List, ℤ}
-use Rattle.uc_model.specs.Limits.{IsLawfulInstance}
-use Rattle.uc_model.specs.Schedule.{Schedule}
-use Rattle.dual_model.specs.Tree.{root, agreeing_leaves, map_leaves, EachLeaf}
+use Rattle.uc_model.specs.Prelude.{IsLawfulInstance, Schedule}
+use Rattle.dual_model.specs.Prelude.{root, agreeing_leaves, map_leaves, EachLeaf, Bound, Ray, Empty, IsBoundedBy, IsExcluded, Holds, AllExcluded, AreTablesLawful, IsLowerBound, IsInfeasible, IsClaimTrue}
 use Rattle.dual_model.specs.Tree as branch
-use Rattle.dual_model.specs.Cover.{Bound, Ray, Empty, IsBoundedBy, IsExcluded, Holds, AllExcluded}
 use Rattle.dual_model.specs.Cover as cover
-use Rattle.dual_model.specs.Laws.{AreTablesLawful, IsLowerBound, IsInfeasible, IsClaimTrue}
 pub use Rattle.dual_model.specs.declared.table.Table.{Table}
 use Rattle.branch_tree.specs.TreeView.{Instance, Node, tree_of}
 use Rattle.branch_tree.specs.StoredTree.{tree_bound}

@@ -1,8 +1,8 @@
 -- What contracts see of a tree, what every tree keeps, and the conditions of a change. This project's own form.
 use Rattle.std.specs.Prelude.{◌≡◌, ℕ, ◌^◌, ◌<◌, ◌≤◌, Bool, false, ℤ, pos, Some, not, IsTrue}
-use Rattle.uc_model.specs.Schedule.{thermal_count}
+use Rattle.uc_model.specs.Prelude.{thermal_count}
 pub use Rattle.uc_model.specs.declared.instance.Instance.{Instance}
-use Rattle.dual_model.specs.Tree.{is_decided, IsCover}
+use Rattle.dual_model.specs.Prelude.{is_decided, IsCover}
 use Rattle.dual_model.specs.Tree as branch
 pub use Rattle.dual_model.specs.declared.node.Node.{Node}
 use Rattle.branch_tree.specs.NumberedTree.{Leaf, NumberedTree, EndAt, IsNumbered, unnumbered, node_count, spot_at, node_at}

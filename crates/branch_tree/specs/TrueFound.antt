@@ -1,9 +1,7 @@
 -- When what a search found is true: a tree that holds, a schedule that obeys, and a true log. This project's own statement.
 use Rattle.std.specs.Prelude.{◌≡◌, ◌≢◌, Bool, List, Some, All, AllPairs, slice_get}
 use Rattle.uc_model.specs.declared.instance.Instance.{Instance}
-use Rattle.dual_model.specs.Prices.{IsLawfulTable}
-use Rattle.dual_model.specs.ValueKind.{IsValueOf, IsFirstBlocked}
-use Rattle.dual_model.specs.Certificate.{CertificateHolds}
+use Rattle.dual_model.specs.Prelude.{IsLawfulTable, IsValueOf, IsFirstBlocked, CertificateHolds}
 use Rattle.dual_model.specs.declared.node.Node.{Node}
 use Rattle.branch_tree.specs.declared.found.Entry.{Entry}
 use Rattle.branch_tree.specs.declared.found.Outcome.{Outcome}

@@ -1,6 +1,6 @@
 -- Which tables a tree uses, and in which order. This project's own form.
 use Rattle.std.specs.Prelude.{ℕ, suc, not, ◌==◌, List, [], ◌∷◌, ◌++◌, filter, flat_map, if◌then◌else◌}
-use Rattle.dual_model.specs.Tree.{Tree, Ends, Splits}
+use Rattle.dual_model.specs.Prelude.{Tree, Ends, Splits}
 use Rattle.branch_tree.specs.declared.tree.Leaf.{Leaf}
 use Rattle.branch_tree.specs.declared.tree.Leaf.TheVariants as leaf
 use Rattle.branch_tree.specs.declared.tree.Spot.{Spot}

@@ -1,14 +1,9 @@
 -- The least reduced cost of a cell against its term, and against the cells of a schedule that obeys.
 use Rattle.std.proofs.Common.{◌≡◌, ℕ, ⊎_elim, sym, ap, subst, ◌∙◌, arith, List, ℤ, pos, ◌+ℤ◌, ◌*ℤ◌, ◌≤ℤ◌, ◌<ℤ◌}
-use Rattle.uc_model.specs.Commitment.{cap}
-use Rattle.uc_model.specs.Rules.{Production, StartCap, StopCap}
-use Rattle.uc_model.specs.Schedule.{thermal_unit, weight_sum}
-use Rattle.uc_model.specs.Sums.{bit}
+use Rattle.uc_model.specs.Prelude.{cap, Production, StartCap, StopCap, thermal_unit, weight_sum, bit}
 use Rattle.uc_model.specs.declared.instance.Point.{Point}
-use Rattle.uc_model.proofs.Ring.{linear, le_antisymm, le_from_mul, le_or_lt, mul-add, mul-le-mul_left, mul-one, mul_assoc, mul_comm, mul_left_comm, scale-le-scale}
-use Rattle.uc_model.proofs.Tests.{int_le-true}
-use Rattle.uc_model.proofs.Obeyed.{rule_at, production_parts}
-use Rattle.dual_model.specs.Term.{IsTerm, weighted_total, weighted_output, weighted_cost}
+use Rattle.uc_model.proofs.Common.{linear, le_antisymm, le_from_mul, le_or_lt, mul-add, mul-le-mul_left, mul-one, mul_assoc, mul_comm, mul_left_comm, scale-le-scale, int_le-true, rule_at, production_parts}
+use Rattle.dual_model.specs.Prelude.{IsTerm, weighted_total, weighted_output, weighted_cost}
 use Rattle.dual_model.proofs.PricedRules.{within_cap}
 use Rattle.cell_least.specs.CellLeast.{IsCellLeast, LeastsAreOne, LeastsBoundCells, TermsAreFloors}
 

@@ -1,14 +1,10 @@
 -- The least reduced cost of a cell itself, as a fraction: the term is its floor. Source: the Lagrangian relaxation of the reference
 -- model by Knueven, Ostrowski and Watson, as the term; the bound of an exact dispatch isn't rounded.
 use Rattle.std.specs.Prelude.{◌≡◌, ℕ, ◌<◌, ◌≤◌, List, ℤ, pos, ◌+ℤ◌, ◌*ℤ◌, ◌≤ℤ◌, ◌<ℤ◌, IsTrue}
-use Rattle.uc_model.specs.Commitment.{cap}
-use Rattle.uc_model.specs.Cost.{production_cost}
-use Rattle.uc_model.specs.Division.{IsFloor}
-use Rattle.uc_model.specs.Rules.{Obeys}
-use Rattle.uc_model.specs.Schedule.{Schedule, thermal_unit, thermal_count, p_at}
+use Rattle.uc_model.specs.Prelude.{cap, production_cost, IsFloor, Obeys, Schedule, thermal_unit, thermal_count, p_at}
 use Rattle.uc_model.specs.declared.instance.Instance.{Instance}
 use Rattle.uc_model.specs.declared.instance.Point.{Point}
-use Rattle.dual_model.specs.Term.{IsCellBound, IsTerm, output_price, reserve_price, weighted_total, weighted_output, weighted_cost}
+use Rattle.dual_model.specs.Prelude.{IsCellBound, IsTerm, output_price, reserve_price, weighted_total, weighted_output, weighted_cost}
 use Rattle.dual_model.specs.declared.table.Table.{Table}
 
 -- n / d is the least reduced cost K*cost + A*p + B*r of weights and a reserve with p + r <= room: none costs less, and some cost as much

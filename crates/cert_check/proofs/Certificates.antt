@@ -6,10 +6,8 @@ use Rattle.std.proofs.Math.Seq.{get_or-append_right}
 use Rattle.std.proofs.lemmas.List.{get_or_append_left}
 use Rattle.std.proofs.lemmas.List.Elements.{All-head, All-tail, All-cons, All-nil, All-append}
 use Rattle.std.proofs.lemmas.List.Folds.{list_any-append}
-use Rattle.uc_model.specs.Schedule.{thermal_count}
-use Rattle.dual_model.specs.Tree.{Tree, Ends, Splits, root, child, IsCoverBelow, EachLeaf, any_leaf}
-use Rattle.dual_model.specs.Cover.{Leaf, Bound, Ray, Empty, IsExcluded, is_bound}
-use Rattle.dual_model.specs.Certificate.{Certificate, CertificateHolds, ClaimHolds}
+use Rattle.uc_model.specs.Prelude.{thermal_count}
+use Rattle.dual_model.specs.Prelude.{Tree, Ends, Splits, root, child, IsCoverBelow, EachLeaf, any_leaf, Leaf, Bound, Ray, Empty, IsExcluded, is_bound, Certificate, CertificateHolds, ClaimHolds}
 use Rattle.cert_text.specs.CertificateText.{TreeNode, LeafNode, SplitNode, preorder, IsNodeWithin}
 use Rattle.cert_check.specs.Visits.{Instance, Node, Table, Visit, visits, IsSoundNode, IsSound}
 use Rattle.cert_check.specs.Refusals.{HasSize, HasPrices, ClaimFits, HasClaim}

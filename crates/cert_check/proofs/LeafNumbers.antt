@@ -3,11 +3,9 @@ use Rattle.std.proofs.Common.{◌≡◌, ℕ, ◌<◌, Bool, true, false, IsTrue
 use Rattle.std.specs.Int.{int_div_euclid}
 use Rattle.std.proofs.lemmas.Bool.{false≢true}
 use Rattle.std.proofs.lemmas.Option.{same_Some}
-use Rattle.uc_model.specs.Schedule.{thermal_count}
-use Rattle.uc_model.proofs.Quotients.{IsFloor-greatest, IsFloor-int_div_euclid}
-use Rattle.uc_model.proofs.Ring.{linear, mul-le-mul_right}
-use Rattle.dual_model.specs.ValueKind.{IsValueOf, IsBlocked, HasBlockedUnit}
-use Rattle.dual_model.specs.Cover.{Bound, Ray, Empty, HasBoundOf, IsBoundedBy, IsExcludedByRay}
+use Rattle.uc_model.specs.Prelude.{thermal_count}
+use Rattle.uc_model.proofs.Common.{IsFloor-greatest, IsFloor-int_div_euclid, linear, mul-le-mul_right}
+use Rattle.dual_model.specs.Prelude.{IsValueOf, IsBlocked, HasBlockedUnit, Bound, Ray, Empty, HasBoundOf, IsBoundedBy, IsExcludedByRay}
 use Rattle.dual_model.proofs.ValueKinds.{values_are_unique}
 use Rattle.cert_text.specs.CertificateText.{LeafNode}
 use Rattle.leaf_values.specs.Reached.{HasValueFrom, least_value}

@@ -4,15 +4,11 @@ use Rattle.std.specs.List.{list_any}
 use Rattle.std.proofs.lemmas.Option.{none-some, same_Some, get_or_from_slice_get, slice_get_within}
 use Rattle.std.proofs.lemmas.List.Elements.{All-get_or, All-take}
 use Rattle.uc_model.specs.declared.refusal.Refusal.TheVariants as codes
-use Rattle.uc_model.specs.Rules.{Obeys}
-use Rattle.uc_model.specs.PrintedSchedule.{printed_denominator, printed_schedule}
-use Rattle.uc_model.proofs.Obeyed.{rule_at}
+use Rattle.uc_model.specs.Prelude.{Obeys, printed_denominator, printed_schedule}
+use Rattle.uc_model.proofs.Common.{rule_at}
 use Rattle.schedule_check.specs.FirstBroken.{IsFirstBroken}
-use Rattle.dual_model.specs.Prices.{IsLawfulTable}
-use Rattle.dual_model.specs.Tree.{root}
-use Rattle.dual_model.specs.Cover.{Bound, has_bound}
-use Rattle.dual_model.specs.Certificate.{Certificate, CertificateHolds, WrittenSchedule, ScheduleHolds}
-use Rattle.branch_tree.specs.Claims.{written_of}
+use Rattle.dual_model.specs.Prelude.{IsLawfulTable, root, Bound, has_bound, Certificate, CertificateHolds, WrittenSchedule, ScheduleHolds}
+use Rattle.branch_tree.specs.Prelude.{written_of}
 use Rattle.cert_text.specs.CertificateText.{Listing, listing_of, TreeNode, LeafNode, preorder, IsNodeWithin}
 use Rattle.cert_text.specs.TextConditions.{IsTableText, HasText}
 use Rattle.cert_text.specs.Reading.{listing_read, node_of}

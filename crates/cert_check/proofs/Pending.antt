@@ -1,7 +1,6 @@
 -- The places that are to come on a path, by its last decision; and the walk over the nodes of a tree in preorder.
 use Rattle.std.proofs.Common.{◌≡◌, ℕ, true, false, refl, sym, ap, ◌∙◌, List, [], ◌∷◌, ◌++◌, append_assoc, append-nil, if◌then◌else◌}
-use Rattle.dual_model.specs.Tree.{Tree, Ends, Splits, child}
-use Rattle.dual_model.specs.Cover.{Leaf}
+use Rattle.dual_model.specs.Prelude.{Tree, Ends, Splits, child, Leaf}
 use Rattle.cert_text.specs.CertificateText.{TreeNode, SplitNode, preorder}
 use Rattle.cert_check.specs.Visits.{Node, visits}
 use Rattle.cert_check.specs.inside.Walks.{Fixing, walk, other_child, pending, places}

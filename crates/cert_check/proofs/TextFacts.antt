@@ -1,8 +1,8 @@
 -- What a table meets whose text is of the instance's size: it has that size, and is lawful where its numbers are.
 use Rattle.std.proofs.Common.{◌≡◌, ℕ, ◌∙◌}
-use Rattle.uc_model.specs.Schedule.{thermal_count}
+use Rattle.uc_model.specs.Prelude.{thermal_count}
 use Rattle.uc_model.specs.declared.instance.Instance.{Instance}
-use Rattle.dual_model.specs.Prices.{HasSizeOf, IsLawfulTable}
+use Rattle.dual_model.specs.Prelude.{HasSizeOf, IsLawfulTable}
 use Rattle.cert_text.specs.TextConditions.{IsTableText}
 use Rattle.cert_check.specs.inside.Numbers.{Table, HasLawfulNumbers}
 

@@ -2,7 +2,7 @@
 use Rattle.std.proofs.Common.{◌≡◌, ℕ, suc, ◌+◌, ◌<◌, ◌≤◌, List, [], ◌∷◌, ◌++◌, length, map, drop, get_or, All, refl, sym, ap, subst, ◌∙◌, arith, append_assoc, true, false, ℤ, Option}
 use Rattle.std.proofs.Math.Seq.{drop-cons}
 use Rattle.std.proofs.lemmas.List.{append-nil, drop_all, get_or-map, length-append, length-map}
-use Rattle.uc_model.specs.Schedule.{thermal_count}
+use Rattle.uc_model.specs.Prelude.{thermal_count}
 use Rattle.cert_text.specs.CertificateText.{TreeNode, LeafNode, SplitNode, IsNodeWithin}
 use Rattle.cert_text.specs.Reading.{node_of}
 use Rattle.cert_text.specs.declared.cert.CertNode.TheVariants as nodes

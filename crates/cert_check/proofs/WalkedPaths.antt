@@ -3,8 +3,7 @@
 use Rattle.std.proofs.Common.{◌≡◌, ◌<◌, Bool, not, List, [], ◌∷◌, ◌++◌, length, take, get_or, subst, ◌∙◌, arith, IsTrue}
 use Rattle.std.proofs.Math.Seq.{get_or-append_seam}
 use Rattle.std.proofs.lemmas.List.{get_or_append_left, length-append, take-append-le, take_all}
-use Rattle.dual_model.specs.Fixings.{IsCell}
-use Rattle.dual_model.specs.Tree.{is_decided}
+use Rattle.dual_model.specs.Prelude.{IsCell, is_decided}
 use Rattle.leaf_values.specs.Paths.{DecidesOnce}
 use Rattle.leaf_values.proofs.PathsOfNodes.{decides_once-more, decides_once-nil, decides_once-take}
 use Rattle.cert_check.specs.inside.Walks.{Fixing, Instance, IsPath}

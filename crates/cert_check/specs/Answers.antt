@@ -1,7 +1,7 @@
 -- What the check of a certificate answers. This project's own format.
 use Rattle.std.specs.Prelude.{◌≡◌, Bool, true, false, ℤ, Option, Some, None}
 pub use Rattle.uc_model.specs.declared.instance.Instance.{Instance}
-use Rattle.dual_model.specs.Certificate.{Certificate, CertificateHolds, WrittenSchedule}
+use Rattle.dual_model.specs.Prelude.{Certificate, CertificateHolds, WrittenSchedule}
 use Rattle.cert_text.specs.CertificateText.{listing_of}
 use Rattle.cert_text.specs.TextConditions.{HasText}
 use Rattle.cert_text.specs.Reading.{listing_read}

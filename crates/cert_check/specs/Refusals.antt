@@ -3,16 +3,11 @@
 --
 -- Tables and nodes count from 1 in the codes, units and periods from 0.
 use Rattle.std.specs.Prelude.{◌≡◌, ◌≢◌, ℕ, suc, false, List, ℤ, Option, Some, None, IsTrue, All, take, slice_get}
-use Rattle.uc_model.specs.Schedule.{thermal_count, renewable_count}
-use Rattle.uc_model.specs.Rules.{Obeys}
-use Rattle.uc_model.specs.PrintedSchedule.{printed_denominator, printed_schedule, printed_cost}
+use Rattle.uc_model.specs.Prelude.{thermal_count, renewable_count, Obeys, printed_denominator, printed_schedule, printed_cost}
 pub use Rattle.uc_model.specs.declared.instance.Instance.{Instance}
 pub use Rattle.uc_model.specs.declared.refusal.Refusal.{Refusal}
 use Rattle.uc_model.specs.declared.refusal.Refusal.TheVariants as codes
-use Rattle.dual_model.specs.Prices.{IsLawfulTable}
-use Rattle.dual_model.specs.Tree.{root}
-use Rattle.dual_model.specs.Cover.{Bound, Ray, Empty, has_bound}
-use Rattle.dual_model.specs.Certificate.{Certificate, WrittenSchedule, ScheduleHolds}
+use Rattle.dual_model.specs.Prelude.{IsLawfulTable, root, Bound, Ray, Empty, has_bound, Certificate, WrittenSchedule, ScheduleHolds}
 use Rattle.schedule_check.specs.FirstBroken.{IsFirstBroken}
 use Rattle.cert_text.specs.CertificateText.{TreeNode, LeafNode, SplitNode}
 use Rattle.cert_check.specs.Visits.{Table, Visit, visits, IsSound}

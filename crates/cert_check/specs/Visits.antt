@@ -2,8 +2,7 @@
 -- branch and bound on the commitment variables of the reference model by Knueven, Ostrowski and Watson.
 use Rattle.std.specs.Prelude.{true, false, not, List, [], ◌∷◌, ◌++◌, ℤ, Option, Some, None, IsTrue}
 pub use Rattle.uc_model.specs.declared.instance.Instance.{Instance}
-use Rattle.dual_model.specs.Tree.{Tree, Ends, Splits, child, is_decided}
-use Rattle.dual_model.specs.Cover.{Leaf, LeafHolds, IsExcluded}
+use Rattle.dual_model.specs.Prelude.{Tree, Ends, Splits, child, is_decided, Leaf, LeafHolds, IsExcluded}
 pub use Rattle.dual_model.specs.declared.node.Node.{Node}
 pub use Rattle.dual_model.specs.declared.table.Table.{Table}
 use Rattle.cert_text.specs.CertificateText.{TreeNode, LeafNode, SplitNode}

@@ -2,8 +2,8 @@
 
 ghost use Rattle.std.specs.Prelude.{◌≡◌, ◌↔◌, ◌<◌, ◌^◌, IfOk, IfErr, IsTrue, length};
 ghost use Rattle.std.specs.List.{list_any};
-ghost use Rattle.uc_model.specs.Limits.{IsLawfulInstance};
-ghost use Rattle.dual_model.specs.Laws.{IsClaimTrue};
+ghost use Rattle.uc_model.specs.Prelude.{IsLawfulInstance};
+ghost use Rattle.dual_model.specs.Prelude.{IsClaimTrue};
 ghost use Rattle.cert_check.specs.Answers.{IsAccepted, IsFaultOf, IsRead, is_none};
 ghost use Rattle.cert_check.specs.inside.Steps.{FitsInstance, ReadsPrices, ReadClaimFits, is_bound_leaf};
 

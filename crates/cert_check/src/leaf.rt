@@ -1,11 +1,8 @@
 //! What a leaf of a certificate's tree claims, and whether it is so.
 
 ghost use Rattle.std.specs.Prelude.{◌≡◌, ◌↔◌, ◌<◌, List, pos, ◌<ℤ◌, All, IfOk, IsTrue, MatchOption, length};
-ghost use Rattle.uc_model.specs.Limits.{IsLawfulInstance};
-ghost use Rattle.uc_model.specs.Schedule.{thermal_count};
-ghost use Rattle.dual_model.specs.Cover.{Bound, Ray};
-ghost use Rattle.dual_model.specs.Prices.{IsLawfulTable};
-ghost use Rattle.dual_model.specs.ValueKind.{IsBlocked};
+ghost use Rattle.uc_model.specs.Prelude.{IsLawfulInstance, thermal_count};
+ghost use Rattle.dual_model.specs.Prelude.{Bound, Ray, IsLawfulTable, IsBlocked};
 ghost use Rattle.cert_text.specs.CertificateText.{LeafNode};
 ghost use Rattle.leaf_values.specs.Entries.{AreEntriesOf};
 ghost use Rattle.leaf_values.specs.Paths.{AreFixesOf, node_of as place_of};

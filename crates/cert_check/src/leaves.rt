@@ -1,7 +1,7 @@
 //! The nodes of a certificate's tree, one after another in preorder.
 
 ghost use Rattle.std.specs.Prelude.{◌≡◌, ◌↔◌, ◌<◌, ◌+◌, ◌^◌, suc, IfOk, IsTrue, length};
-ghost use Rattle.uc_model.specs.Limits.{IsLawfulInstance};
+ghost use Rattle.uc_model.specs.Prelude.{IsLawfulInstance};
 ghost use Rattle.cert_text.specs.CertificateText.{IsNodeWithin};
 ghost use Rattle.cert_text.specs.Reading.{node_of};
 ghost use Rattle.cert_check.specs.Refusals.{refusal_of};

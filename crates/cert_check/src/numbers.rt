@@ -1,7 +1,7 @@
 //! The signs and sizes of the numbers of price tables.
 
 ghost use Rattle.std.specs.Prelude.{◌≡◌, ◌↔◌, IfOk, IsTrue, All};
-ghost use Rattle.dual_model.specs.Prices.{IsPrice};
+ghost use Rattle.dual_model.specs.Prelude.{IsPrice};
 ghost use Rattle.cert_check.specs.inside.Numbers.{HasLawfulNumbers, IsFirstOffOf, IsLawfulRampRow, IsSignedPrice};
 
 use dual_model::limits::{MAX_PRICE, MAX_SCALE};

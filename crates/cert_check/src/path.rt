@@ -2,7 +2,7 @@
 //! comes next.
 
 ghost use Rattle.std.specs.Prelude.{◌≡◌, ◌<◌, IfOk};
-ghost use Rattle.dual_model.specs.Tree.{is_decided as is_decided_at};
+ghost use Rattle.dual_model.specs.Prelude.{is_decided as is_decided_at};
 ghost use Rattle.cert_check.specs.inside.Walks.{Instance, IsPath, MayGoOn, StepsTo, TurnsTo};
 
 use cert_text::CertNode;

@@ -1,9 +1,8 @@
 //! The check of a certificate's schedule.
 
 ghost use Rattle.std.specs.Prelude.{◌≡◌, IfOk, IfErr, IfSome};
-ghost use Rattle.uc_model.specs.Limits.{IsLawfulInstance};
-ghost use Rattle.uc_model.specs.PrintedSchedule.{HasShapeOf};
-ghost use Rattle.branch_tree.specs.Claims.{written_of};
+ghost use Rattle.uc_model.specs.Prelude.{IsLawfulInstance, HasShapeOf};
+ghost use Rattle.branch_tree.specs.Prelude.{written_of};
 ghost use Rattle.schedule_check.specs.SizedNumbers.{HasSizedNumbers};
 ghost use Rattle.cert_check.specs.inside.Schedules.{IsCostOf, IsScheduleFault};
 

@@ -4,7 +4,7 @@ use Rattle.std.proofs.Common.{◌≡◌, ℕ, suc, ◌+◌, ◌*◌, ◌^◌, �
 use Rattle.std.specs.List.{AllByRecursion as Each}
 use Rattle.std.proofs.lemmas.List.Elements.{recursion_from_All, All-from_recursion}
 use Rattle.std.proofs.lemmas.Int.{ints}
-use Rattle.dual_model.specs.Prices.{IsRowBefore, IsRowWithin}
+use Rattle.dual_model.specs.Prelude.{IsRowBefore, IsRowWithin}
 use Rattle.table_list.specs.Changes.{Table, RampRow, Change, OfDemand, OfReserve, OfRamps, no_row, changed, all_changed, row_changes, table_changes}
 use Rattle.cert_text.specs.TextConditions.{HasDigits, IsRampText, IsTableText}
 use Rattle.cert_text.specs.Grammar.{Sizes, AreSizes, rescaled, ComesBefore, IsChangeWithin, IsChangeAfter}

@@ -12,12 +12,9 @@ use Rattle.cert_text.proofs.FormLaws.{IsForm, Anything, prices-form, scale-form,
 use Rattle.cert_text.proofs.TableForms.{ramp-form, next-form, change-form, node-form}
 use Rattle.cert_text.proofs.ChangeLaws.{changes_found, changes_make, changed_is_text, changes_few}
 use Rattle.std.proofs.lemmas.Int.{ints}
-use Rattle.dual_model.specs.Prices.{IsRowBefore, IsRowWithin}
+use Rattle.dual_model.specs.Prelude.{IsRowBefore, IsRowWithin, Certificate, Tree, Ends, Splits, Leaf, Bound, Ray, Empty}
 use Rattle.cert_text.specs.TextConditions.{Table, IsRampText, IsTableText, IsMoney, IsNodeText, HasText}
 use Rattle.cert_text.specs.CertificateText.{Version, First, Second, Third, prices_line, ramps_line, ramp_line, table_lines, next_line, change_line, next_lines, told_from, told_lines, tables_lines, Listing, listing_of, version_line, size_line, claim_line, end_line, certificate_lines, certificate_text, TreeNode, LeafNode, SplitNode, preorder, node_line}
-use Rattle.dual_model.specs.Certificate.{Certificate}
-use Rattle.dual_model.specs.Tree.{Tree, Ends, Splits}
-use Rattle.dual_model.specs.Cover.{Leaf, Bound, Ray, Empty}
 use Rattle.cert_text.proofs.Loops.{behind_parts, regroup_parts}
 use Rattle.cert_text.proofs.PartSteps.{Stops, IsPart, Done, bind_ok, ok_of, same_Ok, same_Err, StopsAt, AtFirst, AtSecond, bind_err, Stops-before, Stops-behind, line-part, then-part, told-part, part-as, before-part, told_then, told_second, nothing-part}
 use Rattle.cert_text.proofs.PlanLaws.{IsPlan, plan-part, lines_of}

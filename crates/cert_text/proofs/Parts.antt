@@ -2,10 +2,8 @@
 use Rattle.std.proofs.Common.{◌≡◌, ℕ, List, [], ◌∷◌, ◌++◌, length, map, refl, ap, ◌∙◌, sym, append_assoc, Bool, Option, Some, None, zero, suc, ◌<◌, cond, get_or, arith, ◌^◌, true, false, All, ℤ, pos, negsuc, ◌≤ℤ◌, eq-eqb, ne_eqb, IfSome, ◌||◌, not}
 use Rattle.std.specs.List.{flat_map, list_any}
 use mathlib.Core.Bool.{or-true}
-use Rattle.dual_model.specs.Certificate.{WrittenSchedule, Certificate, CertificateHolds, ClaimHolds}
-use Rattle.branch_tree.specs.TreeView.{tree_of, IsWhole}
-use Rattle.branch_tree.specs.UsedTables.{used_tables, place_of, stored_tables}
-use Rattle.branch_tree.specs.Claims.{table_at, certificate_of, leaf_claim, written_tables, written_of}
+use Rattle.dual_model.specs.Prelude.{WrittenSchedule, Certificate, CertificateHolds, ClaimHolds, map_leaves, Tree, Ends, Splits, root, child, IsCoverBelow, IsCover, EachLeaf, Leaf, Bound, Ray, Empty, IsExcluded, LeafHolds, IsLawfulTable, IsPrice, IsRowPriced}
+use Rattle.branch_tree.specs.Prelude.{tree_of, IsWhole, used_tables, place_of, stored_tables, table_at, certificate_of, leaf_claim, written_tables, written_of, NumberedTree, EndAt, SplitAt, IsNumbered, unnumbered, numbers, spot_at, tree_bound}
 use Rattle.outside.specs.Lines.{joined}
 use Rattle.outside.proofs.Joining.{joined-cons, joined-append, joined-map}
 use Rattle.table_list.specs.Changes.{OfDemand, OfReserve, OfRamps, price_changes, row_changes, table_changes}
@@ -16,19 +14,13 @@ use Rattle.cert_text.specs.inside.WrittenParts.{Found, Instance, Spot, Cert, pen
 use Rattle.std.specs.Option.{option_map_or}
 use Rattle.std.proofs.lemmas.List.Concat.{flat_map-append}
 use Rattle.std.proofs.lemmas.List.Folds.{flat_map-map, list_any-append, list_any_at}
-use Rattle.dual_model.specs.Tree.{map_leaves, Tree, Ends, Splits, root, child, IsCoverBelow, IsCover, EachLeaf}
-use Rattle.branch_tree.specs.NumberedTree.{NumberedTree, EndAt, SplitAt, IsNumbered, unnumbered, numbers, spot_at}
 use Rattle.branch_tree.proofs.Preorder.{IsPart, off_side, on_side, part_spot, length-each_once, length-stored_tables}
 use Rattle.std.proofs.lemmas.Int.{ints}
 use Rattle.std.proofs.lemmas.List.Elements.{All-nil, All-cons, All-append, All-weaker}
 use Rattle.std.proofs.lemmas.List.{length-map}
 use Rattle.std.proofs.lemmas.Option.{slice_get_within}
-use Rattle.uc_model.specs.Limits.{IsLawfulInstance}
-use Rattle.uc_model.specs.Schedule.{thermal_count, renewable_count}
-use Rattle.dual_model.specs.Cover.{Leaf, Bound, Ray, Empty, IsExcluded, LeafHolds}
+use Rattle.uc_model.specs.Prelude.{IsLawfulInstance, thermal_count, renewable_count}
 use Rattle.dual_model.specs.declared.node.Node.{Node}
-use Rattle.dual_model.specs.Prices.{IsLawfulTable, IsPrice, IsRowPriced}
-use Rattle.branch_tree.specs.StoredTree.{tree_bound}
 use Rattle.cert_text.specs.TextConditions.{HasDigits, IsMoney, IsTableText, IsRampText, IsScheduleText, HasText, HasWrittenText}
 
 shortages-part : (priced : Bool) (printed : Printed) → joined (shortage_lines priced printed) ≡ shortages_part priced printed

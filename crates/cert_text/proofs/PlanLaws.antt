@@ -7,7 +7,7 @@ use Rattle.cert_text.proofs.FormLaws.{thermal-form, powers-form}
 use Rattle.cert_text.proofs.PlanForms.{schedule-form, plan-form}
 use Rattle.cert_text.specs.TextConditions.{IsMoney, IsDenominator, ArePenalties, IsThermalRow, IsPowerRow, AreShortagesText, IsScheduleText}
 use Rattle.cert_text.specs.CertificateText.{thermal_line, renewable_line, shed_line, short_line, shortage_lines, schedule_lines, plan_lines, has_price, Printed}
-use Rattle.dual_model.specs.Certificate.{WrittenSchedule}
+use Rattle.dual_model.specs.Prelude.{WrittenSchedule}
 use Rattle.std.proofs.lemmas.Bool.{lt-ltb}
 use Rattle.cert_text.proofs.PartSteps.{IsPart, Done, line-part, then-part, told-part, part-as, before-part, told_second, nothing-part, repeated-part, map_as_flat}
 

@@ -2,7 +2,7 @@
 use Rattle.std.proofs.Common.{◌≡◌, suc, ◌<◌, Bool, true, false, cond, ◌&&◌, ◌==◌, List, [], ◌∷◌, ◌++◌, length, get_or, take, drop, ◌-◌, refl, sym, ap, subst, ◌∙◌, append_assoc, append-nil, arith}
 use Rattle.std.proofs.lemmas.Bool.{and_parts, eqb-true, false_from_ne_true, false≢true}
 use Rattle.std.proofs.lemmas.List.{take_rest}
-use Rattle.dual_model.specs.Prices.{AreRising, IsRowBefore, row_of}
+use Rattle.dual_model.specs.Prelude.{AreRising, IsRowBefore, row_of}
 use Rattle.table_list.specs.Changes.{RampRow, is_before, is_none, no_row, placed, with_row}
 use Rattle.table_list.proofs.RowChanges.{before_trans, before_decides, is_beside}
 use Rattle.cert_text.specs.inside.Drafts.{LieBefore, differs, IsPassed, IsRowSet}

@@ -6,8 +6,7 @@ use Rattle.std.proofs.lemmas.Bool.{ltb-true, lt-ltb, and_parts, false≢true, an
 use Rattle.std.specs.Ordering.{int_eq}
 use Rattle.std.specs.Bool.{Decides}
 use Rattle.outside.specs.Lines.{line}
-use Rattle.dual_model.specs.Cover.{Leaf, Bound, Ray, Empty}
-use Rattle.dual_model.specs.Prices.{IsRowBefore, IsRowWithin, pi_at, mu_at, up_at, down_at}
+use Rattle.dual_model.specs.Prelude.{Leaf, Bound, Ray, Empty, IsRowBefore, IsRowWithin, pi_at, mu_at, up_at, down_at}
 use Rattle.cert_text.specs.TextConditions.{RampRow, HasDigits, IsRampText, IsNodeText}
 use Rattle.table_list.specs.Changes.{Table, Change, OfDemand, OfReserve, OfRamps}
 use Rattle.cert_text.specs.CertificateText.{Third, ramp_line, next_line, change_line, TreeNode, LeafNode, SplitNode, node_line, is_exact_leaf, is_exact_node, IsLeafWithin, IsNodeWithin}

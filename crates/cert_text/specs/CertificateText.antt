@@ -7,9 +7,7 @@ use Rattle.uc_model.specs.Decimal.{whole_text, signed_text}
 use Rattle.uc_model.specs.Money.{money_text}
 pub use Rattle.uc_model.specs.declared.schedule.Cell.{Cell}
 pub use Rattle.uc_model.specs.declared.schedule.Printed.{Printed}
-use Rattle.dual_model.specs.Tree.{Tree, Ends, Splits}
-use Rattle.dual_model.specs.Cover.{Leaf, Bound, Ray, Empty}
-use Rattle.dual_model.specs.Certificate.{Certificate, WrittenSchedule}
+use Rattle.dual_model.specs.Prelude.{Tree, Ends, Splits, Leaf, Bound, Ray, Empty, Certificate, WrittenSchedule}
 pub use Rattle.dual_model.specs.declared.table.Table.{Table}
 pub use Rattle.dual_model.specs.declared.table.RampRow.{RampRow}
 use Rattle.outside.specs.Lines.{line, joined, list_line}

@@ -1,8 +1,7 @@
 -- What a certificate that was read says: the listing that it stands for. This project's own format.
 use Rattle.std.specs.Prelude.{◌≡◌, ℕ, true, false, List, map}
-use Rattle.dual_model.specs.Certificate.{Certificate}
-use Rattle.dual_model.specs.Cover.{Bound, Ray, Empty}
-use Rattle.branch_tree.specs.Claims.{written_of}
+use Rattle.dual_model.specs.Prelude.{Certificate, Bound, Ray, Empty}
+use Rattle.branch_tree.specs.Prelude.{written_of}
 use Rattle.cert_text.specs.declared.cert.Cert.{Cert}
 use Rattle.cert_text.specs.declared.cert.CertNode.{CertNode}
 use Rattle.cert_text.specs.declared.cert.CertNode.TheVariants as nodes

@@ -2,8 +2,7 @@
 -- numbers have. This project's own format.
 use Rattle.std.specs.Prelude.{◌≡◌, ◌≢◌, replicate, ℕ, ◌^◌, ◌<◌, ◌≤◌, Bool, true, false, List, ℤ, pos, unsigned_abs, IfSome, All, length}
 pub use Rattle.uc_model.specs.declared.schedule.Cell.{Cell}
-use Rattle.dual_model.specs.Certificate.{Certificate, WrittenSchedule}
-use Rattle.dual_model.specs.Prices.{IsWellFormed}
+use Rattle.dual_model.specs.Prelude.{Certificate, WrittenSchedule, IsWellFormed}
 pub use Rattle.dual_model.specs.declared.table.Table.{Table}
 pub use Rattle.dual_model.specs.declared.table.RampRow.{RampRow}
 use Rattle.cert_text.specs.CertificateText.{Version, Third, Printed, TreeNode, is_exact_node, IsNodeWithin, Listing, has_price, listing_of, written_version}

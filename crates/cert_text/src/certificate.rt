@@ -2,8 +2,8 @@
 
 ghost use Rattle.std.specs.Prelude.{◌≡◌, OnOk, OnErr, if◌then◌else◌};
 ghost use Rattle.outside.specs.Sinks.{WriterWrites, WritesFront};
-ghost use Rattle.dual_model.specs.Certificate.{Certificate};
-ghost use Rattle.branch_tree.specs.Claims.{HasLayout, certificate_of};
+ghost use Rattle.dual_model.specs.Prelude.{Certificate};
+ghost use Rattle.branch_tree.specs.Prelude.{HasLayout, certificate_of};
 ghost use Rattle.cert_text.specs.CertificateText.{Second, Third, version_line, size_line, claim_line, listing_of, written_text};
 ghost use Rattle.cert_text.specs.Reading.{listing_read};
 ghost use Rattle.cert_text.specs.inside.WrittenParts.{heading_part, found_text, read_text};

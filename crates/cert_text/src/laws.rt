@@ -1,14 +1,11 @@
 //! Laws of certificates' texts, each the contract of a function with an empty body.
 
 ghost use Rattle.std.specs.Prelude.{◌≡◌, ◌↔◌, ℕ, ℤ, List, [], ◌∷◌, ◌++◌, ◌+◌, ◌/◌, ◌^◌, ◌<◌, ◌≤◌, length, unsigned_abs, IfSome, All};
+ghost use Rattle.uc_model.specs.Prelude.{IsLawfulInstance, thermal_count, renewable_count};
 ghost use Rattle.uc_model.specs.Decimal.{whole_text};
-ghost use Rattle.uc_model.specs.Limits.{IsLawfulInstance};
-ghost use Rattle.uc_model.specs.Schedule.{thermal_count, renewable_count};
 ghost use Rattle.uc_model.specs.declared.instance.Instance.{Instance};
-ghost use Rattle.dual_model.specs.Certificate.{Certificate, CertificateHolds};
-ghost use Rattle.branch_tree.specs.StoredTree.{tree_bound};
-ghost use Rattle.branch_tree.specs.TreeView.{IsWhole};
-ghost use Rattle.branch_tree.specs.Claims.{written_tables, certificate_of, written_of};
+ghost use Rattle.dual_model.specs.Prelude.{Certificate, CertificateHolds};
+ghost use Rattle.branch_tree.specs.Prelude.{tree_bound, IsWhole, written_tables, certificate_of, written_of};
 ghost use Rattle.branch_tree.specs.declared.found.Found.{Found};
 ghost use Rattle.cert_text.specs.CertificateText.{Version, has_price, listing_of, certificate_lines, certificate_text};
 ghost use Rattle.cert_text.specs.Grammar.{Head, Reaches, CertKind, IsKindAt};

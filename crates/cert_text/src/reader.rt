@@ -1,7 +1,7 @@
 //! Reading certificates.
 
 ghost use Rattle.std.specs.Prelude.{◌≡◌, ◌≢◌, ◌≤◌, [], length, IfOk, IfErr, MatchResult};
-ghost use Rattle.dual_model.specs.Certificate.{Certificate};
+ghost use Rattle.dual_model.specs.Prelude.{Certificate};
 ghost use Rattle.cert_text.specs.CertificateText.{Version, listing_of, certificate_text};
 ghost use Rattle.cert_text.specs.TextConditions.{HasText};
 ghost use Rattle.cert_text.specs.Reading.{listing_read, IsTextOf};

@@ -2,7 +2,7 @@
 
 ghost use Rattle.std.specs.Prelude.{◌≡◌, Some};
 ghost use Rattle.uc_model.specs.Decimal.{signed_text};
-ghost use Rattle.branch_tree.specs.Claims.{written_of};
+ghost use Rattle.branch_tree.specs.Prelude.{written_of};
 ghost use Rattle.cert_text.specs.CertificateText.{cell_text, cost_line, has_price, is_divided, penalty_line};
 ghost use Rattle.cert_text.specs.inside.WrittenParts.{penalty_part, shortages_part, schedule_part};
 

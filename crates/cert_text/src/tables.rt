@@ -2,7 +2,7 @@
 
 ghost use Rattle.std.specs.Prelude.{◌≡◌, ◌<◌, [], None, All, length, map, option_copied};
 ghost use Rattle.std.specs.Option.{option_map_or};
-ghost use Rattle.branch_tree.specs.Claims.{table_at};
+ghost use Rattle.branch_tree.specs.Prelude.{table_at};
 ghost use Rattle.cert_text.specs.inside.WrittenParts.{table_part, told_part, tables_part};
 
 use crate::changes::{put_next, put_told_by};

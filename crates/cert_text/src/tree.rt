@@ -2,11 +2,10 @@
 
 ghost use Rattle.std.specs.Prelude.{◌≡◌, ◌∷◌, [], ℕ, List, suc, ◌<◌, flat_map, map};
 ghost use Rattle.std.specs.List.{list_any};
-ghost use Rattle.dual_model.specs.Cover.{Bound};
+ghost use Rattle.dual_model.specs.Prelude.{Bound};
 ghost use Rattle.outside.specs.Lines.{line};
 ghost use Rattle.uc_model.specs.Decimal.{whole_text};
-ghost use Rattle.branch_tree.specs.UsedTables.{place_of};
-ghost use Rattle.branch_tree.specs.Claims.{IsLayoutOf, leaf_claim};
+ghost use Rattle.branch_tree.specs.Prelude.{place_of, IsLayoutOf, leaf_claim};
 ghost use Rattle.cert_text.specs.CertificateText.{SplitNode, leaf_line, node_line, is_exact_node};
 ghost use Rattle.cert_text.specs.Reading.{node_of};
 ghost use Rattle.cert_text.specs.inside.WrittenParts.{spot_node, tree_nodes, tree_part};

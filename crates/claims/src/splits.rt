@@ -1,7 +1,7 @@
 //! The cell that a node is split on, where its claim doesn't close it.
 
 ghost use Rattle.std.specs.Prelude.{◌≡◌, ◌≤◌, true, None};
-ghost use Rattle.uc_model.specs.Limits.{IsLawfulInstance};
+ghost use Rattle.uc_model.specs.Prelude.{IsLawfulInstance};
 ghost use Rattle.decided_nodes.specs.Decided.{DecidesEach};
 
 use crate::branching::most_divided;

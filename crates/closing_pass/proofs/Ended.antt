@@ -6,13 +6,10 @@ use Rattle.std.proofs.lemmas.List.Elements.{All-head, All-tail}
 use Rattle.std.proofs.lemmas.List.Sums.{sum_by-cons}
 use Rattle.std.proofs.lemmas.Option.{slice_get-map, slice_get-get_or}
 use Rattle.uc_model.specs.declared.schedule.Printed.{Printed}
-use Rattle.dual_model.specs.Tree.{root}
-use Rattle.branch_tree.specs.Closing.{is_schedule_within}
-use Rattle.branch_tree.specs.StoredTree.{tree_bound}
-use Rattle.branch_tree.specs.TreeView.{IsOpenAt, tree_of}
+use Rattle.dual_model.specs.Prelude.{root}
+use Rattle.branch_tree.specs.Prelude.{is_schedule_within, tree_bound, IsOpenAt, tree_of}
 use Rattle.branch_tree.proofs.Grown.{all_closed}
-use Rattle.search_machine.specs.Machine.{IsHeld, IsOpen}
-use Rattle.search_machine.specs.Runs.{IsBestWithin, TreeRunsHold}
+use Rattle.search_machine.specs.Prelude.{IsHeld, IsOpen, IsBestWithin, TreeRunsHold}
 use Rattle.search_machine.proofs.TrueSteps.{closed_within}
 use Rattle.book.specs.BookView.{BookView, state_of}
 use Rattle.book.specs.Claims.{holder_of, holders, stays_by}

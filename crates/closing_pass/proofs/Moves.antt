@@ -2,12 +2,10 @@
 use Rattle.std.proofs.Common.{◌≡◌, ◌∙◌, ℕ, Bool, true, false, cond, ◌&&◌, refl, sym, subst, ap, arith, ℤ, pos, ◌<ℤ◌, int_lt, Option, Some, None, MatchOption}
 use Rattle.std.proofs.lemmas.Int.{ints}
 use Rattle.std.specs.Ordering.{int_eq}
-use Rattle.branch_tree.specs.Closing.{is_within_gap}
-use Rattle.branch_tree.specs.TreeView.{IsFreeAt}
+use Rattle.branch_tree.specs.Prelude.{is_within_gap, IsFreeAt}
 use Rattle.branch_tree.specs.declared.found.Outcome.{Outcome}
 use Rattle.branch_tree.specs.declared.found.Outcome.TheVariants as outcome
-use Rattle.search_machine.specs.Machine.{stored_at}
-use Rattle.search_machine.specs.Moves.{IsMoveLegal, MayGoOn, bound_of, kept, kept_after}
+use Rattle.search_machine.specs.Prelude.{stored_at, IsMoveLegal, MayGoOn, bound_of, kept, kept_after}
 use Rattle.search_machine.specs.declared.event.Move.{Move}
 use Rattle.search_machine.specs.declared.stored.Stored.{Stored}
 use Rattle.book.specs.BookView.{BookView, Table, state_of}

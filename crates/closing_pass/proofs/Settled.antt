@@ -4,15 +4,12 @@ use Rattle.std.proofs.lemmas.Int.{ints}
 use Rattle.std.proofs.lemmas.List.{nil_from_length}
 use Rattle.std.proofs.lemmas.List.Elements.{All-nil, All-cons}
 use Rattle.uc_model.specs.declared.schedule.Printed.{Printed}
-use Rattle.uc_model.proofs.Ring.{linear}
+use Rattle.uc_model.proofs.Common.{linear}
 use Rattle.dual_model.specs.declared.node.Node.{Node}
-use Rattle.branch_tree.specs.NumberedTree.{node_at}
+use Rattle.branch_tree.specs.Prelude.{node_at}
 use Rattle.branch_tree.specs.declared.found.Entry.{Entry}
 use Rattle.branch_tree.specs.declared.found.Outcome.{Outcome}
-use Rattle.search_machine.specs.Machine.{Machine, entries_of, stored_at}
-use Rattle.search_machine.specs.Moves.{IsMoveLegal}
-use Rattle.search_machine.specs.Steps.{IsFresh, IsStoredTable}
-use Rattle.search_machine.specs.Runs.{TreeRunsHold}
+use Rattle.search_machine.specs.Prelude.{Machine, entries_of, stored_at, IsMoveLegal, IsFresh, IsStoredTable, TreeRunsHold}
 use Rattle.search_machine.specs.declared.event.Move.{Move}
 use Rattle.search_machine.proofs.TrueSteps.{NeverDecreases}
 use Rattle.book.specs.BookView.{BookView, state_of}

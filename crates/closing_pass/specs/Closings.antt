@@ -1,7 +1,7 @@
 -- The closing pass: what the workers leave, and what it makes of that. This project's own form.
 use Rattle.std.specs.Prelude.{Bool, true, ℕ, All, ℤ, Option, Some, None}
 use Rattle.uc_model.specs.declared.schedule.Printed.{Printed}
-use Rattle.branch_tree.specs.Closing.{is_schedule_within}
+use Rattle.branch_tree.specs.Prelude.{is_schedule_within}
 use Rattle.book.specs.BookView.{BookView}
 use Rattle.book.specs.Opening.{Opening}
 use Rattle.search_desk.specs.Best.{cost_of}

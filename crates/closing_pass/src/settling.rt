@@ -1,16 +1,11 @@
 //! How a claim that is still held is evaluated and committed.
 
 ghost use Rattle.std.specs.Prelude.{◌≡◌, ◌≢◌, ◌⊎◌, ◌+◌, ◌*◌, ◌<◌, ◌≤◌, Bool, IfOk, MatchOption, None, length};
-ghost use Rattle.uc_model.specs.Limits.{IsLawfulInstance};
+ghost use Rattle.uc_model.specs.Prelude.{IsLawfulInstance};
 ghost use Rattle.uc_model.specs.declared.tolerance.TheConstants.{WHOLE_GAP};
-ghost use Rattle.branch_tree.specs.NumberedTree.{node_count};
-ghost use Rattle.branch_tree.specs.StoredTree.{IsNodeAt};
-ghost use Rattle.branch_tree.specs.TreeView.{HasFreeCell, IsFreeAt, IsSizeOf};
-ghost use Rattle.dual_model.specs.Fixings.{IsNodeOf};
-ghost use Rattle.dual_model.specs.Prices.{IsLawfulTable};
-ghost use Rattle.search_machine.specs.Machine.{entries_of, stored_at};
-ghost use Rattle.search_machine.specs.Moves.{IsMoveLegal, MayGoOn};
-ghost use Rattle.search_machine.specs.Runs.{IsTrueOutcome};
+ghost use Rattle.branch_tree.specs.Prelude.{node_count, IsNodeAt, HasFreeCell, IsFreeAt, IsSizeOf};
+ghost use Rattle.dual_model.specs.Prelude.{IsNodeOf, IsLawfulTable};
+ghost use Rattle.search_machine.specs.Prelude.{entries_of, stored_at, IsMoveLegal, MayGoOn, IsTrueOutcome};
 ghost use Rattle.search_machine.specs.declared.limits.TheConstants.{MAX_BUDGET};
 ghost use Rattle.book.specs.BookView.{state_of};
 ghost use Rattle.book.specs.Calls.{IsCommitted, IsHeldUnit, MayCommit};

@@ -1,6 +1,6 @@
 -- What reading the certificate's file gave, and the cause of each fault that comes of it. This project's own.
 use Rattle.std.specs.Prelude.{◌≡◌, ℕ, ◌^◌, ◌≤◌, ⊤, List, length}
-use Rattle.dual_model.specs.Certificate.{Certificate}
+use Rattle.dual_model.specs.Prelude.{Certificate}
 use Rattle.outside.specs.declared.slot.Slot.TheVariants as slot
 use Rattle.outside.specs.Counts.{HasRisen}
 use Rattle.outside.specs.ToldBytes.{Tells}

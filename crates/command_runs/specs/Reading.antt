@@ -2,7 +2,7 @@
 -- pglib-uc format for the instance; the rest is this project's own.
 use Rattle.std.specs.Prelude.{◌≡◌, ◌≢◌, ℕ, ◌+◌, ◌^◌, ◌<◌, ◌≤◌, ◌⊎◌, ⊤, Bool, List, [], ◌++◌, pos, ◌<ℤ◌, ◌≤ℤ◌, IfSome, length}
 use Rattle.std.specs.Option.{option_map}
-use Rattle.uc_model.specs.Limits.{IsLawfulInstance, greatest_shortage_cost}
+use Rattle.uc_model.specs.Prelude.{IsLawfulInstance, greatest_shortage_cost}
 use Rattle.uc_model.specs.declared.limits.TheConstants.{MAX_SHORTAGE_COST}
 pub use Rattle.uc_model.specs.declared.instance.Instance.{Instance}
 use Rattle.uc_model.specs.declared.field.Field.TheVariants.{NoField}

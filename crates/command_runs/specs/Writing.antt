@@ -6,7 +6,7 @@ use Rattle.outside.specs.Counts.{HasRisen}
 use Rattle.outside.specs.ToldBytes.{Tells, Appends, AppendsFront}
 use Rattle.outside.specs.Slots.{SlotState}
 use Rattle.outside.specs.Sinks.{SinkState}
-use Rattle.branch_tree.specs.Claims.{certificate_of}
+use Rattle.branch_tree.specs.Prelude.{certificate_of}
 use Rattle.branch_tree.specs.declared.found.Found.{Found}
 use Rattle.cert_text.specs.CertificateText.{written_text}
 use Rattle.report.specs.FaultText.{fault_text}

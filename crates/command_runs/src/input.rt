@@ -1,7 +1,7 @@
 //! Reading the instance.
 
 ghost use Rattle.std.specs.Prelude.{◌≡◌, ℕ, IfOk, IfErr};
-ghost use Rattle.uc_model.specs.Limits.{IsLawfulInstance};
+ghost use Rattle.uc_model.specs.Prelude.{IsLawfulInstance};
 ghost use Rattle.outside.specs.declared.slot.Slot.TheVariants.{Instance as InstanceSlot};
 ghost use Rattle.outside.specs.Slots.{SameBut};
 ghost use Rattle.command_line.specs.Asked.{HasPrices};

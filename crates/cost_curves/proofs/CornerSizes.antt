@@ -3,12 +3,10 @@
 use Rattle.std.proofs.Common.{◌≡◌, ℕ, ◌+◌, ◌-◌, ◌*◌, ◌<◌, ◌≤◌, sym, ap, subst, ◌∙◌, arith, lit<, List, length, to_z, of_z, ℤ, pos, ◌+ℤ◌, ◌-ℤ◌, ◌*ℤ◌, neg_ℤ, ◌≤ℤ◌, ◌<ℤ◌, unsigned_abs}
 use Rattle.std.specs.Int.{w64, w128}
 use Rattle.std.proofs.lemmas.Int.{ints}
-use Rattle.uc_model.specs.Division.{IsCeiling}
-use Rattle.uc_model.specs.Points.{point_of, output_of}
+use Rattle.uc_model.specs.Prelude.{IsCeiling, point_of, output_of}
 use Rattle.uc_model.specs.declared.limits.TheConstants.{MAX_COST, MAX_DENOMINATOR, MAX_POWER}
-use Rattle.uc_model.proofs.Ring.{linear, mul_comm, mul-zero, mul-one, mul-le-mul_left, mul-lt-mul_left, le_trans, le_from_mul, mul-le-mul_right, mul-le-mul_turned, scale-le-scale}
-use Rattle.uc_model.proofs.Quotients.{IsCeiling-least}
-use Rattle.uc_model.proofs.Sizes.{abs_sub, abs_mul, narrow, wide}
+use Rattle.uc_model.proofs.Common.{linear, mul_comm, mul-zero, mul-one, mul-le-mul_left, mul-lt-mul_left, le_trans, le_from_mul, mul-le-mul_right, mul-le-mul_turned, scale-le-scale, IsCeiling-least, abs_sub, abs_mul, narrow}
+use Rattle.uc_model.proofs.Sizes.{wide}
 use Rattle.cost_curves.specs.LowerHull.{Point, AreLawfulCorners, width_of}
 
 pub output-size : (corners : List Point) → AreLawfulCorners corners → (i : ℕ) → i < length corners → unsigned_abs (output_of corners i) ≤ 2 * MAX_POWER

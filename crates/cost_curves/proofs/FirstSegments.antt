@@ -2,15 +2,9 @@
 -- Cite from a crate above by `use Rattle.cost_curves.proofs.FirstSegments.{held_over}`.
 use Rattle.std.proofs.Common.{◌≡◌, ℕ, ◌≢◌, ◌*◌, ◌<◌, ◌≤◌, ◌⊎◌, inl, inr, ⊎_elim, sym, ap, subst, ◌∙◌, arith, List, length, unsigned_abs, ℤ, pos, ◌-ℤ◌, ◌*ℤ◌, ◌≤ℤ◌, ◌<ℤ◌, IsTrue, Some, int_le, ◌==◌, ◌&&◌}
 use Rattle.std.proofs.lemmas.Bool.{and_parts, and_from, or_cases, eqb-true}
-use Rattle.uc_model.specs.Division.{IsCeiling, quotient_up}
-use Rattle.uc_model.specs.Sums.{all_below}
-use Rattle.uc_model.specs.Points.{point_of, output_of}
-use Rattle.uc_model.specs.Hull.{run, rise, is_hull_segment, is_hull_point, Segment, segment_width, from_left, segment_cost, hull_cost}
-use Rattle.uc_model.proofs.Ring.{linear, one-mul, mul-one, zero-mul, mul-zero, mul-sub, mul_comm, pos-mul, mul-le-mul_left, mul-lt-mul_left, le_antisymm, le_or_lt}
-use Rattle.uc_model.proofs.Tests.{int_le-true, le-int_le, all_below-at}
-use Rattle.uc_model.proofs.Quotients.{IsCeiling_unique, quotient_up-is}
-use Rattle.uc_model.proofs.HullSegments.{first-there, under}
-use Rattle.uc_model.proofs.HullPoints.{Holds, segment_at-holds, lies_on, abs_is, wide}
+use Rattle.uc_model.specs.Prelude.{IsCeiling, quotient_up, all_below, point_of, output_of, run, rise, is_hull_segment, is_hull_point, Segment, segment_width, from_left, segment_cost, hull_cost}
+use Rattle.uc_model.proofs.Common.{linear, one-mul, mul-one, zero-mul, mul-zero, mul-sub, mul_comm, pos-mul, mul-le-mul_left, mul-lt-mul_left, le_antisymm, le_or_lt, int_le-true, le-int_le, all_below-at, IsCeiling_unique, quotient_up-is, first-there, under, Holds, segment_at-holds, lies_on, abs_is}
+use Rattle.uc_model.proofs.HullPoints.{wide}
 use Rattle.cost_curves.specs.LowerHull.{IsLowerHull}
 use Rattle.cost_curves.specs.LeastCost.{Point, IsLeastCostUp, IsSegmentAt}
 use Rattle.cost_curves.specs.inside.Places.{HoldsOutput}

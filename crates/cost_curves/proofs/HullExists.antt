@@ -2,14 +2,8 @@
 -- Cite from a crate above by `use Rattle.cost_curves.proofs.HullExists.{segment-there, segment-within}`.
 use Rattle.std.proofs.Common.{◌≡◌, ℕ, zero, suc, ◌-◌, ◌<◌, refl, subst, arith, List, length, ℤ, pos, ◌*ℤ◌, ◌≤ℤ◌, ◌<ℤ◌, Some}
 use Rattle.std.proofs.lemmas.Bool.{and_parts}
-use Rattle.uc_model.specs.Points.{point_of, output_of}
-use Rattle.uc_model.specs.Division.{IsCeiling, quotient_up}
-use Rattle.uc_model.specs.Hull.{Segment, segment_at}
-use Rattle.uc_model.proofs.Ring.{linear, le_trans, mul-zero, mul_comm, mul_nonneg, pos_nonneg, pos_of_nonneg, le_from_mul, scale-le-scale, sub_nonneg}
-use Rattle.uc_model.proofs.Tests.{int_le-true}
-use Rattle.uc_model.proofs.Quotients.{IsCeiling-least, quotient_up-is}
-use Rattle.uc_model.proofs.HullPoints.{segment_at-holds}
-use Rattle.uc_model.proofs.HullSegments.{first-there, step_there, begin_there}
+use Rattle.uc_model.specs.Prelude.{point_of, output_of, IsCeiling, quotient_up, Segment, segment_at}
+use Rattle.uc_model.proofs.Common.{linear, le_trans, mul-zero, mul_comm, mul_nonneg, pos_nonneg, pos_of_nonneg, le_from_mul, scale-le-scale, sub_nonneg, int_le-true, IsCeiling-least, quotient_up-is, segment_at-holds, first-there, step_there, begin_there}
 use Rattle.cost_curves.specs.LowerHull.{Point, AreLawfulPoints, width_of}
 use Rattle.cost_curves.specs.LeastCost.{IsSegmentAt}
 use Rattle.cost_curves.proofs.JoinedCorners.{rises, outputs-le}

@@ -2,12 +2,8 @@
 -- Cite from a crate above by `use Rattle.cost_curves.proofs.HullValues.{segment_is}`.
 use Rattle.std.proofs.Common.{◌≡◌, ℕ, suc, ◌-◌, ◌<◌, ⊎_elim, refl, sym, subst, ◌∙◌, arith, List, length, ℤ, pos, ◌+ℤ◌, ◌-ℤ◌, ◌*ℤ◌, ◌≤ℤ◌, ◌<ℤ◌, IsTrue, int_le, int_lt, ◌==◌, ◌&&◌}
 use Rattle.std.proofs.lemmas.Bool.{and_from, or_left, or_right, eq-eqb}
-use Rattle.uc_model.specs.Sums.{all_below}
-use Rattle.uc_model.specs.Points.{point_of, output_of}
-use Rattle.uc_model.specs.Hull.{run, rise, is_above_line, is_hull_segment, is_hull_point}
-use Rattle.uc_model.proofs.HullSegments.{holds_from}
-use Rattle.uc_model.proofs.Ring.{linear, le_antisymm}
-use Rattle.uc_model.proofs.Tests.{le-int_le, lt-int_lt, all_below-from}
+use Rattle.uc_model.specs.Prelude.{all_below, point_of, output_of, run, rise, is_above_line, is_hull_segment, is_hull_point}
+use Rattle.uc_model.proofs.Common.{holds_from, linear, le_antisymm, le-int_le, lt-int_lt, all_below-from}
 use Rattle.cost_curves.specs.LowerHull.{Point, IsLawfulPoint, AreLawfulCorners, IsAbove, IsLowerHull, width_of}
 use Rattle.cost_curves.specs.LeastCost.{Slope, IsSegmentAt, IsLeftSlope, IsRightSlope}
 use Rattle.cost_curves.specs.inside.Places.{HoldsOutput}

@@ -4,10 +4,8 @@ use Rattle.std.proofs.Math.Seq.{get_or-append_seam}
 use Rattle.std.proofs.lemmas.List.{get_or_append_left, get_or-take, length-take-le}
 use Rattle.std.proofs.lemmas.Int.{ints}
 use Rattle.std.proofs.lemmas.Bool.{cond-true, cond-false}
-use Rattle.uc_model.specs.Points.{point_of}
-use Rattle.uc_model.proofs.Ring.{linear, le_refl, le_trans, le_or_lt, le_antisymm, sub_nonneg, mul-zero, mul_nonneg, mul-le-mul_right}
-use Rattle.uc_model.proofs.Tests.{int_le-true, le-int_le}
-use Rattle.uc_model.proofs.HullSegments.{Rises, outputs_rise}
+use Rattle.uc_model.specs.Prelude.{point_of}
+use Rattle.uc_model.proofs.Common.{linear, le_refl, le_trans, le_or_lt, le_antisymm, sub_nonneg, mul-zero, mul_nonneg, mul-le-mul_right, int_le-true, le-int_le, Rises, outputs_rise}
 use Rattle.cost_curves.specs.LowerHull.{Point, AreLawfulPoints, IsAbove, is_above, IsBelow, HullOfFirst}
 use Rattle.cost_curves.specs.inside.Corners.{is_over, IsNext, Joins}
 use Rattle.cost_curves.proofs.Lines.{flatter_trans, right_of, above_of, above-flatter_start, flatter_start-above, above-flatter_next, flatter_next-above, above-flatter_end, flatter_end-above, above-flatter_whole, before-flatter, sub_positive, less_le}

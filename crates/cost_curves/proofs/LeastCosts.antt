@@ -2,13 +2,8 @@
 -- An output is p over d, in watts.
 use Rattle.std.proofs.Common.{◌≡◌, ◌≢◌, ℕ, ◌<◌, refl, sym, ap, subst, ◌∙◌, arith, List, length, ℤ, pos, ◌+ℤ◌, ◌-ℤ◌, ◌*ℤ◌, ◌≤ℤ◌, ◌<ℤ◌, ◌==◌, if◌then◌else◌}
 use Rattle.std.proofs.lemmas.Bool.{cond-true, cond-false, eq-eqb, ne_eqb}
-use Rattle.uc_model.specs.Division.{IsCeiling}
-use Rattle.uc_model.specs.Sums.{sum_below}
-use Rattle.uc_model.specs.Points.{point_of, output_of, weighted_output, weighted_cost}
-use Rattle.uc_model.specs.Hull.{run, rise}
-use Rattle.uc_model.proofs.Ring.{linear, sub_nonneg, sub-mul, spread, mul_comm, mul_assoc, mul_left_comm, mul-add, mul-sub, mul-zero, zero-mul, mul-one, one-mul, le_from_mul, mul-le-mul_right, mul-lt-mul_left, scale-le-scale, pos_of_nonneg, pos_nonneg}
-use Rattle.uc_model.proofs.Sums.{sum_below-same, sum_below-le, sum_below-sub, sum_below-mul_left, sum_below-single, sum_below-pair}
-use Rattle.uc_model.proofs.Quotients.{IsCeiling-least}
+use Rattle.uc_model.specs.Prelude.{IsCeiling, sum_below, point_of, output_of, weighted_output, weighted_cost, run, rise}
+use Rattle.uc_model.proofs.Common.{linear, sub_nonneg, sub-mul, spread, mul_comm, mul_assoc, mul_left_comm, mul-add, mul-sub, mul-zero, zero-mul, mul-one, one-mul, le_from_mul, mul-le-mul_right, mul-lt-mul_left, scale-le-scale, pos_of_nonneg, pos_nonneg, sum_below-same, sum_below-le, sum_below-sub, sum_below-mul_left, sum_below-single, sum_below-pair, IsCeiling-least}
 use Rattle.cost_curves.specs.LowerHull.{Point}
 use Rattle.cost_curves.specs.LeastCost.{CostsAtMost, IsLeastCostUp}
 use Rattle.cost_curves.proofs.Lines.{less_le, sub_positive}

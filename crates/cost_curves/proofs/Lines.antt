@@ -1,6 +1,6 @@
 -- Slopes compared by products, and lines through points.
 use Rattle.std.proofs.Common.{◌≡◌, sym, ap, ◌∙◌, arith, ℤ, pos, ◌-ℤ◌, ◌*ℤ◌, neg_ℤ, ◌≤ℤ◌, ◌<ℤ◌}
-use Rattle.uc_model.proofs.Ring.{linear, spread, mul_comm, mul_left_comm, mul-le-mul_left, le_from_mul}
+use Rattle.uc_model.proofs.Common.{linear, spread, mul_comm, mul_left_comm, mul-le-mul_left, le_from_mul}
 use Rattle.cost_curves.specs.LowerHull.{Point, IsAbove}
 
 -- the slope y over x is at most the slope v over u

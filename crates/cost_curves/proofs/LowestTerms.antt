@@ -7,7 +7,7 @@ use Rattle.std.specs.Int.{◌∣◌, IsGcd}
 use Rattle.std.proofs.Math.Nat.{mod-lt, dvd-mul_left, dvd-mul_right, mul-dvd-mul_left, dvd_of_mul-dvd-mul_left, eq-one_of_dvd-one, eq-zero_of_zero-dvd, mul-div_cancel'}
 use Rattle.std.proofs.lemmas.Nat.Gcd.{IsGcd-from_zero, IsGcd-from_mod, dvd-zero, dvd_antisymm}
 use Rattle.std.proofs.lemmas.Int.{unsigned_abs-mul}
-use Rattle.uc_model.proofs.Ring.{linear, mul_comm, mul_assoc, mul-neg, le_antisymm, le_of_eq, le_from_mul, pos_of_nonneg}
+use Rattle.uc_model.proofs.Common.{linear, mul_comm, mul_assoc, mul-neg, le_antisymm, le_of_eq, le_from_mul, pos_of_nonneg}
 use Rattle.cost_curves.specs.LowestTerms.{Slope, IsInLowestTerms}
 
 -- ---- greatest common divisors

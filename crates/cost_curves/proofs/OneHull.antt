@@ -3,8 +3,8 @@
 -- Cite from a crate above by `use Rattle.cost_curves.proofs.OneHull.{one_hull}`.
 use Rattle.std.proofs.Common.{◌≡◌, ℕ, zero, suc, ◌<◌, ◌≤◌, ◌⊎◌, ⊎_elim, sym, subst, ap, ◌∙◌, arith, List, length, ℤ, pos, ◌-ℤ◌, ◌*ℤ◌, ◌≤ℤ◌, ◌<ℤ◌}
 use Rattle.std.proofs.lemmas.List.{ext_get_or}
-use Rattle.uc_model.specs.Points.{point_of}
-use Rattle.uc_model.proofs.Ring.{linear, le_or_lt, le_antisymm, sub_nonneg, mul-zero, mul_comm, le_from_mul}
+use Rattle.uc_model.specs.Prelude.{point_of}
+use Rattle.uc_model.proofs.Common.{linear, le_or_lt, le_antisymm, sub_nonneg, mul-zero, mul_comm, le_from_mul}
 use Rattle.cost_curves.specs.LowerHull.{Point, IsAbove, IsBelow, HullOfFirst, IsLowerHull}
 use Rattle.cost_curves.proofs.Lines.{flatter_trans, right_of, above_of, above-flatter_start, above-flatter_end, above-flatter_whole, flatter_bend-above, sub_positive, less_le}
 

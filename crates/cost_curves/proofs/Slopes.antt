@@ -3,11 +3,8 @@
 -- Cite from a crate above by `use Rattle.cost_curves.proofs.Slopes.{slopes_rise}`.
 use Rattle.std.proofs.Common.{◌≡◌, ℕ, ◌<◌, sym, ap, subst, ◌∙◌, arith, List, length, ℤ, pos, ◌+ℤ◌, ◌*ℤ◌, ◌≤ℤ◌, ◌<ℤ◌, IsTrue, int_lt}
 use Rattle.std.proofs.lemmas.Bool.{and_parts}
-use Rattle.uc_model.specs.Points.{output_of}
-use Rattle.uc_model.specs.Hull.{rise, run, is_hull_segment, is_above_line}
-use Rattle.uc_model.specs.Sums.{all_below}
-use Rattle.uc_model.proofs.Ring.{linear, spread}
-use Rattle.uc_model.proofs.Tests.{int_le-true, int_lt-true, all_below-at}
+use Rattle.uc_model.specs.Prelude.{output_of, rise, run, is_hull_segment, is_above_line, all_below}
+use Rattle.uc_model.proofs.Common.{linear, spread, int_le-true, int_lt-true, all_below-at}
 use Rattle.cost_curves.specs.LeastCost.{Point, Slope, IsLeftSlope, IsSlopeOf}
 use Rattle.cost_curves.proofs.Lines.{flatter_trans}
 

@@ -1,6 +1,6 @@
 -- The points of a lawful unit have a lower hull.
 use Rattle.std.proofs.Common.{arith}
-use Rattle.uc_model.specs.Limits.{IsLawfulThermal}
+use Rattle.uc_model.specs.Prelude.{IsLawfulThermal}
 use Rattle.uc_model.specs.declared.instance.Thermal.{Thermal}
 use Rattle.cost_curves.specs.LowerHull.{AreLawfulPoints}
 

@@ -2,8 +2,7 @@
 -- lower hull. Source: the piecewise production cost of the pglib-uc format, which the reference model by Knueven,
 -- Ostrowski and Watson takes as weights on the points.
 use Rattle.std.specs.Prelude.{◌≡◌, ℕ, ◌<◌, List, ℤ, pos, ◌*ℤ◌, ◌≤ℤ◌, ◌<ℤ◌, length, IsTrue}
-use Rattle.uc_model.specs.Points.{point_of, output_of, weighted_total, weighted_output, weighted_cost}
-use Rattle.uc_model.specs.Hull.{rise, run, is_hull_segment, segment_holds}
+use Rattle.uc_model.specs.Prelude.{point_of, output_of, weighted_total, weighted_output, weighted_cost, rise, run, is_hull_segment, segment_holds}
 pub use Rattle.uc_model.specs.declared.instance.Point.{Point}
 pub use Rattle.cost_curves.specs.declared.slope.Slope.{Slope}
 

@@ -2,8 +2,7 @@
 -- Source: the lower hull of points in the plane, as the monotone chain of A. M. Andrew gives it ("Another efficient
 -- algorithm for convex hulls in two dimensions", Information Processing Letters 9, 1979).
 use Rattle.std.specs.Prelude.{◌≡◌, ℕ, suc, ◌-◌, ◌<◌, Bool, List, ℤ, ◌-ℤ◌, ◌*ℤ◌, ◌≤ℤ◌, ◌<ℤ◌, int_le, length}
-use Rattle.uc_model.specs.Points.{point_of, output_of}
-use Rattle.uc_model.specs.Limits.{IsPower, IsCost}
+use Rattle.uc_model.specs.Prelude.{point_of, output_of, IsPower, IsCost}
 pub use Rattle.uc_model.specs.declared.instance.Point.{Point}
 
 -- a point within the limits

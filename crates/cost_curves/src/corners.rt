@@ -1,7 +1,7 @@
 //! The corners of the lower hull: how a point joins them, and between which an output lies.
 
 ghost use Rattle.std.specs.Prelude.{◌≡◌, ℕ, suc, ◌+◌, ◌<◌, ◌≤◌, false, int_le, length, take};
-ghost use Rattle.uc_model.specs.Points.{point_of};
+ghost use Rattle.uc_model.specs.Prelude.{point_of};
 ghost use Rattle.cost_curves.specs.LowerHull.{AreLawfulPoints, IsLawfulPoint, HullOfFirst, IsLowerHull, is_above};
 ghost use Rattle.cost_curves.specs.inside.Corners.{is_over, IsNext, Joins};
 

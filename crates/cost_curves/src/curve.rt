@@ -1,7 +1,7 @@
 //! The production cost of a unit as a curve: the lower hull of its points.
 
 ghost use Rattle.std.specs.Prelude.{◌≡◌, ℕ, List, ◌<◌, pos, ◌*ℤ◌, ◌<ℤ◌, ◌≤ℤ◌, unsigned_abs, IfOk};
-ghost use Rattle.uc_model.specs.Hull.{hull_cost};
+ghost use Rattle.uc_model.specs.Prelude.{hull_cost};
 ghost use Rattle.cost_curves.specs.LowerHull.{Point, AreLawfulCorners, AreLawfulPoints, IsLowerHull, width_of};
 ghost use Rattle.cost_curves.specs.LeastCost.{IsLeastCostUp, IsLeftSlope, IsRightSlope, IsSegmentAt};
 

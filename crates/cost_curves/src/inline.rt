@@ -1,7 +1,7 @@
 //! The production cost of a unit as a curve without memory of its own.
 
 ghost use Rattle.std.specs.Prelude.{◌≡◌, ◌≤◌, List, pos, ◌*ℤ◌, ◌≤ℤ◌, unsigned_abs, length};
-ghost use Rattle.uc_model.specs.Hull.{hull_cost};
+ghost use Rattle.uc_model.specs.Prelude.{hull_cost};
 ghost use Rattle.cost_curves.specs.LowerHull.{Point, AreLawfulPoints, IsLowerHull, width_of};
 ghost use Rattle.cost_curves.specs.LeastCost.{IsLeastCostUp};
 

@@ -1,9 +1,7 @@
 //! Where an output lies among the corners, and what the hull says there.
 
 ghost use Rattle.std.specs.Prelude.{◌≡◌, ℕ, suc, ◌*◌, ◌^◌, ◌<◌, ◌≤◌, pos, List, ◌-ℤ◌, ◌*ℤ◌, ◌<ℤ◌, ◌≤ℤ◌, int_lt, length, unsigned_abs};
-ghost use Rattle.uc_model.specs.Division.{IsCeiling};
-ghost use Rattle.uc_model.specs.Hull.{hull_cost};
-ghost use Rattle.uc_model.specs.Points.{point_of, output_of};
+ghost use Rattle.uc_model.specs.Prelude.{IsCeiling, hull_cost, point_of, output_of};
 ghost use Rattle.cost_curves.specs.LowerHull.{Point, AreLawfulCorners, IsLawfulPoint, IsLowerHull, width_of};
 ghost use Rattle.cost_curves.specs.LeastCost.{IsLeastCostUp, IsLeftSlope, IsSegmentAt};
 ghost use Rattle.cost_curves.specs.inside.Places.{HoldsOutput};

@@ -1,7 +1,7 @@
 //! The curves of an instance's thermal units.
 
 ghost use Rattle.std.specs.Prelude.{IfOk};
-ghost use Rattle.uc_model.specs.Limits.{IsLawfulInstance};
+ghost use Rattle.uc_model.specs.Prelude.{IsLawfulInstance};
 ghost use Rattle.cost_curves.specs.UnitCurves.{AreCurvesOf};
 
 use crate::curve::Curve;

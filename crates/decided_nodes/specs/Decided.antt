@@ -1,13 +1,10 @@
 -- The exact dispatch at a node at which each cell is decided. Source: branch and bound on the commitment variables of the reference model by
 -- Knueven, Ostrowski and Watson, whose leaves are linear programs.
 use Rattle.std.specs.Prelude.{◌≡◌, ℕ, ◌<◌, ◌⊎◌, IsTrue, List, ℤ, true, false, length, None, Some}
-use Rattle.uc_model.specs.PrintedSchedule.{printed_cost}
-use Rattle.uc_model.specs.Schedule.{thermal_count}
-use Rattle.dual_model.specs.Fixings.{IsPatternAt, HasEmptyUnit}
-use Rattle.dual_model.specs.Prices.{IsLawfulTable}
-use Rattle.dual_model.specs.Tree.{is_decided}
+use Rattle.uc_model.specs.Prelude.{printed_cost, thermal_count}
+use Rattle.dual_model.specs.Prelude.{IsPatternAt, HasEmptyUnit, IsLawfulTable, is_decided}
 pub use Rattle.dual_model.specs.declared.node.Node.{Node}
-use Rattle.dispatch_rules.specs.CommitmentTask.{commitment_at}
+use Rattle.dispatch_rules.specs.Prelude.{commitment_at}
 use Rattle.pivot_dispatch.specs.Answers.{IsAnswer}
 pub use Rattle.pivot_dispatch.specs.Commitments.{Instance, Pattern}
 use Rattle.pivot_dispatch.specs.declared.pivot.Pivot.{Pivot}

@@ -1,6 +1,6 @@
 -- Whether a search uses the exact dispatch, and how many claims are enough for each node of its tree. This project's own form.
 use Rattle.std.specs.Prelude.{ℕ, ◌+◌, ◌*◌, ◌^◌, Bool, true, false}
-use Rattle.uc_model.specs.Schedule.{thermal_count}
+use Rattle.uc_model.specs.Prelude.{thermal_count}
 pub use Rattle.uc_model.specs.declared.instance.Instance.{Instance}
 pub use Rattle.decided_nodes.specs.declared.pivoting.Pivoting.{Pivoting}
 use Rattle.decided_nodes.specs.declared.pivoting.Pivoting.TheVariants.{Off, On, Exhaustive}

@@ -1,8 +1,8 @@
 //! Which cells a node decides.
 
 ghost use Rattle.std.specs.Prelude.{◌≡◌, MatchOption};
-ghost use Rattle.uc_model.specs.Limits.{IsLawfulInstance};
-ghost use Rattle.dual_model.specs.Tree.{is_decided};
+ghost use Rattle.uc_model.specs.Prelude.{IsLawfulInstance};
+ghost use Rattle.dual_model.specs.Prelude.{is_decided};
 ghost use Rattle.decided_nodes.specs.Decided.{DecidesBelow, DecidesEach, IsFreeBelow, IsFreeCell};
 
 use dual_model::Node;

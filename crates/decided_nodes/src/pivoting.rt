@@ -1,7 +1,7 @@
 //! How a search uses the exact dispatch.
 
 ghost use Rattle.std.specs.Prelude.{◌≡◌, ◌≤◌, ◌↔◌, IsTrue};
-ghost use Rattle.uc_model.specs.Limits.{IsLawfulInstance};
+ghost use Rattle.uc_model.specs.Prelude.{IsLawfulInstance};
 ghost use Rattle.decided_nodes.specs.Pivoting.{node_limit, uses_exact_dispatch};
 ghost use Rattle.decided_nodes.specs.declared.pivoting.Pivoting.TheVariants.{Exhaustive};
 

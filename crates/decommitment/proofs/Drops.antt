@@ -2,14 +2,8 @@
 use Rattle.std.proofs.Common.{◌≡◌, ◌⊎◌, ◌∙◌, ⊎_elim, ℕ, ◌<◌, zero, suc, false, true, List, get_or, get_or-set_other, get_or-set_same, set, length, inl, inr, refl, sym, subst, ap, arith, ℤ, IsTrue, int_lt, nat_lt, ◌≤◌, unsigned_abs}
 use Rattle.std.proofs.lemmas.Bool.{cases_Bool, cases_eq, ltb-true}
 use Rattle.std.proofs.lemmas.List.{set-get_or}
-use Rattle.uc_model.proofs.PrintedCosts.{printed_cost-fits, watts-factor}
-use Rattle.uc_model.proofs.Ring.{linear}
-use Rattle.uc_model.proofs.Tests.{int_lt-true}
-use Rattle.uc_model.specs.Commitment.{is_allowed}
-use Rattle.uc_model.specs.Limits.{IsLawfulInstance}
-use Rattle.uc_model.specs.PatternBits.{commitment_of}
-use Rattle.uc_model.specs.PrintedSchedule.{cell_at, printed_cost, printed_denominator}
-use Rattle.uc_model.specs.Schedule.{thermal_count, thermal_unit}
+use Rattle.uc_model.proofs.Common.{printed_cost-fits, watts-factor, linear, int_lt-true}
+use Rattle.uc_model.specs.Prelude.{is_allowed, IsLawfulInstance, commitment_of, cell_at, printed_cost, printed_denominator, thermal_count, thermal_unit}
 use Rattle.uc_model.specs.declared.limits.TheConstants.{COST_MAX}
 use Rattle.schedule_check.specs.Accepted.{IsAccepted}
 use Rattle.schedule_check.specs.WholeWatts.{HasPrice}

@@ -3,12 +3,8 @@
 use Rattle.std.proofs.Common.{◌≡◌, ℕ, zero, suc, ◌+◌, ◌-◌, ◌*◌, ◌<◌, ◌≤◌, inl, ⊎_elim, Bool, true, false, refl, sym, ap, subst, ◌∙◌, arith, List, ℤ, pos, ◌+ℤ◌, ◌-ℤ◌, ◌*ℤ◌, ◌≤ℤ◌, unsigned_abs, slice_set, get_or-set_other, Option, Some, None, MatchOption, get_or-set_same, w64, to_z, of_z, length}
 use Rattle.std.proofs.lemmas.Int.{ints}
 use Rattle.std.proofs.lemmas.Bool.{cases_lt}
-use Rattle.uc_model.specs.Limits.{IsLawfulInstance, IsPower}
-use Rattle.uc_model.specs.PatternBits.{commitment_of}
-use Rattle.uc_model.specs.Schedule.{thermal_unit, thermal_count, renewable_count}
-use Rattle.uc_model.specs.Sums.{bit, sum_below}
-use Rattle.uc_model.proofs.Ring.{linear, mul-one, mul-zero}
-use Rattle.uc_model.proofs.Sums.{below_or_last, sum_below-zero}
+use Rattle.uc_model.specs.Prelude.{IsLawfulInstance, IsPower, commitment_of, thermal_unit, thermal_count, renewable_count, bit, sum_below}
+use Rattle.uc_model.proofs.Common.{linear, mul-one, mul-zero, below_or_last, sum_below-zero, narrow}
 use Rattle.dispatch_repair.specs.Amounts.{IsSizedEnd, IsSizedOutput, amount_at, thermal_amount}
 use Rattle.dispatch_repair.specs.Period.{Instance, Period, Source, FromRenewable, FromThermal, commitment_at, low_of, high_of, renewable_sum}
 use Rattle.dispatch_repair.specs.Segments.{source_at, source_count}
@@ -24,7 +20,6 @@ use Rattle.dispatch_repair.proofs.Reaches.{heads_are, ranges_are, ranges_in}
 use Rattle.decommitment.specs.inside.Fills.{AreEntered, Base, Fill, HasSizes, Hour, IsAlike, IsBaseOf, IsBegun, IsEntered, IsHourOf, IsReady, Part, System, base_parts, base_period, exchanged_totals, hour_period, no_part, part_at, unit_part, AreGiven, IsSizedAmount, IsBegunTo, IsClear, no_given, no_totals}
 use Rattle.decommitment.specs.inside.Levels.{AreAtLevel, IsAtLevel, IsLeastAt}
 use Rattle.decommitment.proofs.Givens.{exchanged_sum}
-use Rattle.uc_model.proofs.Sizes.{narrow}
 use Rattle.dispatch_repair.proofs.Filled.{max_left}
 use Rattle.decommitment.proofs.Levels.{higher}
 use Rattle.decommitment.proofs.Steps.{at_most, between}

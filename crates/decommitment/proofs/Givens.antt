@@ -2,12 +2,8 @@
 -- Cite by `use Rattle.decommitment.proofs.Givens.{given_set}`.
 use Rattle.std.proofs.Common.{◌≡◌, ◌≢◌, ℕ, ◌+◌, ◌-◌, ◌*◌, ◌<◌, ◌≤◌, ⊎_elim, Bool, true, false, sym, subst, ◌∙◌, arith, List, length, ℤ, pos, ◌+ℤ◌, ◌-ℤ◌, unsigned_abs, slice_set, get_or-set_same, get_or-set_other, length-set, nat_lt, if◌then◌else◌}
 use Rattle.std.proofs.lemmas.Bool.{cases_lt, lt-ltb, le-ltb, cond-true, cond-false}
-use Rattle.uc_model.specs.Limits.{IsLawfulInstance}
-use Rattle.uc_model.specs.Sums.{sum_below}
-use Rattle.uc_model.specs.Schedule.{thermal_count, renewable_count}
-use Rattle.uc_model.proofs.CostBound.{IsWithin, within_of_abs, abs_of_within, within_const_sum}
-use Rattle.uc_model.proofs.Ring.{linear, pos-mul}
-use Rattle.uc_model.proofs.Sums.{sum_below-same, sum_below-sub}
+use Rattle.uc_model.specs.Prelude.{IsLawfulInstance, sum_below, thermal_count, renewable_count}
+use Rattle.uc_model.proofs.Common.{IsWithin, within_of_abs, abs_of_within, within_const_sum, linear, pos-mul, sum_below-same, sum_below-sub}
 use Rattle.dispatch_repair.specs.Amounts.{IsSizedEnd, amount_at, thermal_amount}
 use Rattle.dispatch_repair.specs.Period.{Instance}
 use Rattle.dispatch_repair.specs.Segments.{source_count}

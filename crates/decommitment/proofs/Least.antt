@@ -3,9 +3,7 @@
 use Rattle.std.proofs.Common.{◌≡◌, ℕ, suc, ◌<◌, ◌≤◌, inl, inr, ⊎_elim, sym, subst, ◌∙◌, arith, List, length, ℤ, ◌≤ℤ◌, ◌<ℤ◌, nat_lt, if◌then◌else◌}
 use Rattle.std.specs.Int.{int_min, int_max}
 use Rattle.std.proofs.lemmas.Bool.{cases_lt, lt-ltb, le-ltb, cond-true, cond-false}
-use Rattle.uc_model.proofs.Ring.{linear, le_or_lt, le_trans}
-use Rattle.uc_model.proofs.Sums.{below_or_last}
-use Rattle.uc_model.proofs.Tests.{int_min_left, int_min_right}
+use Rattle.uc_model.proofs.Common.{linear, le_or_lt, le_trans, below_or_last, int_min_left, int_min_right}
 use Rattle.dispatch_repair.specs.Segments.{segment_at}
 use Rattle.dispatch_repair.specs.declared.segment.Segment.{Segment}
 use Rattle.dispatch_repair.proofs.Filled.{max_left, max_right}

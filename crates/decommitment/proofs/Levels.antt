@@ -3,8 +3,7 @@
 use Rattle.std.proofs.Common.{◌≡◌, ◌≢◌, ℕ, suc, ◌-◌, ◌<◌, ◌≤◌, ◌⊎◌, inl, inr, ⊎_elim, refl, sym, subst, ◌∙◌, arith, List, length, get_or, ℤ, pos, ◌≤ℤ◌, slice_set, get_or-set_same, get_or-set_other, if◌then◌else◌}
 use Rattle.std.specs.Int.{int_min}
 use Rattle.std.proofs.lemmas.Bool.{cases_lt, cases_eq, cond_both}
-use Rattle.uc_model.proofs.Ring.{linear, le_antisymm, le_or_lt, le_trans}
-use Rattle.uc_model.proofs.Tests.{int_min_left, int_min_right}
+use Rattle.uc_model.proofs.Common.{linear, le_antisymm, le_or_lt, le_trans, int_min_left, int_min_right}
 use Rattle.dispatch_repair.specs.Amounts.{amount_at}
 use Rattle.dispatch_repair.specs.Period.{Period, low_of, high_of}
 use Rattle.dispatch_repair.specs.Segments.{segment_at, source_at, source_count}

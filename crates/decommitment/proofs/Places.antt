@@ -6,7 +6,7 @@ use Rattle.std.specs.declared.vec.Vec.{Vec}
 use Rattle.std.proofs.lemmas.Bool.{cases_lt}
 use Rattle.std.proofs.lemmas.List.{get_or_append_left, get_or-append_right, get_or_push, length_push, map-set}
 use Rattle.dispatch_repair.specs.Rooms.{rows_of}
-use Rattle.uc_model.proofs.Sums.{below_or_last}
+use Rattle.uc_model.proofs.Common.{below_or_last}
 use Rattle.dispatch_repair.specs.Segments.{segment_at}
 use Rattle.dispatch_repair.specs.declared.segment.Segment.{Segment}
 use Rattle.dispatch_repair.proofs.RowsEdits.{row_read}

@@ -2,16 +2,10 @@
 use Rattle.std.proofs.Common.{◌≡◌, ◌≢◌, ℕ, ◌+◌, ◌*◌, ◌^◌, ◌<◌, ◌≤◌, inl, inr, false, sym, ap, subst, ◌∙◌, arith, List, [], ◌∷◌, ◌++◌, get_or, get_or-set_other, get_or-set_same, set, length, ℤ, pos, ◌+ℤ◌, ◌*ℤ◌, ◌≤ℤ◌, of_z, to_z, unsigned_abs, if◌then◌else◌}
 use Rattle.std.specs.Int.{w128}
 use Rattle.std.proofs.lemmas.List.{get_or_read, length_push, set-get_or, set-set}
-use Rattle.uc_model.specs.Division.{quotient_up}
-use Rattle.uc_model.specs.Hull.{hull_cost}
-use Rattle.uc_model.specs.Limits.{IsLawfulInstance}
+use Rattle.uc_model.specs.Prelude.{quotient_up, hull_cost, IsLawfulInstance, cell_at, printed_cell_cost, printed_cost, printed_shortage_cost, watt_denominator, renewable_count, thermal_count, thermal_unit, category_cost, category_count, sum_below}
 use Rattle.uc_model.specs.declared.instance.Thermal.{Thermal}
 use Rattle.uc_model.specs.declared.schedule.Cell.{Cell}
-use Rattle.uc_model.specs.PrintedSchedule.{cell_at, printed_cell_cost, printed_cost, printed_shortage_cost, watt_denominator}
-use Rattle.uc_model.specs.Schedule.{renewable_count, thermal_count, thermal_unit}
-use Rattle.uc_model.specs.StartCategory.{category_cost, category_count}
-use Rattle.uc_model.specs.Sums.{sum_below}
-use Rattle.uc_model.proofs.Sums.{below_or_last, sum_below-same}
+use Rattle.uc_model.proofs.Common.{below_or_last, sum_below-same}
 use Rattle.schedule_check.proofs.AddedSums.{added}
 use Rattle.schedule_check.specs.WholeWatts.{HasPrice, cell, lacking_alone, whole, width}
 use Rattle.dispatch_repair.specs.Amounts.{amount_at, thermal_amount}

@@ -4,11 +4,7 @@ use Rattle.std.specs.Int.{w128}
 use Rattle.std.proofs.lemmas.List.{set-get_or, set-set}
 use Rattle.std.specs.declared.alloc.Global.{Global}
 use Rattle.std.specs.declared.vec.Vec.{Vec}
-use Rattle.uc_model.specs.Division.{quotient_up}
-use Rattle.uc_model.specs.Limits.{IsLawfulInstance}
-use Rattle.uc_model.specs.PrintedSchedule.{printed_cell_cost, printed_cost}
-use Rattle.uc_model.specs.Schedule.{thermal_count, thermal_unit}
-use Rattle.uc_model.specs.Sums.{sum_below}
+use Rattle.uc_model.specs.Prelude.{quotient_up, IsLawfulInstance, printed_cell_cost, printed_cost, thermal_count, thermal_unit, sum_below}
 use Rattle.uc_model.specs.declared.limits.TheConstants.{COST_MAX}
 use Rattle.uc_model.proofs.Sizes.{wide}
 use Rattle.dispatch_repair.specs.declared.segment.Segment.{Segment}

@@ -1,11 +1,9 @@
 -- The run of a commitment is the beginning of its dispatch.
 use Rattle.std.proofs.Common.{◌≡◌, ⊎_elim, IfSome, ℕ, zero, suc, ◌+◌, ◌<◌, ◌≤◌, inl, inr, refl, sym, ap, subst, ◌∙◌, arith, List, [], ◌∷◌, ◌++◌, length, get_or, ℤ}
 use Rattle.std.proofs.lemmas.List.{get_or-map, get_or_append_left, get_or_push, length_push}
-use Rattle.uc_model.specs.Limits.{IsLawfulInstance}
-use Rattle.uc_model.specs.PrintedSchedule.{cell_at, shed_at, short_at}
+use Rattle.uc_model.specs.Prelude.{IsLawfulInstance, cell_at, shed_at, short_at, thermal_count, thermal_unit}
 use Rattle.uc_model.specs.declared.schedule.Cell.{Cell}
-use Rattle.uc_model.specs.Schedule.{thermal_count, thermal_unit}
-use Rattle.uc_model.proofs.Sums.{below_or_last}
+use Rattle.uc_model.proofs.Common.{below_or_last}
 use Rattle.dispatch_repair.specs.Amounts.{AreBeforePeriod, IsSizedOutput, next_period, thermal_amount}
 use Rattle.dispatch_repair.specs.Filled.{IsDispatchedFrom}
 use Rattle.dispatch_repair.specs.declared.segment.Segment.{Segment}

@@ -3,12 +3,8 @@
 use Rattle.std.proofs.Common.{◌≡◌, ℕ, suc, ◌-◌, ◌*◌, ◌<◌, ◌≤◌, min, ⊎_elim, refl, sym, subst, ◌∙◌, arith, List, length, ℤ, pos, ◌⊎◌, ◌+ℤ◌, ◌-ℤ◌, ◌≤ℤ◌, ◌<ℤ◌, IsTrue, slice_set, w64, to_z, of_z, if◌then◌else◌}
 use Rattle.std.specs.Int.{int_min}
 use Rattle.std.proofs.lemmas.Int.{ints}
-use Rattle.uc_model.specs.Limits.{IsLawfulInstance}
-use Rattle.uc_model.specs.Schedule.{thermal_count}
-use Rattle.uc_model.proofs.CostBound.{within_of_abs}
-use Rattle.uc_model.proofs.Ring.{linear, le_trans}
-use Rattle.uc_model.proofs.Sizes.{narrow}
-use Rattle.uc_model.proofs.Tests.{int_min_right}
+use Rattle.uc_model.specs.Prelude.{IsLawfulInstance, thermal_count}
+use Rattle.uc_model.proofs.Common.{within_of_abs, linear, le_trans, narrow, int_min_right}
 use Rattle.dispatch_repair.specs.Amounts.{MAX_POWER, IsRangeOf, IsSizedEnd, amount_at}
 use Rattle.dispatch_repair.specs.Period.{Instance, Period}
 use Rattle.dispatch_repair.specs.Segments.{AreInMeritOrder, no_segment, segment_at, source_count}

@@ -4,10 +4,7 @@
 --
 -- Units and periods count from 0 here.
 use Rattle.std.specs.Prelude.{◌≡◌, ◌⊎◌, ℕ, zero, suc, Bool, true, false, List, ℤ, int_lt, nat_lt, IsTrue, slice_set}
-use Rattle.uc_model.specs.ExtremePatterns.{IsFewestOn}
-use Rattle.uc_model.specs.PatternBits.{commitment_of}
-use Rattle.uc_model.specs.PrintedSchedule.{printed_cost}
-use Rattle.uc_model.specs.Schedule.{thermal_unit, thermal_count}
+use Rattle.uc_model.specs.Prelude.{IsFewestOn, commitment_of, printed_cost, thermal_unit, thermal_count}
 pub use Rattle.uc_model.specs.declared.instance.Instance.{Instance}
 pub use Rattle.uc_model.specs.declared.pattern.Pattern.{Pattern}
 pub use Rattle.uc_model.specs.declared.schedule.Printed.{Printed}

@@ -1,9 +1,7 @@
 //! A thermal unit enters a period: its parts of the sums are added, and it gives what the level says.
 
 ghost use Rattle.std.specs.Prelude.{◌≡◌, ℕ, ◌+◌, ◌*◌, ◌<◌, ◌≤◌, IsTrue, MatchOption, length, slice_index_or, slice_set, suc, unsigned_abs};
-ghost use Rattle.uc_model.specs.Limits.{IsLawfulInstance};
-ghost use Rattle.uc_model.specs.PatternBits.{commitment_of};
-ghost use Rattle.uc_model.specs.Schedule.{renewable_count, thermal_count};
+ghost use Rattle.uc_model.specs.Prelude.{IsLawfulInstance, commitment_of, renewable_count, thermal_count};
 ghost use Rattle.dispatch_repair.specs.Amounts.{IsSizedOutput, thermal_amount};
 ghost use Rattle.dispatch_repair.specs.Stuck.{HaveRanges, IsFirstObstacle};
 ghost use Rattle.decommitment.specs.inside.Fills.{AreEntered, AreGiven, AreWide, HasSizes, IsAlike, IsBaseOf, IsEntered, IsHourOf, base_parts, base_period, exchanged_totals as totals_with, hour_period, unit_part as part_of};

@@ -1,7 +1,7 @@
 //! Periods of a commitment, filled in order of merit: from nothing, or from how a like commitment was filled.
 
 ghost use Rattle.std.specs.Prelude.{◌≡◌, ℕ, ◌<◌, pos, ◌+ℤ◌, IfOk, IsTrue, MatchOption, length};
-ghost use Rattle.uc_model.specs.Schedule.{renewable_count};
+ghost use Rattle.uc_model.specs.Prelude.{renewable_count};
 ghost use Rattle.dispatch_repair.specs.Amounts.{amount_at};
 ghost use Rattle.dispatch_repair.specs.Stuck.{IsFirstObstacle};
 ghost use Rattle.dispatch_repair.specs.Segments.{source_count};

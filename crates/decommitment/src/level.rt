@@ -1,8 +1,7 @@
 //! Steps along the order of merit: a source gives more or less, and the next one, until demand is met.
 
 ghost use Rattle.std.specs.Prelude.{◌≡◌, ◌-◌, ◌*◌, ◌<◌, ◌≤◌, ◌⊎◌, pos, ◌+ℤ◌, ◌-ℤ◌, ◌≤ℤ◌, ◌<ℤ◌, int_lt, length, suc, slice_set, unsigned_abs, if◌then◌else◌};
-ghost use Rattle.uc_model.specs.Limits.{IsLawfulInstance};
-ghost use Rattle.uc_model.specs.Schedule.{thermal_count};
+ghost use Rattle.uc_model.specs.Prelude.{IsLawfulInstance, thermal_count};
 ghost use Rattle.dispatch_repair.specs.Amounts.{AreBeforePeriod, IsRangeOf, IsSizedEnd, amount_at, next_period};
 ghost use Rattle.dispatch_repair.specs.Segments.{source_count};
 ghost use Rattle.dispatch_repair.specs.Stuck.{HaveRanges};

@@ -1,14 +1,13 @@
 //! The drop pass: from the most-on commitment to one of fewer on periods, unit by unit, where the dispatch is better for it.
 
 ghost use Rattle.std.specs.Prelude.{◌≡◌, ◌<◌, List, ℤ, IfOk, length, suc};
-ghost use Rattle.uc_model.specs.Limits.{IsLawfulInstance};
-ghost use Rattle.uc_model.specs.Schedule.{thermal_count};
+ghost use Rattle.uc_model.specs.Prelude.{IsLawfulInstance, thermal_count};
 ghost use Rattle.dispatch_repair.specs.MostOn.{AreMostOn};
 ghost use Rattle.dispatch_repair.specs.Rooms.{IsRoomOf};
 ghost use Rattle.dispatch_repair.specs.declared.segment.Segment.{Segment};
 ghost use Rattle.dispatch_repair.specs.Stuck.{IsDispatchOf, IsStuckOf};
 ghost use Rattle.decommitment.specs.DropCommitment.{Instance, IsStuckIn, Printed};
-ghost use Rattle.dual_model.specs.Tree.{HasEachPattern};
+ghost use Rattle.dual_model.specs.Prelude.{HasEachPattern};
 ghost use Rattle.decommitment.specs.Standings.{IsDropped};
 ghost use Rattle.decommitment.specs.inside.Runs.{IsOrigin, IsRun, IsRunPass, IsSetting, IsStandOf, IsTrialOf, IsTriedRun, instance_of, order_of};
 ghost use Rattle.decommitment.specs.inside.Turns.{AreAllowed};

@@ -1,10 +1,9 @@
 //! The patterns of a drop pass: those with the most on periods, and with the fewest.
 
 ghost use Rattle.std.specs.Prelude.{◌<◌, IfOk};
-ghost use Rattle.uc_model.specs.Limits.{IsLawfulInstance};
-ghost use Rattle.uc_model.specs.Schedule.{thermal_count};
+ghost use Rattle.uc_model.specs.Prelude.{IsLawfulInstance, thermal_count};
 ghost use Rattle.dispatch_repair.specs.MostOn.{AreMostOn};
-ghost use Rattle.dual_model.specs.Tree.{HasEachPattern};
+ghost use Rattle.dual_model.specs.Prelude.{HasEachPattern};
 ghost use Rattle.decommitment.specs.DropCommitment.{IsFewestOnOf};
 
 use dispatch_repair::{MostFault, fewest_of, most_on};

@@ -1,9 +1,7 @@
 //! What a run through all periods costs, from what another one does.
 
 ghost use Rattle.std.specs.Prelude.{◌≡◌, ℕ, ◌*◌, ◌^◌, ◌<◌, ◌≤◌, pos, IfOk, IsTrue, length, slice_index_or, unsigned_abs};
-ghost use Rattle.uc_model.specs.PrintedSchedule.{printed_shortage_cost};
-ghost use Rattle.uc_model.specs.Schedule.{thermal_count};
-ghost use Rattle.uc_model.specs.Sums.{sum_below};
+ghost use Rattle.uc_model.specs.Prelude.{printed_shortage_cost, thermal_count, sum_below};
 ghost use Rattle.decommitment.specs.DropCommitment.{Printed};
 ghost use Rattle.decommitment.specs.inside.Runs.{AreUnitCosts, GivesSame, IsCellOf, IsChanged, IsRowOf, IsTrialOf, IsUnitCost, LacksSo, cost_at, lack_at};
 ghost use Rattle.decommitment.specs.inside.Stretches.{IsMarked};

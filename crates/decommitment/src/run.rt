@@ -1,8 +1,7 @@
 //! The run of a commitment: its periods one after another, filled again from another commitment's where there is one.
 
 ghost use Rattle.std.specs.Prelude.{◌≡◌, ◌<◌, ◌≤◌, [], IfOk, MatchOption, length, IfSome, None};
-ghost use Rattle.uc_model.specs.Limits.{IsLawfulInstance};
-ghost use Rattle.uc_model.specs.Schedule.{thermal_count};
+ghost use Rattle.uc_model.specs.Prelude.{IsLawfulInstance, thermal_count};
 ghost use Rattle.dispatch_repair.specs.Amounts.{next_period};
 ghost use Rattle.dispatch_repair.specs.Rooms.{IsRoomOf};
 ghost use Rattle.dispatch_repair.specs.Segments.{source_count};

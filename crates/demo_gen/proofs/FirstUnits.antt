@@ -1,7 +1,7 @@
 -- One unit more, and how large the drawn numbers and their sums are.
 use Rattle.std.proofs.Common.{◌≡◌, ℕ, zero, suc, ◌+◌, ◌*◌, ◌<◌, ◌≤◌, [], ◌∷◌, ◌++◌, length, refl, ap, ◌∙◌, arith, slice_index_or}
 use Rattle.std.proofs.lemmas.List.FromFn.{get_or-map-range_with_len, length-map-range_with_len, map-range_with_len_more, sum_by-map-range_with_len_more}
-use Rattle.uc_model.specs.Schedule.{no_unit}
+use Rattle.uc_model.specs.Prelude.{no_unit}
 use Rattle.demo_gen.specs.Demo.{first_units, minimum_sum, numbers_from, range_sum, state_after, unit_numbers, unit_of}
 use Rattle.demo_gen.specs.inside.Bounds.{IsSmall}
 

@@ -4,14 +4,9 @@ use Rattle.std.specs.Int.{int_max}
 use Rattle.std.proofs.lemmas.List.{get_or-replicate}
 use Rattle.std.proofs.lemmas.List.Elements.{All-map, All-replicate, All-weaker}
 use Rattle.std.proofs.lemmas.Nat.{mul-le}
-use Rattle.uc_model.specs.Limits.{IsCost, IsLawfulInstance, IsLawfulRenewable, IsLawfulThermal, IsLimit, IsPower}
+use Rattle.uc_model.specs.Prelude.{IsCost, IsLawfulInstance, IsLawfulRenewable, IsLawfulThermal, IsLimit, IsPower, no_unit, renewable_maximum, is_allowed, on_during}
 use Rattle.uc_model.specs.declared.limits.TheConstants.{MAX_TIME}
-use Rattle.uc_model.specs.Schedule.{no_unit, renewable_maximum}
-use Rattle.uc_model.specs.Commitment.{is_allowed}
-use Rattle.uc_model.specs.ExtremePatterns.{on_during}
-use Rattle.uc_model.proofs.ExtremePatterns.{highest-kept_on}
-use Rattle.uc_model.proofs.Ring.{linear}
-use Rattle.uc_model.proofs.Shortages.{unpriced}
+use Rattle.uc_model.proofs.Common.{highest-kept_on, linear, unpriced}
 use Rattle.demo_gen.specs.Demo.{Numbers, Point, StartRow, Thermal, MayAllRun, demand_at, demo_instance, first_units, maximum_cost, middle_cost, millions, minimum_cost, minimum_sum, ramp_of, range_sum, percents, state_after, unit_numbers, unit_of}
 use Rattle.demo_gen.specs.inside.Bounds.{IsSmall}
 use Rattle.demo_gen.proofs.FirstUnits.{minimum-size, numbers_small, range-size, units-at, units-count}

@@ -4,9 +4,7 @@
 -- Units, periods and draws count from 0 here. What is drawn is whole megawatts, hours and dollars.
 use Rattle.std.specs.Prelude.{ℕ, zero, suc, ◌+◌, ◌-◌, ◌*◌, ◌/◌, ◌%◌, ◌^◌, ◌<◌, false, true, IsTrue, List, [], ◌∷◌, ◌++◌, map, sum, replicate, codes, decimal, ℤ, pos}
 use Rattle.std.specs.List.{range_with_len}
-use Rattle.uc_model.specs.Commitment.{is_allowed}
-use Rattle.uc_model.specs.ExtremePatterns.{on_during}
-use Rattle.uc_model.specs.Schedule.{thermal_count, thermal_unit}
+use Rattle.uc_model.specs.Prelude.{is_allowed, on_during, thermal_count, thermal_unit}
 use Rattle.uc_model.specs.declared.instance.Instance.{Instance}
 pub use Rattle.uc_model.specs.declared.instance.Point.{Point}
 use Rattle.uc_model.specs.declared.instance.Renewable.{Renewable}

@@ -1,7 +1,7 @@
 //! The system of a seed.
 
 ghost use Rattle.std.specs.Prelude.{◌≡◌, ◌∷◌, [], ◌≤◌, ◌*◌, ◌/◌, All, IfOk, map, replicate};
-ghost use Rattle.uc_model.specs.Limits.{IsLawfulInstance};
+ghost use Rattle.uc_model.specs.Prelude.{IsLawfulInstance};
 ghost use Rattle.demo_gen.specs.Demo.{MayAllRun, demand_at, demo_instance, renewable_of};
 
 use crate::millions::{HOURS, in_each_hour, millions_of};

@@ -3,30 +3,18 @@
 use Rattle.std.proofs.Common.{◌≡◌, ℕ, zero, suc, ◌-◌, ◌*◌, ◌/◌, ◌<◌, ◌≤◌, ⊎_elim, true, false, sym, ap, subst, ◌∙◌, arith, List, length, ℤ, pos, ◌+ℤ◌, ◌-ℤ◌, ◌*ℤ◌, ◌≤ℤ◌, ◌<ℤ◌, IsTrue, Some, nat_lt, int_le, ◌&&◌, if◌then◌else◌}
 use Rattle.std.specs.Ordering.{int_eq}
 use Rattle.std.proofs.lemmas.Bool.{cases_Bool, cases_lt, cond-true, cond-false, cond_both, true≢false, lt-ltb, le-ltb, and_right, and_from}
-use Rattle.uc_model.specs.Points.{point_of, output_of, weighted_cost}
-use Rattle.uc_model.specs.Cost.{production_cost}
-use Rattle.uc_model.specs.Hull.{Segment, segment_at, segment_width}
-use Rattle.uc_model.specs.Schedule.{thermal_unit, thermal_count}
-use Rattle.uc_model.specs.PrintedSchedule.{width_on, cell_width, cell_at, cell_weight, segment_weight, refused_weight, printed_denominator, printed_schedule}
-use Rattle.uc_model.specs.Limits.{IsLawfulInstance}
+use Rattle.uc_model.specs.Prelude.{point_of, output_of, weighted_cost, production_cost, Segment, segment_at, segment_width, thermal_unit, thermal_count, width_on, cell_width, cell_at, cell_weight, segment_weight, refused_weight, printed_denominator, printed_schedule, IsLawfulInstance}
 use Rattle.uc_model.specs.declared.instance.Thermal.{Thermal}
 use Rattle.uc_model.specs.declared.schedule.Cell.{Cell}
-use Rattle.uc_model.proofs.Sums.{sum_below-same, sum_below-zero}
-use Rattle.uc_model.proofs.Tests.{int_le-true, le-int_le, eq-int_eq}
-use Rattle.uc_model.proofs.PrintedCosts.{denominator-factor}
+use Rattle.uc_model.proofs.Common.{sum_below-same, sum_below-zero, int_le-true, le-int_le, eq-int_eq, denominator-factor, linear, mul_comm, mul_assoc, mul_left_comm, mul-add, mul-sub, mul-zero, mul-le-mul_left, le_from_mul, le_or_lt}
 use Rattle.cost_curves.specs.LowerHull.{Point}
 use Rattle.cost_curves.proofs.HullExists.{segment-there}
 use Rattle.cost_curves.proofs.HullValues.{whole_width}
-use Rattle.dispatch_rules.specs.Cells.{width_at, rise_at, segments}
-use Rattle.dispatch_rules.specs.Dispatch.{Task, cost_of}
+use Rattle.dispatch_rules.specs.Prelude.{width_at, rise_at, segments, Task, cost_of, IsTask, IsDispatch, AreSegments, above_left, line_cost, sum_of, output_in, Printed, Prints}
 use Rattle.dispatch_rules.specs.declared.amount.Amount.TheVariants.{Length}
-use Rattle.dispatch_rules.specs.Duals.{IsTask}
-use Rattle.dispatch_rules.specs.Primals.{IsDispatch, AreSegments, above_left, line_cost, sum_of, output_in}
-use Rattle.dispatch_rules.specs.Prints.{Printed, Prints}
 use Rattle.dispatch_prices.specs.Dispatched.{IsAllowedTask}
 use Rattle.dispatch_prices.proofs.HullCosts.{chord_cost, point_cost, share_times}
 use Rattle.dispatch_prices.proofs.Obeying.{holds_cell}
-use Rattle.uc_model.proofs.Ring.{linear, mul_comm, mul_assoc, mul_left_comm, mul-add, mul-sub, mul-zero, mul-le-mul_left, le_from_mul, le_or_lt}
 
 -- over plain numbers: what the chord bounds, the slope by which the dispatch pays bounds, too
 by_slope : (d scale wc q n e ci c0 w r slope given xi p : ℤ) → pos 0 <ℤ w → pos 0 ≤ℤ scale → pos 0 ≤ℤ d → q ≡ n *ℤ e → slope *ℤ w ≡ scale *ℤ r

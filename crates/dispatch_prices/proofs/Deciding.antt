@@ -5,12 +5,11 @@ use Rattle.std.specs.List.{All, list_all}
 use Rattle.std.proofs.lemmas.List.Elements.{All-head, All-tail, All-cons, All-nil}
 use Rattle.std.proofs.lemmas.List.Folds.{list_all-append}
 use Rattle.std.proofs.lemmas.Bool.{and_parts, and_from, or_cases, cases_Bool, cases_lt, cond-true, cond-false, eq-eqb, true≢false}
-use Rattle.uc_model.specs.Schedule.{Schedule, thermal_count}
-use Rattle.uc_model.specs.Commitment.{Commitment}
+use Rattle.uc_model.specs.Prelude.{Schedule, thermal_count, Commitment}
 use Rattle.dual_model.specs.Fixings as nodes
 use Rattle.dual_model.specs.declared.node.Fixing.{Fixing}
 use Rattle.dual_model.specs.declared.node.Node.{Node}
-use Rattle.dispatch_rules.specs.Dispatch.{Task, listed}
+use Rattle.dispatch_rules.specs.Prelude.{Task, listed}
 use Rattle.dispatch_prices.specs.Dispatched.{IsDecided}
 use Rattle.dispatch_prices.proofs.Listing.{all_listed}
 

@@ -2,19 +2,13 @@
 -- Cite by `use Rattle.dispatch_prices.proofs.HullCosts.{chord_cost, point_cost}`.
 use Rattle.std.proofs.Common.{◌≡◌, ℕ, suc, ◌*◌, ◌/◌, ◌<◌, ◌≢◌, ◌⊎◌, inl, inr, ⊎_elim, false, refl, sym, ap, subst, ◌∙◌, arith, List, length, ℤ, pos, ◌+ℤ◌, ◌-ℤ◌, ◌*ℤ◌, ◌≤ℤ◌, ◌<ℤ◌, IsTrue, Some, int_le, ◌==◌, ◌&&◌, if◌then◌else◌}
 use Rattle.std.proofs.lemmas.Bool.{and_parts, or_cases, cases_Bool, cond-true, cond-false, eqb-true, eq-eqb, ne_eqb}
-use Rattle.uc_model.specs.Sums.{sum_below, all_below}
-use Rattle.uc_model.specs.Points.{point_of, output_of, weighted_total, weighted_output, weighted_cost}
-use Rattle.uc_model.specs.Hull.{run, rise, is_hull_segment, is_hull_point, is_above_line, Segment, segment_at, segment_width}
-use Rattle.uc_model.specs.PrintedSchedule.{segment_weight}
-use Rattle.uc_model.proofs.Ring.{linear, mul_comm, mul_assoc, mul_left_comm, mul-add, mul-sub, sub-mul, add-mul, mul-zero, zero-mul, mul_nonneg, mul-le-mul_left, le_from_mul, pos_nonneg, pos-mul}
-use Rattle.uc_model.proofs.Sums.{sum_below-same, sum_below-single, sum_below-sub, sum_below-mul_right, sum_below-mul_left}
-use Rattle.uc_model.proofs.Tests.{all_below-at, int_le-true, int_lt-true}
-use Rattle.uc_model.proofs.HullPoints.{Holds, segment_at-holds, wide}
-use Rattle.uc_model.proofs.Shortages.{share_is}
+use Rattle.uc_model.specs.Prelude.{sum_below, all_below, point_of, output_of, weighted_total, weighted_output, weighted_cost, run, rise, is_hull_segment, is_hull_point, is_above_line, Segment, segment_at, segment_width, segment_weight}
+use Rattle.uc_model.proofs.Common.{linear, mul_comm, mul_assoc, mul_left_comm, mul-add, mul-sub, sub-mul, add-mul, mul-zero, zero-mul, mul_nonneg, mul-le-mul_left, le_from_mul, pos_nonneg, pos-mul, sum_below-same, sum_below-single, sum_below-sub, sum_below-mul_right, sum_below-mul_left, all_below-at, int_le-true, int_lt-true, Holds, segment_at-holds, share_is}
+use Rattle.uc_model.proofs.HullPoints.{wide}
 use Rattle.cost_curves.specs.LowerHull.{Point, IsLowerHull}
 use Rattle.cost_curves.proofs.HullValues.{output_is}
 use Rattle.schedule_check.proofs.SegmentWeights.{stand_for}
-use Rattle.dispatch_rules.specs.Cells.{width_at, rise_at}
+use Rattle.dispatch_rules.specs.Prelude.{width_at, rise_at}
 
 -- ---- over plain numbers
 -- a line of slope rs over ws that lies at most at a and a + r at u and at u + w from where it begins: n times its height at b + d*u over d is at most

@@ -3,7 +3,7 @@
 use Rattle.std.proofs.Common.{ℕ, zero, suc, ◌<◌, arith, List}
 use Rattle.std.specs.List.{All}
 use Rattle.std.proofs.lemmas.List.Elements.{All-nil, All-append}
-use Rattle.dispatch_rules.specs.Dispatch.{listed}
+use Rattle.dispatch_rules.specs.Prelude.{listed}
 
 pub all_listed : {A : Type 0} (P : A → Type 0) (n : ℕ) (f : ℕ → List A) → ((k : ℕ) → k < n → All P (f k)) → All P (listed n f)
 all_listed P zero f each = All-nil P

@@ -5,17 +5,9 @@ use Rattle.std.specs.Int.{int_max}
 use Rattle.std.specs.Ordering.{int_eq}
 use Rattle.std.proofs.lemmas.Int.{ints, clamps}
 use Rattle.std.proofs.lemmas.Bool.{and_parts, and_from, ltb-true, or_left, or_right, cases_Bool, cond-true, cond-false}
-use Rattle.uc_model.specs.Sums.{sum_below, bit}
-use Rattle.uc_model.specs.Points.{output_of}
-use Rattle.uc_model.specs.Commitment.{Commitment, starts, start_cap, stop_cap, initial_p, must_run_at, initial_up_at, initial_down_at, minimum_up_at, minimum_down_at, is_allowed, is_allowed_at}
-use Rattle.uc_model.specs.Schedule.{thermal_unit, thermal_count, renewable_count, renewable_maximum, demand_at, reserve_at}
+use Rattle.uc_model.specs.Prelude.{sum_below, bit, output_of, Commitment, starts, start_cap, stop_cap, initial_p, must_run_at, initial_up_at, initial_down_at, minimum_up_at, minimum_down_at, is_allowed, is_allowed_at, thermal_unit, thermal_count, renewable_count, renewable_maximum, demand_at, reserve_at, Obeys, cell_at, shed_at, short_at, IsLawfulInstance}
 use Rattle.uc_model.specs.Rules as model
-use Rattle.uc_model.specs.Rules.{Obeys}
-use Rattle.uc_model.specs.PrintedSchedule.{cell_at, shed_at, short_at}
-use Rattle.uc_model.specs.Limits.{IsLawfulInstance}
-use Rattle.uc_model.proofs.Ring.{linear, mul_nonneg, pos_nonneg}
-use Rattle.uc_model.proofs.Sums.{sum_below-le, sum_below-mul_left, sum_below_nonneg}
-use Rattle.uc_model.proofs.Tests.{le-int_le, eq-int_eq, all_below-at}
+use Rattle.uc_model.proofs.Common.{linear, mul_nonneg, pos_nonneg, sum_below-le, sum_below-mul_left, sum_below_nonneg, le-int_le, eq-int_eq, all_below-at}
 use Rattle.cost_curves.proofs.HullValues.{whole_width}
 use Rattle.cost_curves.specs.LowerHull.{Point, width_of}
 use Rattle.dual_model.proofs.Locality.{SameBelow, starts-same, stops-same, is_allowed-same, category_allowed-same}
@@ -24,11 +16,7 @@ use Rattle.schedule_check.specs.WholeWatts as watts
 use Rattle.schedule_check.proofs.Produced.{Holds}
 use Rattle.schedule_check.proofs.FirstPlaces.{numerators, numerators_obey}
 use Rattle.schedule_check.specs.SizedNumbers.{output_at}
-use Rattle.dispatch_rules.specs.Cells.{width_at, segments}
-use Rattle.dispatch_rules.specs.Dispatch.{Task, low_at}
-use Rattle.dispatch_rules.specs.Duals.{IsTask}
-use Rattle.dispatch_rules.specs.Primals.{IsDispatch, sum_of, length_in, output_in, held_in, given_in, shed_in, short_in, output_before}
-use Rattle.dispatch_rules.specs.Prints.{Printed, Prints}
+use Rattle.dispatch_rules.specs.Prelude.{width_at, segments, Task, low_at, IsTask, IsDispatch, sum_of, length_in, output_in, held_in, given_in, shed_in, short_in, output_before, Printed, Prints}
 use Rattle.dispatch_prices.specs.Dispatched.{IsAllowedTask, DispatchesObey}
 use Rattle.dispatch_prices.proofs.Scaled.{Same, plus, minus, whole, none, sum, at_most, equal}
 

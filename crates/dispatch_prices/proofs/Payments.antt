@@ -2,24 +2,12 @@
 -- Cite by `use Rattle.dispatch_prices.proofs.Payments.{schedule_pays}`.
 use Rattle.std.proofs.Common.{◌≡◌, ℕ, zero, suc, ◌*◌, ◌/◌, ◌<◌, ⊎_elim, true, false, refl, sym, ap, subst, ◌∙◌, arith, List, ℤ, pos, ◌+ℤ◌, ◌*ℤ◌, ◌≤ℤ◌, ◌<ℤ◌, nat_lt, ◌&&◌, if◌then◌else◌, length}
 use Rattle.std.proofs.lemmas.Bool.{cases_Bool, cond-true, cond-false, and_left}
-use Rattle.uc_model.specs.Sums.{sum_below}
-use Rattle.uc_model.specs.Points.{point_of}
-use Rattle.uc_model.specs.Cost.{production_cost, shortage_cost}
-use Rattle.uc_model.specs.Schedule.{Row, thermal_unit, thermal_count}
-use Rattle.uc_model.specs.PrintedSchedule.{shed_at, short_at, printed_denominator, printed_schedule}
-use Rattle.uc_model.specs.Limits.{IsLawfulInstance}
-use Rattle.uc_model.proofs.Ring.{linear, mul_comm, mul_assoc, mul_left_comm, mul-add, mul-zero, mul-le-mul_left}
-use Rattle.uc_model.proofs.Sums.{sum_below-zero}
-use Rattle.uc_model.proofs.PrintedCosts.{watts-factor}
-use Rattle.uc_model.proofs.Shortages.{share_is}
-use Rattle.uc_model.proofs.Ring.{pos-mul}
-use Rattle.dual_model.specs.LeastStarts.{least_start_cost, cell_cost_by_least_starts, unit_cost_by_least_starts, cost_by_least_starts}
+use Rattle.uc_model.specs.Prelude.{sum_below, point_of, production_cost, shortage_cost, Row, thermal_unit, thermal_count, shed_at, short_at, printed_denominator, printed_schedule, IsLawfulInstance}
+use Rattle.uc_model.proofs.Common.{linear, mul_comm, mul_assoc, mul_left_comm, mul-add, mul-zero, mul-le-mul_left, sum_below-zero, watts-factor, share_is, pos-mul}
+use Rattle.dual_model.specs.Prelude.{least_start_cost, cell_cost_by_least_starts, unit_cost_by_least_starts, cost_by_least_starts}
 use Rattle.dual_model.proofs.Locality.{SameBelow, starts-same, sigma-same}
 use Rattle.uc_model.specs.declared.instance.Thermal.{Thermal}
-use Rattle.dispatch_rules.specs.Dispatch.{Task}
-use Rattle.dispatch_rules.specs.Duals.{IsTask, cost_times, scale_of, left_cost, left_costs, start_cost, start_costs}
-use Rattle.dispatch_rules.specs.Primals.{IsDispatch, above_left, shortage_at, dispatch_cost, sum_of, shed_in, short_in}
-use Rattle.dispatch_rules.specs.Prints.{Printed, Prints}
+use Rattle.dispatch_rules.specs.Prelude.{Task, IsTask, cost_times, scale_of, left_cost, left_costs, start_cost, start_costs, IsDispatch, above_left, shortage_at, dispatch_cost, sum_of, shed_in, short_in, Printed, Prints}
 use Rattle.dispatch_prices.specs.Dispatched.{IsAllowedTask}
 use Rattle.dispatch_prices.proofs.CellCosts.{segment, on_cost, off_cost}
 

@@ -5,8 +5,8 @@ use Rattle.std.specs.Ordering.{int_eq}
 use Rattle.std.specs.List.{All}
 use Rattle.std.proofs.lemmas.Bool.{and_parts, and_from, and_left, and_right, cases_Bool, cases_lt, cond-true, cond-false, cond_both, eq-eqb, ne_eqb, true≢false}
 use Rattle.std.proofs.lemmas.List.Elements.{All-head, All-tail, All-cons, All-nil, All-append}
-use Rattle.uc_model.proofs.Tests.{int_eq-true, eq-int_eq}
-use Rattle.dual_model.specs.Prices.{AreRising, IsRowBefore, IsRowWithin, row_of}
+use Rattle.uc_model.proofs.Common.{int_eq-true, eq-int_eq}
+use Rattle.dual_model.specs.Prelude.{AreRising, IsRowBefore, IsRowWithin, row_of}
 use Rattle.dual_model.specs.declared.table.RampRow.{RampRow}
 use Rattle.dispatch_prices.specs.ReadOff.{all_rows, is_nothing, kept, ramp_row, rows_in}
 use Rattle.dispatch_prices.proofs.Listing.{all_listed}

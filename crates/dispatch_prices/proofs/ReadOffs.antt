@@ -4,15 +4,13 @@ use Rattle.std.proofs.Common.{◌≡◌, ℕ, ◌<◌, ◌≤◌, false, ⊎_eli
 use Rattle.std.specs.List.{All}
 use Rattle.std.proofs.lemmas.Bool.{cases_Bool, cond-false, cond_both}
 use Rattle.std.proofs.lemmas.List.Elements.{All-nil, All-cons, All-from_get_or}
-use Rattle.uc_model.specs.Schedule.{thermal_count}
-use Rattle.uc_model.proofs.Sums.{sum_below-same}
-use Rattle.dual_model.specs.Prices.{IsPrice, IsRowPriced, row_of}
+use Rattle.uc_model.specs.Prelude.{thermal_count}
+use Rattle.uc_model.proofs.Common.{sum_below-same}
+use Rattle.dual_model.specs.Prelude.{IsPrice, IsRowPriced, row_of}
 use Rattle.dual_model.specs.declared.table.Table.{Table}
 use Rattle.pivot_run.specs.Tables as pivots
 use Rattle.dispatch_program.specs.Programs.{multiplier}
-use Rattle.dispatch_rules.specs.CommitmentTask.{limit_of, rule_of}
-use Rattle.dispatch_rules.specs.Dispatch.{Task, Limit, limit, is_same, program}
-use Rattle.dispatch_rules.specs.Duals.{times_at}
+use Rattle.dispatch_rules.specs.Prelude.{limit_of, rule_of, Task, Limit, limit, is_same, program, times_at}
 use Rattle.dispatch_rules.specs.declared.limit.LimitAt.{LimitAt}
 use Rattle.dispatch_rules.specs.declared.limit.LimitRule.{LimitRule}
 use Rattle.dispatch_rules.specs.declared.limit.LimitRule.TheVariants.{RampUp, RampDown, Demand, Reserve}

@@ -6,8 +6,8 @@ use Rattle.pivot_run.specs.Rows.{entry}
 use Rattle.pivot_run.specs.Tables as pivots
 use Rattle.dispatch_program.specs.Programs.{Program, Slack, Artificial, SumValue, RightSide, bump, counted, is_limit, is_negated, has_artificial, sign, place, multiplier}
 use Rattle.dispatch_program.proofs.LastTables.{count}
-use Rattle.dispatch_rules.specs.Dispatch.{Task, limit, limits, is_demand, right_of, program}
-use Rattle.uc_model.specs.Rules.{Demand}
+use Rattle.dispatch_rules.specs.Prelude.{Task, limit, limits, is_demand, right_of, program}
+use Rattle.uc_model.specs.Prelude.{Demand}
 use Rattle.dispatch_rules.specs.declared.limit.LimitAt.{LimitAt}
 use Rattle.dispatch_prices.specs.ReadOff.{IsEndOf, ReadingForms, rules_of}
 use Rattle.dispatch_prices.specs.Readings.{End, Unfit, HasSize, IsEndAt, IsUnfit}

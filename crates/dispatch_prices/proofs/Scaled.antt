@@ -1,8 +1,8 @@
 -- Numerators over two denominators of the same amounts: a over q is u over d.
 -- Cite by `use Rattle.dispatch_prices.proofs.Scaled.{Same}`.
 use Rattle.std.proofs.Common.{◌≡◌, ℕ, zero, suc, ◌<◌, sym, ◌∙◌, arith, ℤ, pos, ◌+ℤ◌, ◌-ℤ◌, ◌*ℤ◌, ◌≤ℤ◌, ◌<ℤ◌}
-use Rattle.uc_model.specs.Sums.{sum_below}
-use Rattle.uc_model.proofs.Ring.{linear, mul_left_comm, mul-add, mul-sub, mul-zero, mul-le-mul_left, le_from_mul, le_antisymm, le_of_eq}
+use Rattle.uc_model.specs.Prelude.{sum_below}
+use Rattle.uc_model.proofs.Common.{linear, mul_left_comm, mul-add, mul-sub, mul-zero, mul-le-mul_left, le_from_mul, le_antisymm, le_of_eq}
 
 pub record Same (d q a u : ℤ) : Type 0 where
   pub is : d *ℤ a ≡ q *ℤ u

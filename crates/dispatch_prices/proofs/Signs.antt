@@ -4,17 +4,14 @@ use Rattle.std.proofs.Common.{◌≡◌, ℕ, ◌<◌, false, not, refl, sym, ap
 use Rattle.std.specs.List.{All}
 use Rattle.std.proofs.lemmas.Bool.{cond-false, cond_both}
 use Rattle.std.proofs.lemmas.List.Elements.{All-nil, All-cons, All-from_get_or}
-use Rattle.uc_model.specs.Rules.{rule_number, Demand, Reserve, RampUp, RampDown}
-use Rattle.uc_model.specs.Schedule.{thermal_count}
-use Rattle.uc_model.proofs.Ring.{le_refl}
-use Rattle.uc_model.proofs.Sums.{sum_below_nonneg}
-use Rattle.dual_model.specs.Prices.{HasLawfulSigns, IsRowSigned}
+use Rattle.uc_model.specs.Prelude.{rule_number, Demand, Reserve, RampUp, RampDown, thermal_count}
+use Rattle.uc_model.proofs.Common.{le_refl, sum_below_nonneg}
+use Rattle.dual_model.specs.Prelude.{HasLawfulSigns, IsRowSigned}
 use Rattle.dual_model.specs.declared.table.Table.{Table}
 use Rattle.pivot_run.specs.Rows.{entry}
 use Rattle.dispatch_program.specs.LastRows.{IsLastRow}
 use Rattle.dispatch_program.specs.Programs.{Artificial, Slack, SumValue, multiplier, place, sign}
-use Rattle.dispatch_rules.specs.Dispatch.{Task, Limit, limit, is_demand, is_same, limits, limit_at, program}
-use Rattle.dispatch_rules.specs.Duals.{scale_of, times_at, up_of, down_of}
+use Rattle.dispatch_rules.specs.Prelude.{Task, Limit, limit, is_demand, is_same, limits, limit_at, program, scale_of, times_at, up_of, down_of}
 use Rattle.dispatch_rules.proofs.Multipliers.{same-equal}
 use Rattle.dispatch_prices.specs.ReadOff.{all_rows, is_nothing, kept, ramp_row, rows_in}
 use Rattle.dispatch_prices.specs.Readings.{IsPriceTable}

@@ -6,11 +6,9 @@ use Rattle.std.proofs.lemmas.List.{length-map}
 use Rattle.std.proofs.Math.ListN.{get_or-map}
 use Rattle.uc_model.specs.Rules as model
 use Rattle.dispatch_rules.specs.declared.limit.LimitRule.TheVariants.{Demand}
-use Rattle.uc_model.specs.Sums.{sum_below}
-use Rattle.uc_model.specs.Rules.{rule_number}
-use Rattle.uc_model.proofs.Sums.{sum_below-same, sum_below-zero}
-use Rattle.dispatch_rules.specs.CommitmentTask.{limit_of}
-use Rattle.dispatch_rules.specs.Dispatch.{Task, Limit, limit, is_same, limits, limit_at, times_of}
+use Rattle.uc_model.specs.Prelude.{sum_below, rule_number}
+use Rattle.uc_model.proofs.Common.{sum_below-same, sum_below-zero}
+use Rattle.dispatch_rules.specs.Prelude.{limit_of, Task, Limit, limit, is_same, limits, limit_at, times_of}
 use Rattle.dispatch_rules.specs.declared.limit.LimitAt.{LimitAt}
 use Rattle.dispatch_rules.proofs.Multipliers.{AreEqual, same-equal}
 use Rattle.dispatch_rules.proofs.Distinct.{limits_are_once}

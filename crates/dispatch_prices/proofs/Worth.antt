@@ -2,29 +2,18 @@
 -- lets it pay no more. So no schedule of the commitment costs less.
 -- Cite by `use Rattle.dispatch_prices.proofs.Worth.{prices_are_exact, dispatches_are_least}`.
 use Rattle.std.proofs.Common.{◌≡◌, ℕ, ◌+◌, ◌<◌, sym, ap, subst, ◌∙◌, arith, List, ℤ, pos, ◌+ℤ◌, ◌-ℤ◌, ◌*ℤ◌, ◌≤ℤ◌, false, if◌then◌else◌}
-use Rattle.uc_model.specs.Sums.{sum_below}
-use Rattle.uc_model.specs.Cost.{cell_cost, unit_cost, cost}
-use Rattle.uc_model.specs.StartCategory.{category_cost}
-use Rattle.uc_model.specs.Schedule.{Schedule, thermal_unit, thermal_count}
-use Rattle.uc_model.specs.PrintedSchedule.{printed_denominator, printed_schedule}
-use Rattle.uc_model.specs.Limits.{IsLawfulInstance}
-use Rattle.uc_model.proofs.Ring.{linear, le_trans, le_antisymm, mul_left_comm, mul-add, mul-sub, mul-le-mul_left, le_from_mul, pos_nonneg}
-use Rattle.uc_model.proofs.Sums.{sum_below-same, sum_below-sub, sum_below-mul_left}
-use Rattle.dual_model.specs.Laws.{IsBoundTable, IsScheduleAt}
+use Rattle.uc_model.specs.Prelude.{sum_below, cell_cost, unit_cost, cost, category_cost, Schedule, thermal_unit, thermal_count, printed_denominator, printed_schedule, IsLawfulInstance}
+use Rattle.uc_model.proofs.Common.{linear, le_trans, le_antisymm, mul_left_comm, mul-add, mul-sub, mul-le-mul_left, le_from_mul, pos_nonneg, sum_below-same, sum_below-sub, sum_below-mul_left}
+use Rattle.dual_model.specs.Prelude.{IsBoundTable, IsScheduleAt, least_start_cost, cell_cost_by_least_starts, unit_cost_by_least_starts, cost_by_least_starts, IsNodeValue}
 use Rattle.dual_model.proofs.ValueKinds.{least_starts, values_exist_at_schedules}
 use Rattle.dual_model.proofs.Locality.{SameBelow, starts-same, sigma-same}
-use Rattle.dual_model.specs.LeastStarts.{least_start_cost, cell_cost_by_least_starts, unit_cost_by_least_starts, cost_by_least_starts}
-use Rattle.dual_model.specs.NodeValue.{IsNodeValue}
 use Rattle.dual_model.specs.declared.table.Table.{Table}
 use Rattle.dual_model.specs.declared.node.Node.{Node}
 use Rattle.pivot_run.specs.Pivots.{row_at}
 use Rattle.pivot_run.specs.Tables as pivots
 use Rattle.dispatch_program.specs.LastTables.{basis_values}
 use Rattle.dispatch_program.proofs.LastTables.{ends_are_last, bases_give_values}
-use Rattle.dispatch_rules.specs.Dispatch.{Task, program}
-use Rattle.dispatch_rules.specs.Duals.{IsTask, cost_times, scale_of}
-use Rattle.dispatch_rules.specs.Primals.{IsDispatch}
-use Rattle.dispatch_rules.specs.Prints.{Printed}
+use Rattle.dispatch_rules.specs.Prelude.{Task, program, IsTask, cost_times, scale_of, IsDispatch, Printed}
 use Rattle.dispatch_rules.proofs.RunEnds.{runs_give_dispatches}
 use Rattle.dispatch_rules.proofs.Primals.{values_dispatch_is}
 use Rattle.dispatch_prices.specs.Dispatched.{IsAllowedTask, IsPricedBasis, IsDispatched, IsDecided, IsOfCommitment, PricesAreExact, DispatchesAreLeast}

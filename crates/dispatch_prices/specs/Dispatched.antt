@@ -3,26 +3,16 @@
 -- 1963), for the rules of the reference model by Knueven, Ostrowski and Watson.
 use Rattle.std.specs.Prelude.{◌≡◌, ℕ, ◌+◌, ◌<◌, ℤ, pos, ◌<ℤ◌, ◌≤ℤ◌, ◌*ℤ◌, IsTrue}
 use Rattle.std.specs.List.{list_all}
-use Rattle.uc_model.specs.Commitment.{is_allowed}
-use Rattle.uc_model.specs.Schedule.{Schedule, thermal_unit, thermal_count}
-use Rattle.uc_model.specs.PrintedSchedule.{cell_at, printed_denominator, printed_schedule}
-use Rattle.uc_model.specs.Cost.{cost}
-use Rattle.uc_model.specs.Rules.{Obeys}
-use Rattle.uc_model.specs.Limits.{IsLawfulInstance}
-use Rattle.dual_model.specs.Prices.{HasLawfulSigns}
+use Rattle.uc_model.specs.Prelude.{is_allowed, Schedule, thermal_unit, thermal_count, cell_at, printed_denominator, printed_schedule, cost, Obeys, IsLawfulInstance}
+use Rattle.dual_model.specs.Prelude.{HasLawfulSigns, cost_by_least_starts, IsNodeValue}
 use Rattle.dual_model.specs.Fixings as nodes
-use Rattle.dual_model.specs.LeastStarts.{cost_by_least_starts}
-use Rattle.dual_model.specs.NodeValue.{IsNodeValue}
 use Rattle.dual_model.specs.declared.table.Table.{Table}
 use Rattle.dual_model.specs.declared.node.Node.{Node}
 use Rattle.pivot_run.specs.Pivots.{row_at}
 use Rattle.pivot_run.specs.Tables as pivots
 use Rattle.dispatch_program.specs.LastTables.{IsReached, AreShares, basis_values}
 use Rattle.dispatch_program.specs.ProgramRuns.{IsCheapest}
-use Rattle.dispatch_rules.specs.Dispatch.{Task, program}
-use Rattle.dispatch_rules.specs.Duals.{IsTask, IsReadOff, IsNodeOf}
-use Rattle.dispatch_rules.specs.Primals.{IsDispatch}
-use Rattle.dispatch_rules.specs.Prints.{Prints, Printed}
+use Rattle.dispatch_rules.specs.Prelude.{Task, program, IsTask, IsReadOff, IsNodeOf, IsDispatch, Prints, Printed}
 
 -- the commitment of each unit is allowed
 abbrev pub IsAllowedTask : Task → Type 0

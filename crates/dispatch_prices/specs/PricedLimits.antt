@@ -1,10 +1,9 @@
 -- The prices among the multipliers of the limits, and the table that they make.
 -- Source: the simplex multipliers (G. B. Dantzig, "Linear Programming and Extensions", 1963) as prices of demand, of reserve and of ramps.
 use Rattle.std.specs.Prelude.{◌≡◌, ℕ, ◌<◌, ◌≤◌, List, length, slice_index_or, ℤ, pos, neg_ℤ, unsigned_abs}
-use Rattle.dual_model.specs.Prices.{IsWellFormed}
+use Rattle.dual_model.specs.Prelude.{IsWellFormed}
 use Rattle.dual_model.specs.declared.table.Table.{Table}
-use Rattle.dispatch_rules.specs.CommitmentTask.{rule_of}
-use Rattle.dispatch_rules.specs.Dispatch.{limit}
+use Rattle.dispatch_rules.specs.Prelude.{rule_of, limit}
 use Rattle.dispatch_rules.specs.declared.limit.LimitRule.{LimitRule}
 use Rattle.dispatch_rules.specs.declared.limit.LimitRule.TheVariants.{RampUp, RampDown, Demand, Reserve}
 use Rattle.dispatch_prices.specs.ReadOff.{AreOnce, all_rows, times_by}

@@ -2,15 +2,13 @@
 -- Source: the simplex multipliers (G. B. Dantzig, "Linear Programming and Extensions", 1963), in whole numbers.
 use Rattle.std.specs.Prelude.{◌≡◌, ℕ, ◌<◌, ◌≤◌, ◌==◌, ◌⊎◌, Bool, true, ◌&&◌, ◌||◌, List, [], ◌∷◌, map, length, slice_index_or, ℤ, pos, unsigned_abs, IsTrue, if◌then◌else◌}
 use Rattle.std.specs.Ordering.{int_eq}
-use Rattle.uc_model.specs.Sums.{sum_below}
-use Rattle.uc_model.specs.Rules.{rule_number}
+use Rattle.uc_model.specs.Prelude.{sum_below, rule_number}
 use Rattle.dual_model.specs.declared.table.RampRow.{RampRow}
 use Rattle.pivot_run.specs.Rows.{entry}
 use Rattle.pivot_run.specs.Tables as pivots
 use Rattle.dispatch_program.specs.Programs.{Program, Artificial, SumValue, place, sign, multiplier}
 use Rattle.dispatch_program.specs.LastTables.{IsReached}
-use Rattle.dispatch_rules.specs.CommitmentTask.{limit_of}
-use Rattle.dispatch_rules.specs.Dispatch.{Task, Limit, is_same, is_demand, amounts, limits, listed, right_of, program}
+use Rattle.dispatch_rules.specs.Prelude.{limit_of, Task, Limit, is_same, is_demand, amounts, limits, listed, right_of, program}
 use Rattle.dispatch_rules.specs.declared.limit.LimitAt.{LimitAt}
 use Rattle.dispatch_rules.specs.declared.limit.LimitRule.TheVariants.{Demand}
 

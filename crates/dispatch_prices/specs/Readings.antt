@@ -2,13 +2,11 @@
 use Rattle.std.specs.Prelude.{◌≡◌, ℕ, ◌+◌, ◌<◌, ◌≤◌, ◌⊎◌, Bool, List, length, ℤ, pos, neg_ℤ, unsigned_abs, IsTrue, if◌then◌else◌}
 use Rattle.pivot_run.specs.Pivots.{IsWide}
 use Rattle.dispatch_program.specs.Programs.{Program, RightSide, Slack, Artificial, place, multiplier}
-use Rattle.dispatch_rules.specs.CommitmentTask.{limit_of}
+use Rattle.dispatch_rules.specs.Prelude.{limit_of, Task, IsReadOff, down_of, scale_of, up_of}
 use Rattle.std.specs.List.{All}
-use Rattle.dual_model.specs.Prices.{IsPrice, IsRowPriced}
+use Rattle.dual_model.specs.Prelude.{IsPrice, IsRowPriced}
 use Rattle.dual_model.specs.declared.table.Table.{Table}
-use Rattle.dispatch_rules.specs.Dispatch.{Task}
-use Rattle.uc_model.specs.Schedule.{thermal_count}
-use Rattle.dispatch_rules.specs.Duals.{IsReadOff, down_of, scale_of, up_of}
+use Rattle.uc_model.specs.Prelude.{thermal_count}
 use Rattle.dispatch_prices.specs.ReadOff.{IsEndOf, IsLargeMultiplier, ReadingForms, all_rows, is_priced, limit_in, rules_of}
 use Rattle.dispatch_rules.specs.declared.limit.LimitAt.{LimitAt}
 pub use Rattle.dispatch_prices.specs.declared.multipliers.End.{End}

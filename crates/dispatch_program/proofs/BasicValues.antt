@@ -3,9 +3,8 @@
 use Rattle.std.proofs.Common.{◌≡◌, ◌≢◌, ℕ, zero, suc, ◌<◌, ◌==◌, ⊎_elim, refl, sym, ap, subst, ◌∙◌, arith, length, if◌then◌else◌, ℤ, pos, ◌+ℤ◌, ◌*ℤ◌, neg_ℤ, ◌≤ℤ◌, ◌<ℤ◌}
 use Rattle.std.proofs.lemmas.Bool.{cases_eq, cond_both, eqb-true, eq-eqb, true≢false}
 use Rattle.std.proofs.lemmas.Int.{by_lt_z}
-use Rattle.uc_model.specs.Sums.{sum_below}
-use Rattle.uc_model.proofs.Ring.{linear, le_refl, mul_left_comm, mul_nonneg, mul-zero, mul-neg, mul-lt-mul_left}
-use Rattle.uc_model.proofs.Sums.{sum_below-zero, sum_below-single, sum_below_nonneg}
+use Rattle.uc_model.specs.Prelude.{sum_below}
+use Rattle.uc_model.proofs.Common.{linear, le_refl, mul_left_comm, mul_nonneg, mul-zero, mul-neg, mul-lt-mul_left, sum_below-zero, sum_below-single, sum_below_nonneg}
 use Rattle.pivot_run.specs.Tables.{IsBasic, Table, basic, number}
 use Rattle.pivot_run.specs.Values.{at_column, values_of}
 use Rattle.pivot_run.proofs.Values.{at_column-nonneg}

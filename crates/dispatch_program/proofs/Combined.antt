@@ -3,9 +3,8 @@
 -- Cite by `use Rattle.dispatch_program.proofs.Combined.{unknown_is}`.
 use Rattle.std.proofs.Common.{◌≡◌, ◌≢◌, ℕ, zero, suc, ◌+◌, ◌<◌, ◌≤◌, ◌==◌, Bool, true, false, not, ◌||◌, ⊎_elim, refl, sym, ap, subst, ◌∙◌, arith, List, length, ℤ, pos, ◌+ℤ◌, ◌-ℤ◌, ◌*ℤ◌, neg_ℤ, ◌≤ℤ◌, IsTrue, if◌then◌else◌}
 use Rattle.std.proofs.lemmas.Bool.{cases_Bool, cond-true, cond-false, cond_both, eqb-true, eq-eqb, cases_eq, cases_lt, true≢false}
-use Rattle.uc_model.specs.Sums.{sum_below}
-use Rattle.uc_model.proofs.Ring.{linear, mul-one, one-mul, mul-zero, zero-mul, mul-neg, mul_assoc, sub-mul, mul-sub, mul_left_comm}
-use Rattle.uc_model.proofs.Sums.{sum_below-same, sum_below-sub, sum_below-zero, sum_below-single, sum_below-mul_left}
+use Rattle.uc_model.specs.Prelude.{sum_below}
+use Rattle.uc_model.proofs.Common.{linear, mul-one, one-mul, mul-zero, zero-mul, mul-neg, mul_assoc, sub-mul, mul-sub, mul_left_comm, sum_below-same, sum_below-sub, sum_below-zero, sum_below-single, sum_below-mul_left}
 use Rattle.pivot_run.specs.Rows.{entry}
 use Rattle.pivot_run.specs.Pivots.{row_at}
 use Rattle.pivot_run.specs.Solutions.{dot, Solves}

@@ -2,8 +2,7 @@
 -- Cite by `use Rattle.dispatch_program.proofs.Entering.{entering_gives_rays}`.
 use Rattle.std.proofs.Common.{◌≡◌, ℕ, ◌<◌, Option, None, Some, IsSome, refl, sym, ap, subst, ◌∙◌, arith, length, ℤ, pos, ◌*ℤ◌, neg_ℤ, ◌≤ℤ◌, ◌<ℤ◌, if◌then◌else◌}
 use Rattle.std.proofs.lemmas.Bool.{cond_both}
-use Rattle.uc_model.proofs.Ring.{linear, zero-mul, neg-mul, mul-zero, mul_comm, mul_nonneg, mul-lt-mul_left}
-use Rattle.uc_model.proofs.Sums.{sum_below-zero, sum_below_nonneg}
+use Rattle.uc_model.proofs.Common.{linear, zero-mul, neg-mul, mul-zero, mul_comm, mul_nonneg, mul-lt-mul_left, sum_below-zero, sum_below_nonneg}
 use Rattle.pivot_run.specs.Solutions.{Solves}
 use Rattle.pivot_run.specs.Tables.{Table, basic, leaving, number}
 use Rattle.pivot_run.specs.Values.{at_column, values_of}

@@ -4,8 +4,7 @@
 use Rattle.std.proofs.Common.{◌≡◌, ◌≢◌, ℕ, ◌+◌, ◌-◌, ◌<◌, ◌≤◌, ⊎_elim, sym, ap, subst, ◌∙◌, arith, length, ℤ, pos, ◌*ℤ◌, neg_ℤ, ◌≤ℤ◌, ◌<ℤ◌, if◌then◌else◌}
 use Rattle.std.proofs.lemmas.Bool.{cases_lt, cases_eq, cond-true, cond_both}
 use Rattle.std.proofs.lemmas.Int.{by_lt_z}
-use Rattle.uc_model.proofs.Ring.{linear, mul_comm, mul_left_comm, mul_nonneg, mul-neg, mul-zero, zero-mul, mul-lt-mul_left}
-use Rattle.uc_model.proofs.Sums.{sum_below_nonneg, term-le-sum_below}
+use Rattle.uc_model.proofs.Common.{linear, mul_comm, mul_left_comm, mul_nonneg, mul-neg, mul-zero, zero-mul, mul-lt-mul_left, sum_below_nonneg, term-le-sum_below}
 use Rattle.pivot_run.specs.Pivots.{row_at}
 use Rattle.pivot_run.specs.Solutions.{Solves}
 use Rattle.pivot_run.specs.Tables.{Table, basic, number}

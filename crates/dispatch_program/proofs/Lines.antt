@@ -3,9 +3,8 @@
 use Rattle.std.proofs.Common.{◌≡◌, ℕ, ◌<◌, Bool, true, false, refl, sym, ap, ◌∙◌, arith, map, ℤ, pos, ◌+ℤ◌, ◌*ℤ◌, neg_ℤ, if◌then◌else◌}
 use Rattle.std.proofs.lemmas.Bool.{cond_both}
 use Rattle.std.proofs.lemmas.List.{length-map}
-use Rattle.uc_model.specs.Sums.{sum_below}
-use Rattle.uc_model.proofs.Ring.{linear, one-mul, neg-mul, mul-zero, zero-mul}
-use Rattle.uc_model.proofs.Sums.{sum_below-same, sum_below-zero, sum_below-single, sum_below-add, sum_below-neg, sum_below-mul_right, sum_below-swap}
+use Rattle.uc_model.specs.Prelude.{sum_below}
+use Rattle.uc_model.proofs.Common.{linear, one-mul, neg-mul, mul-zero, zero-mul, sum_below-same, sum_below-zero, sum_below-single, sum_below-add, sum_below-neg, sum_below-mul_right, sum_below-swap}
 use Rattle.pivot_run.specs.Solutions.{dot, Solves}
 use Rattle.dispatch_program.specs.Programs.{Program, Unknown, Slack, Artificial, SumValue, CostValue, RightSide, RuleLine, one_at, is_limit, has_artificial, rule_number, sum_number, rules_off, line_number, columns_of, lines_of, start_rows, place}
 use Rattle.dispatch_program.specs.ProgramValues.{artificial_sum, SumIsArtificial}

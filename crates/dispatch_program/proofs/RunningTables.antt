@@ -4,7 +4,7 @@ use Rattle.std.proofs.Common.{◌≡◌, ◌≢◌, ⊎_elim, inl, inr, ℕ, ◌
 use Rattle.std.specs.Ordering.{int_eq}
 use Rattle.std.proofs.lemmas.Bool.{cases_eq, cases_lt, cond-true}
 use Rattle.std.proofs.lemmas.List.{get_or-set_same}
-use Rattle.uc_model.proofs.Ring.{linear}
+use Rattle.uc_model.proofs.Common.{linear}
 use Rattle.pivot_run.specs.Rows.{entry, reduced, cleared}
 use Rattle.pivot_run.specs.Pivots.{pivot_row, row_at}
 use Rattle.pivot_run.specs.Tables.{Table, basic, leaving, number, pivoted_table, right_side}

@@ -2,7 +2,7 @@
 -- Cite by `use Rattle.dispatch_program.proofs.StartTables.{starts_are_tables}`.
 use Rattle.std.proofs.Common.{◌≡◌, ◌≢◌, ℕ, ◌+◌, ◌-◌, ◌<◌, ◌≤◌, ⊎_elim, true, false, refl, sym, ap, subst, ◌∙◌, arith, length, ℤ, pos, ◌*ℤ◌, neg_ℤ, ◌≤ℤ◌, ◌<ℤ◌, int_lt, if◌then◌else◌}
 use Rattle.std.proofs.lemmas.Bool.{cases_lt, cases_eq, cases_Bool, cond_both, cond-true, cond-false}
-use Rattle.uc_model.proofs.Ring.{linear, one-mul, neg-mul}
+use Rattle.uc_model.proofs.Common.{linear, one-mul, neg-mul}
 use Rattle.pivot_run.specs.Tables.{IsBasic, basic, number}
 use Rattle.pivot_run.proofs.Orders.{int_lt-true, int_lt-false}
 use Rattle.dispatch_program.specs.Programs.{Program, Column, Slack, Artificial, SumValue, CostValue, RightSide, HasColumn, is_limit, has_artificial, rule_number, sum_number, cost_number, start_rows, place, own_column, start_table}

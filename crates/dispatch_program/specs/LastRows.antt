@@ -1,7 +1,7 @@
 -- A row that the rows of the start combine to: how often each rule stands in it makes up its numbers.
 -- Source: the simplex multipliers (G. B. Dantzig, "Linear Programming and Extensions", 1963), in whole numbers.
 use Rattle.std.specs.Prelude.{◌≡◌, ℕ, ◌<◌, List, ℤ, pos, ◌+ℤ◌, ◌*ℤ◌, ◌≤ℤ◌, IsTrue}
-use Rattle.uc_model.specs.Sums.{sum_below}
+use Rattle.uc_model.specs.Prelude.{sum_below}
 use Rattle.pivot_run.specs.Rows.{entry}
 use Rattle.pivot_run.specs.Solutions.{Solves, dot}
 use Rattle.dispatch_program.specs.Programs.{Program, Unknown, Slack, CostValue, RightSide, is_limit, start_rows, place, multiplier}

@@ -1,7 +1,7 @@
 -- Values of the columns of a program's table that solve its start, over a common denominator, and what they say of the rules.
 -- Source: G. B. Dantzig, "Linear Programming and Extensions", 1963.
 use Rattle.std.specs.Prelude.{◌≡◌, ℕ, ◌<◌, true, false, ℤ, pos, ◌*ℤ◌, neg_ℤ, ◌≤ℤ◌, ◌<ℤ◌, IsTrue, if◌then◌else◌}
-use Rattle.uc_model.specs.Sums.{sum_below}
+use Rattle.uc_model.specs.Prelude.{sum_below}
 use Rattle.pivot_run.specs.Solutions.{Solves}
 use Rattle.dispatch_program.specs.Programs.{Program, Unknown, Slack, Artificial, SumValue, CostValue, RightSide, is_limit, has_artificial, start_rows, place}
 

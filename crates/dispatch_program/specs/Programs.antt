@@ -3,7 +3,7 @@
 -- artificial column then, and so has each equality. Source: the simplex method in two phases, with slack and artificial columns
 -- (G. B. Dantzig, "Linear Programming and Extensions", 1963).
 use Rattle.std.specs.Prelude.{ℕ, zero, suc, ◌+◌, ◌<◌, ◌==◌, Bool, true, false, not, ◌||◌, List, [], ◌∷◌, ◌++◌, map, ℤ, pos, ◌-ℤ◌, ◌*ℤ◌, neg_ℤ, int_lt, IsTrue, if◌then◌else◌}
-use Rattle.uc_model.specs.Sums.{sum_below}
+use Rattle.uc_model.specs.Prelude.{sum_below}
 use Rattle.pivot_run.specs.Rows.{entry}
 use Rattle.pivot_run.specs.Tables.{Table}
 

@@ -2,8 +2,7 @@
 -- Cite by `use Rattle.dispatch_repair.proofs.BrokenRules.{broken_first, regular}`.
 use Rattle.std.proofs.Common.{◌≡◌, ℕ, ◌+◌, ◌<◌, ◌≤◌, ⊎_elim, sym, ap, subst, arith, below_more, List, length, nat_lt, Option, Some, None}
 use Rattle.std.proofs.lemmas.Bool.{cases_Bool, ltb-true, ltb-false}
-use Rattle.uc_model.specs.Rules.{Rule, rule_number}
-use Rattle.uc_model.specs.Schedule.{thermal_unit, thermal_count}
+use Rattle.uc_model.specs.Prelude.{Rule, rule_number, thermal_unit, thermal_count}
 use Rattle.uc_model.specs.declared.schedule.Cell.{Cell}
 use Rattle.dual_model.proofs.Locality.{SameBelow}
 use Rattle.schedule_check.specs.CommitmentRules as of_row

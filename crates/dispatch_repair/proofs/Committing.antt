@@ -3,12 +3,8 @@ use Rattle.std.proofs.Common.{◌≡◌, ℕ, zero, suc, ◌+◌, ◌-◌, ◌<�
 use Rattle.std.proofs.lemmas.Bool.{both_ways, cases_Bool, cases_lt, or_cases, or_left, and_parts, eq-eqb, eqb-true, ltb-true}
 use Rattle.std.proofs.lemmas.List.{length-replicate}
 use Rattle.std.proofs.lemmas.List.Elements.{All-from_get_or}
-use Rattle.uc_model.specs.Commitment.{Commitment, starts}
-use Rattle.uc_model.specs.Limits.{IsLawfulInstance}
-use Rattle.uc_model.specs.PrintedSchedule.{cell_at}
-use Rattle.uc_model.specs.Schedule.{thermal_unit, thermal_count, renewable_count}
-use Rattle.uc_model.specs.StartCategory.{category_cost, category_count, is_category_allowed}
-use Rattle.uc_model.proofs.Ring.{linear, le_or_lt}
+use Rattle.uc_model.specs.Prelude.{Commitment, starts, IsLawfulInstance, cell_at, thermal_unit, thermal_count, renewable_count, category_cost, category_count, is_category_allowed}
+use Rattle.uc_model.proofs.Common.{linear, le_or_lt}
 use Rattle.start_costs.specs.Cheapest.{Thermal, IsCheapestAbove}
 use Rattle.dispatch_repair.specs.Period.{Instance, Pattern, Printed, commitment_at}
 use Rattle.dispatch_repair.specs.Dispatch.{Cell, IsCommittedCell}

@@ -3,10 +3,8 @@ use Rattle.std.proofs.Common.{◌≡◌, ℕ, suc, ◌+◌, ◌-◌, ◌<◌, �
 use Rattle.std.specs.List.{All, Contains}
 use Rattle.std.proofs.lemmas.Bool.{lt-ltb, le-ltb, cond-true, cond-false, cases_lt}
 use Rattle.std.proofs.lemmas.List.Elements.{All-append, All-nil, All-cons, Contains-append_left, Contains-push}
-use Rattle.uc_model.specs.Points.{point_of, output_of}
-use Rattle.uc_model.specs.Hull.{rise, run}
-use Rattle.uc_model.specs.Schedule.{thermal_unit, thermal_count, renewable_count}
-use Rattle.uc_model.proofs.Ring.{linear, le_or_lt, zero-mul}
+use Rattle.uc_model.specs.Prelude.{point_of, output_of, rise, run, thermal_unit, thermal_count, renewable_count}
+use Rattle.uc_model.proofs.Common.{linear, le_or_lt, zero-mul}
 use Rattle.cost_curves.specs.LowerHull.{IsLowerHull}
 use Rattle.cost_curves.specs.LeastCost.{IsRightSlope}
 use Rattle.cost_curves.proofs.HullValues.{line, line-segment, output_is, whole_width}

@@ -3,13 +3,8 @@ use Rattle.std.proofs.Common.{◌≡◌, ℕ, zero, suc, ◌+◌, ◌*◌, ◌-�
 use Rattle.std.specs.Int.{int_max}
 use Rattle.std.proofs.lemmas.Int.{ints}
 use Rattle.std.proofs.lemmas.List.Elements.{All-get_or}
-use Rattle.uc_model.specs.Commitment.{initial_p}
-use Rattle.uc_model.specs.Limits.{IsLawfulInstance, IsPower}
-use Rattle.uc_model.specs.Schedule.{thermal_unit, thermal_count, renewable_count, demand_at}
-use Rattle.uc_model.specs.Sums.{sum_below}
-use Rattle.uc_model.proofs.CostBound.{within_of_abs}
-use Rattle.uc_model.proofs.Ring.{linear, pos-mul, pos-le-pos}
-use Rattle.uc_model.proofs.Sums.{sum_below-const, sum_below-le}
+use Rattle.uc_model.specs.Prelude.{initial_p, IsLawfulInstance, IsPower, thermal_unit, thermal_count, renewable_count, demand_at, sum_below}
+use Rattle.uc_model.proofs.Common.{within_of_abs, linear, pos-mul, pos-le-pos, sum_below-const, sum_below-le}
 use Rattle.dispatch_repair.specs.Period.{Instance, Pattern, Printed, Period, low_of, head_of, heads, total_output, demand_of, need_of, thermal_limit, thermal_sum}
 use Rattle.dispatch_repair.specs.Shortage.{served, shed_of, short_of}
 use Rattle.dispatch_repair.specs.Dispatch.{period_after}

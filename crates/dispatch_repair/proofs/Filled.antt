@@ -5,14 +5,8 @@ use Rattle.std.proofs.Common.{◌≡◌, ℕ, zero, suc, ◌-◌, ◌<◌, ◌�
 use Rattle.std.specs.Int.{int_min, int_max}
 use Rattle.std.proofs.lemmas.Int.{ints}
 use Rattle.std.proofs.lemmas.Bool.{cond_both, cond-true}
-use Rattle.uc_model.specs.Sums.{sum_below, bit}
-use Rattle.uc_model.specs.Commitment.{Commitment, starts, start_reduction, start_cap, stop_cap, cap}
-use Rattle.uc_model.specs.Schedule.{thermal_unit, thermal_count, point_p, point_count}
-use Rattle.uc_model.specs.PrintedSchedule.{cell_at, shed_at, short_at}
-use Rattle.uc_model.proofs.Ring.{linear, le_or_lt, le_trans, le_antisymm, mul_nonneg, mul-zero}
-use Rattle.uc_model.proofs.Sums.{sum_below-sub}
-use Rattle.uc_model.proofs.MinimumTimes.{bit_nonneg}
-use Rattle.uc_model.proofs.Tests.{int_min_left, int_min_right}
+use Rattle.uc_model.specs.Prelude.{sum_below, bit, Commitment, starts, start_reduction, start_cap, stop_cap, cap, thermal_unit, thermal_count, point_p, point_count, cell_at, shed_at, short_at}
+use Rattle.uc_model.proofs.Common.{linear, le_or_lt, le_trans, le_antisymm, mul_nonneg, mul-zero, sum_below-sub, bit_nonneg, int_min_left, int_min_right}
 use Rattle.schedule_check.specs.SizedNumbers.{output_at}
 use Rattle.dispatch_repair.specs.Period.{Instance, Pattern, Printed, Thermal, Period, Source, FromThermal, commitment_at, output_before, head_of, need_of}
 use Rattle.dispatch_repair.specs.Shortage.{served}

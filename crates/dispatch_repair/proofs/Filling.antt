@@ -3,10 +3,8 @@ use Rattle.std.proofs.Common.{◌≡◌, ◌≢◌, ℕ, suc, ◌+◌, ◌-◌, 
 use Rattle.std.specs.Int.{int_max}
 use Rattle.std.proofs.lemmas.Int.{ints}
 use Rattle.std.proofs.lemmas.Bool.{cases_lt, cases_eq}
-use Rattle.uc_model.specs.Sums.{sum_below}
-use Rattle.uc_model.specs.Schedule.{thermal_count, renewable_count}
-use Rattle.uc_model.proofs.Ring.{linear, le_or_lt, le_antisymm}
-use Rattle.uc_model.proofs.Sums.{sum_below-same, sum_below-add, sum_below-single}
+use Rattle.uc_model.specs.Prelude.{sum_below, thermal_count, renewable_count}
+use Rattle.uc_model.proofs.Common.{linear, le_or_lt, le_antisymm, sum_below-same, sum_below-add, sum_below-single}
 use Rattle.dispatch_repair.specs.MeritOrder.{Instance, Slope, HasNextSlope}
 use Rattle.dispatch_repair.specs.Amounts.{Range, range_at, amount_at, thermal_amount}
 use Rattle.dispatch_repair.specs.Filling.{Left, IsLeft, IsOpen, IsFull, IsSpent, IsRaise, CostsUpTo, IsWorth, IsTaken, AddsUp, IsFilledTo}

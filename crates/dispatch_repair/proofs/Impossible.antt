@@ -4,15 +4,9 @@
 use Rattle.std.proofs.Common.{◌≡◌, ℕ, ◌<◌, ◌≤◌, ⊎_elim, ap, subst, sym, ◌∙◌, arith, nat_lt, ℤ, pos, ◌+ℤ◌, ◌-ℤ◌, ◌*ℤ◌, ◌≤ℤ◌}
 use Rattle.std.specs.Int.{int_min, int_max}
 use Rattle.std.proofs.lemmas.Bool.{cond_both, cond-true, cond-false, and_parts}
-use Rattle.uc_model.specs.Sums.{sum_below, bit}
-use Rattle.uc_model.specs.Commitment.{cap}
-use Rattle.uc_model.specs.Schedule.{Schedule, thermal_unit, thermal_count, renewable_count, p_at, p_before, demand_at, reserve_at, most_shed, most_short}
-use Rattle.uc_model.specs.Rules.{StartCap, StopCap, RampUp, RenewableRange, Demand, Reserve, ShedRange, ShortRange, supply_at, reserve_supply_at}
+use Rattle.uc_model.specs.Prelude.{sum_below, bit, cap, Schedule, thermal_unit, thermal_count, renewable_count, p_at, p_before, demand_at, reserve_at, most_shed, most_short, StartCap, StopCap, RampUp, RenewableRange, Demand, Reserve, ShedRange, ShortRange, supply_at, reserve_supply_at}
 use Rattle.uc_model.specs.declared.stuck.Why.TheVariants as why
-use Rattle.uc_model.proofs.Ring.{linear, mul-add, mul-sub, mul_assoc, le_from_mul}
-use Rattle.uc_model.proofs.Sums.{sum_below-same, sum_below-add, sum_below-mul_left, sum_below-le}
-use Rattle.uc_model.proofs.Tests.{int_le-true, int_eq-true}
-use Rattle.uc_model.proofs.Shortages.{IsShortage, shortage_parts}
+use Rattle.uc_model.proofs.Common.{linear, mul-add, mul-sub, mul_assoc, le_from_mul, sum_below-same, sum_below-add, sum_below-mul_left, sum_below-le, int_le-true, int_eq-true, IsShortage, shortage_parts}
 use Rattle.dual_model.proofs.Locality.{cap-same}
 use Rattle.dual_model.proofs.PricedRules.{within_cap}
 use Rattle.dispatch_repair.specs.Period.{Period, Source, FromRenewable, FromThermal, low_of, high_of, head_of, heads, thermal_sum, renewable_sum, minimums, total_output, demand_of, need_of}

@@ -4,12 +4,8 @@ use Rattle.std.specs.Int.{int_min, int_max}
 use Rattle.std.proofs.lemmas.Int.{ints}
 use Rattle.std.proofs.lemmas.Bool.{cases_lt, lt-ltb, cond-true, cond_both}
 use Rattle.std.proofs.lemmas.List.{get_or_default}
-use Rattle.uc_model.specs.Limits.{IsLawfulInstance, IsPower}
-use Rattle.uc_model.specs.Sums.{sum_below}
-use Rattle.uc_model.specs.Schedule.{thermal_unit, thermal_count, renewable_count, point, point_p, point_count}
-use Rattle.uc_model.proofs.Ring.{linear, le_or_lt, le_antisymm, le_trans}
-use Rattle.uc_model.proofs.Sums.{sum_below-same, sum_below-le, sum_below-split}
-use Rattle.uc_model.proofs.Tests.{int_min_left, int_min_right}
+use Rattle.uc_model.specs.Prelude.{IsLawfulInstance, IsPower, sum_below, thermal_unit, thermal_count, renewable_count, point, point_p, point_count}
+use Rattle.uc_model.proofs.Common.{linear, le_or_lt, le_antisymm, le_trans, sum_below-same, sum_below-le, sum_below-split, int_min_left, int_min_right}
 use Rattle.dispatch_repair.specs.Period.{Instance, Period, Source, FromRenewable, FromThermal, IsSourceOf, low_of, high_of, head_of, heads, minimums, thermal_sum, renewable_sum, demand_of, thermal_limit, is_off_next}
 use Rattle.dispatch_repair.specs.MeritOrder.{Slope, HasNextSlope, HasLastSlope, ComesBefore, IsPreferred, CanMove, IsInMeritOrder, thermal_part}
 use Rattle.dispatch_repair.specs.Stuck.{HaveRanges}

@@ -6,8 +6,7 @@ use Rattle.std.specs.List.Sorted.{IsPermutation, IsSortedBy}
 use Rattle.std.proofs.lemmas.Int.{ints}
 use Rattle.std.proofs.lemmas.Bool.{both_ways, cases_lt, ltb-true, lt-ltb, or_cases, and_parts, and_from, or_left, or_right, false_from_ne_true}
 use Rattle.std.proofs.lemmas.List.Sorted.{All-permutation, Contains-permutation}
-use Rattle.uc_model.proofs.Ring.{linear, le_antisymm, le_or_lt}
-use Rattle.uc_model.proofs.Tests.{int_lt-true, lt-int_lt, int_eq-true, eq-int_eq}
+use Rattle.uc_model.proofs.Common.{linear, le_antisymm, le_or_lt, int_lt-true, lt-int_lt, int_eq-true, eq-int_eq}
 use Rattle.cost_curves.proofs.Lines.{flatter_trans}
 use Rattle.dispatch_repair.specs.Segments.{Instance, Segment, width_of, comes_before, segment_at, no_segment, IsSegmentOf, AreSegmentsOf, AreInMeritOrder, source_count}
 

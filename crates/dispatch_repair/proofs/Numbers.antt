@@ -4,9 +4,7 @@ use Rattle.std.proofs.Common.{◌≡◌, ℕ, ap, sym, ◌∙◌, arith, ℤ, �
 use Rattle.std.specs.Int.{w64}
 use Rattle.std.proofs.lemmas.Int.{ints}
 use Rattle.std.proofs.lemmas.Bool.{and_parts, eqb-true}
-use Rattle.uc_model.proofs.Ring.{linear}
-use Rattle.uc_model.proofs.Sizes.{narrow}
-use Rattle.uc_model.proofs.Tests.{int_lt-true}
+use Rattle.uc_model.proofs.Common.{linear, narrow, int_lt-true}
 use Rattle.dispatch_repair.specs.Totals.{IsSizedTotal}
 
 pub at_most : (a b : ℤ) → int_lt a b ≡ false → b ≤ℤ a

@@ -4,16 +4,9 @@ use Rattle.std.proofs.Common.{◌≡◌, ℕ, zero, suc, ◌<◌, ⊎_elim, fals
 use Rattle.std.specs.Int.{int_max}
 use Rattle.std.specs.Ordering.{int_eq}
 use Rattle.std.proofs.lemmas.Bool.{and_from, or_left, or_right, cases_Bool, cond-true, cond-false}
-use Rattle.uc_model.specs.Sums.{sum_below, bit}
-use Rattle.uc_model.specs.Commitment.{Commitment, starts, cap}
-use Rattle.uc_model.specs.Schedule.{thermal_unit, thermal_count, demand_at, reserve_at}
+use Rattle.uc_model.specs.Prelude.{sum_below, bit, Commitment, starts, cap, thermal_unit, thermal_count, demand_at, reserve_at, Obeys, cell_at, shed_at, short_at, printed_denominator, printed_schedule, IsLawfulInstance}
 use Rattle.uc_model.specs.Rules as model
-use Rattle.uc_model.specs.Rules.{Obeys}
-use Rattle.uc_model.specs.PrintedSchedule.{cell_at, shed_at, short_at, printed_denominator, printed_schedule}
-use Rattle.uc_model.specs.Limits.{IsLawfulInstance}
-use Rattle.uc_model.proofs.Ring.{linear, le_trans}
-use Rattle.uc_model.proofs.Sums.{sum_below-same, sum_below-add}
-use Rattle.uc_model.proofs.Tests.{le-int_le, eq-int_eq}
+use Rattle.uc_model.proofs.Common.{linear, le_trans, sum_below-same, sum_below-add, le-int_le, eq-int_eq}
 use Rattle.dual_model.proofs.Locality.{SameBelow, starts-same, cap-same, category_allowed-same}
 use Rattle.schedule_check.specs.FirstBroken.{HoldsThroughout}
 use Rattle.schedule_check.specs.WholeWatts as whole

@@ -1,10 +1,9 @@
 -- A period has a first obstacle, or none.
 use Rattle.std.proofs.Common.{◌≡◌, ℕ, zero, suc, ◌≤◌, ◌⊎◌, inl, inr, true, refl, sym, ap, subst, arith, ◌≤ℤ◌, nat_lt}
 use Rattle.std.proofs.lemmas.Bool.{both_ways}
-use Rattle.uc_model.specs.Schedule.{thermal_count}
+use Rattle.uc_model.specs.Prelude.{thermal_count}
 use Rattle.uc_model.specs.declared.stuck.Why.TheVariants as why
-use Rattle.uc_model.proofs.Ring.{le_or_lt}
-use Rattle.uc_model.proofs.Sums.{below_or_last}
+use Rattle.uc_model.proofs.Common.{le_or_lt, below_or_last}
 use Rattle.dispatch_repair.specs.Period.{Period, FromThermal, low_of, high_of, total_output, demand_of, need_of}
 use Rattle.dispatch_repair.specs.Shortage.{greatest_room}
 use Rattle.dispatch_repair.specs.Stuck.{Why, HaveRanges, HasBalance, IsBox, IsFree, IsFirstObstacle}

@@ -4,17 +4,12 @@ use Rattle.std.specs.Int.{int_max, int_min}
 use Rattle.std.proofs.Math.ListN.{get_or-eq_default}
 use Rattle.std.proofs.lemmas.Bool.{cases_Bool, cases_lt, cond-true, cond-false}
 use Rattle.std.proofs.lemmas.List.Elements.{All-get_or}
-use Rattle.uc_model.specs.Commitment.{starts}
-use Rattle.uc_model.specs.Limits.{IsLawfulInstance}
-use Rattle.uc_model.specs.PrintedSchedule.{cell_at, shed_at, short_at}
-use Rattle.uc_model.specs.Schedule.{thermal_count, thermal_unit, renewable_count}
-use Rattle.uc_model.specs.StartCategory.{category_cost}
+use Rattle.uc_model.specs.Prelude.{starts, IsLawfulInstance, cell_at, shed_at, short_at, thermal_count, thermal_unit, renewable_count, category_cost}
 use Rattle.uc_model.specs.declared.instance.Thermal.{Thermal}
 use Rattle.uc_model.specs.declared.schedule.Cell.{Cell}
 use Rattle.uc_model.specs.declared.stuck.Why.{Why}
 use Rattle.uc_model.specs.declared.stuck.Why.TheVariants as why
-use Rattle.uc_model.proofs.Ring.{linear, le_trans}
-use Rattle.uc_model.proofs.Sums.{below_or_last, sum_below-same}
+use Rattle.uc_model.proofs.Common.{linear, le_trans, below_or_last, sum_below-same}
 use Rattle.start_costs.specs.Cheapest.{IsCheapestAbove}
 use Rattle.schedule_check.specs.SizedNumbers.{output_at}
 use Rattle.dispatch_repair.specs.Dispatch.{HasPeriods, IsCommittedCell, IsDispatchThrough, IsFilling, amounts, period_after}

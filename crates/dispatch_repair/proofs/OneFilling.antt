@@ -1,12 +1,9 @@
 -- In a period the order of merit leaves one choice: where two fillings differ, a watt of one could move.
 use Rattle.std.proofs.Common.{◌≡◌, ◌≢◌, ◌⊎◌, inl, inr, ⊎_elim, ℕ, suc, zero, ◌<◌, ◌≤◌, arith, refl, sym, ap, subst, ℤ, pos, ◌+ℤ◌, ◌-ℤ◌, ◌*ℤ◌, ◌≤ℤ◌, ◌<ℤ◌}
 use Rattle.std.proofs.lemmas.Bool.{cases_lt}
-use Rattle.uc_model.specs.Limits.{IsLawfulInstance}
-use Rattle.uc_model.specs.Sums.{sum_below}
-use Rattle.uc_model.specs.Schedule.{thermal_count, thermal_unit, renewable_count}
+use Rattle.uc_model.specs.Prelude.{IsLawfulInstance, sum_below, thermal_count, thermal_unit, renewable_count}
 use Rattle.uc_model.specs.declared.instance.Instance.{Instance}
-use Rattle.uc_model.proofs.Ring.{linear, le_or_lt, le_antisymm, zero-mul}
-use Rattle.uc_model.proofs.Sums.{below_or_last, sum_below-le}
+use Rattle.uc_model.proofs.Common.{linear, le_or_lt, le_antisymm, zero-mul, below_or_last, sum_below-le}
 use Rattle.cost_curves.specs.LowerHull.{width_of}
 use Rattle.cost_curves.proofs.UnitPoints.{lawful_points}
 use Rattle.dispatch_repair.specs.Period.{Period, Source, FromRenewable, FromThermal, IsSourceOf, low_of, high_of, thermal_sum, thermal_limit}

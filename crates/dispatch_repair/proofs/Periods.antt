@@ -4,13 +4,8 @@ use Rattle.std.specs.Int.{int_min, int_max}
 use Rattle.std.proofs.lemmas.Bool.{cases_lt, cases_eq, lt-ltb, le-ltb, cond-true, cond-false}
 use Rattle.std.proofs.Math.ListN.{get_or-eq_default}
 use Rattle.std.proofs.lemmas.Int.{ints}
-use Rattle.uc_model.specs.Sums.{sum_below, bit}
-use Rattle.uc_model.specs.Commitment.{initial_p}
-use Rattle.uc_model.specs.Limits.{IsLawfulInstance, IsLawfulThermal}
-use Rattle.uc_model.proofs.Ring.{one-mul, zero-mul}
-use Rattle.uc_model.specs.StartCategory.{category_cost}
-use Rattle.uc_model.specs.Schedule.{thermal_unit, thermal_count, renewable_count, reserve_at, no_unit}
-use Rattle.uc_model.specs.PrintedSchedule.{cell_at}
+use Rattle.uc_model.specs.Prelude.{sum_below, bit, initial_p, IsLawfulInstance, IsLawfulThermal, category_cost, thermal_unit, thermal_count, renewable_count, reserve_at, no_unit, cell_at}
+use Rattle.uc_model.proofs.Common.{one-mul, zero-mul}
 use Rattle.uc_model.specs.declared.stuck.Why.TheVariants as why
 use Rattle.start_costs.specs.Cheapest.{IsCheapestAbove}
 use Rattle.schedule_check.specs.SizedNumbers.{output_at}

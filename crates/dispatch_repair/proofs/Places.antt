@@ -3,7 +3,7 @@
 use Rattle.std.proofs.Common.{◌≡◌, ℕ, ◌+◌, ◌-◌, ◌<◌, ◌≤◌, ⊎_elim, sym, ap, subst, ◌∙◌, arith, List, length, get_or}
 use Rattle.std.proofs.lemmas.Bool.{cases_lt}
 use Rattle.std.proofs.lemmas.List.{get_or_read}
-use Rattle.uc_model.specs.Schedule.{thermal_count, thermal_unit, no_unit, renewable_count}
+use Rattle.uc_model.specs.Prelude.{thermal_count, thermal_unit, no_unit, renewable_count}
 use Rattle.dispatch_repair.specs.Period.{Instance, Thermal, Period, Source, FromRenewable, FromThermal, low_of, high_of}
 use Rattle.dispatch_repair.specs.Amounts.{Range, IsSizedEnd, IsRangeOf, AreRangesOf, range_at}
 use Rattle.dispatch_repair.specs.Segments.{source_at}

@@ -5,13 +5,9 @@ use Rattle.std.proofs.lemmas.Bool.{cases_Bool, and_right}
 use Rattle.std.specs.Int.{int_max}
 use Rattle.std.proofs.lemmas.Int.{ints}
 use Rattle.std.proofs.lemmas.List.Elements.{All-get_or}
-use Rattle.uc_model.specs.Sums.{bit}
-use Rattle.uc_model.specs.Commitment.{was_on, starts}
-use Rattle.uc_model.specs.Schedule.{thermal_unit, thermal_count, renewable_count, renewable_minimum, renewable_maximum, demand_at, reserve_at}
-use Rattle.uc_model.specs.PrintedSchedule.{cell_at, shed_at, short_at}
-use Rattle.uc_model.specs.Limits.{IsLimit, IsPower, IsLawfulInstance}
+use Rattle.uc_model.specs.Prelude.{bit, was_on, starts, thermal_unit, thermal_count, renewable_count, renewable_minimum, renewable_maximum, demand_at, reserve_at, cell_at, shed_at, short_at, IsLimit, IsPower, IsLawfulInstance}
 use Rattle.uc_model.specs.declared.limits.TheConstants.{MAX_START_ROWS}
-use Rattle.uc_model.proofs.Ring.{linear, mul-one, mul-zero, le_trans}
+use Rattle.uc_model.proofs.Common.{linear, mul-one, mul-zero, le_trans}
 use Rattle.schedule_check.specs.SizedNumbers.{output_at}
 use Rattle.schedule_check.proofs.Plain.{power_below, plain as plain_everywhere}
 use Rattle.schedule_check.proofs.Priced.{allowed-within}

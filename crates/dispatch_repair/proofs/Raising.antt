@@ -3,9 +3,8 @@ use Rattle.std.proofs.Common.{◌≡◌, ℕ, zero, suc, ◌<◌, ◌≤◌, ◌
 use Rattle.std.specs.Int.{int_min}
 use Rattle.std.proofs.lemmas.Int.{ints}
 use Rattle.std.proofs.lemmas.Bool.{cases_lt, cond-false, cond-true, cond_both, le-ltb, lt-ltb}
-use Rattle.uc_model.specs.Schedule.{renewable_count}
-use Rattle.uc_model.proofs.Ring.{linear, le_or_lt}
-use Rattle.uc_model.proofs.Tests.{int_min_left, int_min_right}
+use Rattle.uc_model.specs.Prelude.{renewable_count}
+use Rattle.uc_model.proofs.Common.{linear, le_or_lt, int_min_left, int_min_right}
 use Rattle.dispatch_repair.specs.MeritOrder.{Instance}
 use Rattle.dispatch_repair.specs.Amounts.{Range, amount_at, range_at}
 use Rattle.dispatch_repair.specs.Filling.{Left, IsLeft, IsOpen, IsRaise, IsFilledTo, end_of}

@@ -3,11 +3,8 @@ use Rattle.std.proofs.Common.{◌≡◌, ℕ, suc, ◌+◌, ◌-◌, ◌<◌, Bo
 use Rattle.std.specs.Int.{int_min, int_max}
 use Rattle.std.proofs.lemmas.Int.{ints}
 use Rattle.std.proofs.lemmas.Bool.{cond_both}
-use Rattle.uc_model.specs.Commitment.{Commitment, cap, start_cap, stop_cap, start_reduction, stop_reduction, starts, stops}
-use Rattle.uc_model.specs.Limits.{IsLawfulInstance, IsLawfulThermal, IsPower}
-use Rattle.uc_model.specs.Schedule.{thermal_unit, thermal_count, renewable_count, renewable_maximum, renewable_minimum, point, point_p, point_count}
-use Rattle.uc_model.specs.Sums.{bit}
-use Rattle.uc_model.proofs.Ring.{linear, mul-one, mul-zero}
+use Rattle.uc_model.specs.Prelude.{Commitment, cap, start_cap, stop_cap, start_reduction, stop_reduction, starts, stops, IsLawfulInstance, IsLawfulThermal, IsPower, thermal_unit, thermal_count, renewable_count, renewable_maximum, renewable_minimum, point, point_p, point_count, bit}
+use Rattle.uc_model.proofs.Common.{linear, mul-one, mul-zero}
 use Rattle.dispatch_repair.specs.Period.{Thermal, Period, low_of, high_of, head_of, head, lowest, highest, is_off_next}
 use Rattle.dispatch_repair.specs.Amounts.{MAX_POWER, Range, AreHeadsOf, AreRangesOf, IsRangeOf, IsSizedEnd, IsSizedOutput, range_at}
 use Rattle.dispatch_repair.specs.Segments.{source_at, source_count}

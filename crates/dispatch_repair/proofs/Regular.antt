@@ -1,11 +1,8 @@
 -- Allowed patterns keep the rules on commitments. Cite by `use Rattle.dispatch_repair.proofs.Regular.{regular}`.
 use Rattle.std.proofs.Common.{◌≡◌, ◌⊎◌, inl, inr, ℕ, ◌<◌, arith, List, IsTrue}
 use Rattle.std.proofs.lemmas.Bool.{and_parts}
-use Rattle.uc_model.specs.Commitment.{initial_stop_holds, is_allowed, is_allowed_at}
-use Rattle.uc_model.specs.Rules.{Rule, MustRun, InitialUp, InitialDown, MinimumUp, MinimumDown, Category, InitialStop, Production, StartCap, StopCap, RampUp, RampDown, RenewableRange, Demand, Reserve, ShedRange, ShortRange, holds_at}
-use Rattle.uc_model.specs.Schedule.{thermal_count, thermal_unit}
-use Rattle.uc_model.specs.Sums.{all_below}
-use Rattle.uc_model.proofs.Tests.{all_below-at}
+use Rattle.uc_model.specs.Prelude.{initial_stop_holds, is_allowed, is_allowed_at, Rule, MustRun, InitialUp, InitialDown, MinimumUp, MinimumDown, Category, InitialStop, Production, StartCap, StopCap, RampUp, RampDown, RenewableRange, Demand, Reserve, ShedRange, ShortRange, holds_at, thermal_count, thermal_unit, all_below}
+use Rattle.uc_model.proofs.Common.{all_below-at}
 use Rattle.dispatch_repair.specs.Period.{Instance, Pattern, commitment_at}
 use Rattle.dispatch_repair.specs.Stuck.{IsCommitmentRule, IsRegular, committed}
 

@@ -1,9 +1,7 @@
 -- A rule on commitments says the same of a unit's row as of the unit's pattern, where the row is on in the same periods.
 -- Rules go by their turn: M1 to M5, and M7. Cite by `use Rattle.dispatch_repair.proofs.RowRules.{turn_rule}`.
 use Rattle.std.proofs.Common.{◌≡◌, ℕ, zero, suc, ◌-◌, ◌<◌, Bool, true, false, not, ◌&&◌, ◌||◌, sym, ap, subst, ◌∙◌, arith, List, length, IsTrue, nat_lt, min, ◌==◌, if◌then◌else◌}
-use Rattle.uc_model.specs.Commitment.{starts, stops}
-use Rattle.uc_model.specs.Schedule.{thermal_unit}
-use Rattle.uc_model.specs.Rules.{holds_at, rule_number}
+use Rattle.uc_model.specs.Prelude.{starts, stops, thermal_unit, holds_at, rule_number}
 use Rattle.uc_model.specs.declared.schedule.Cell.{Cell}
 use Rattle.dual_model.proofs.Locality.{SameBelow, starts-same, stops-same, keeps_minimum-same, initial_stop-same}
 use Rattle.schedule_check.specs.CommitmentRules.{RowKeeps}

@@ -2,10 +2,7 @@
 use Rattle.std.proofs.Common.{◌≡◌, ◌≢◌, ℕ, ◌+◌, ◌<◌, below_more, length, get_or, get_or-set_other, sym, ap, subst, ◌∙◌, List, [], ◌∷◌, ◌++◌, IsTrue}
 use Rattle.std.proofs.Math.ListN.{set}
 use Rattle.std.proofs.lemmas.List.{length_push, get_or_push, get_or_append_left}
-use Rattle.uc_model.specs.Commitment.{starts}
-use Rattle.uc_model.specs.PatternBits.{commitment_of}
-use Rattle.uc_model.specs.Schedule.{thermal_unit}
-use Rattle.uc_model.specs.StartCategory.{category_cost}
+use Rattle.uc_model.specs.Prelude.{starts, commitment_of, thermal_unit, category_cost}
 use Rattle.start_costs.specs.Cheapest.{IsCheapestAbove}
 use Rattle.dispatch_repair.specs.Rooms.{IsNewCell}
 use Rattle.uc_model.specs.declared.pattern.Pattern.{Pattern}

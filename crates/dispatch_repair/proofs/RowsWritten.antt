@@ -5,9 +5,7 @@ use Rattle.std.proofs.lemmas.Int.{ints, clamps, to_z-of_z, fits_signed_from_abs}
 use mir.Syntax.{w64}
 use mir.Val.{SFits, to_z, of_z}
 use Rattle.uc_model.specs.declared.limits.TheConstants.{MAX_POWER, MAX_UNITS}
-use Rattle.uc_model.proofs.Ring.{linear}
-use Rattle.uc_model.proofs.CostBound.{within_of_abs, abs_of_within}
-use Rattle.uc_model.proofs.Sizes.{narrow}
+use Rattle.uc_model.proofs.Common.{linear, within_of_abs, abs_of_within, narrow}
 use Rattle.dispatch_repair.specs.Amounts.{IsSizedOutput, IsSizedEnd, amount_at}
 use Rattle.dispatch_repair.specs.inside.Rows.{Cell, IsLeft, cell_of, cells_with, given, reserve_of, row_at, with_power}
 use Rattle.dispatch_repair.proofs.Listed.{IsListedTo, listed_more}

@@ -1,10 +1,8 @@
 -- What is said of a run of periods, as said of the pattern that is on in them.
 use Rattle.std.proofs.Common.{◌≡◌, ℕ, ◌≤◌, Option, Some, None, true, sym, ap, subst, ◌∙◌, arith, MatchOption}
-use Rattle.uc_model.specs.PatternBits.{commitment_of}
-use Rattle.uc_model.specs.ExtremePatterns.{IsMostOn, IsFewestOn, HasNoAllowedPattern, on_during}
+use Rattle.uc_model.specs.Prelude.{commitment_of, IsMostOn, IsFewestOn, HasNoAllowedPattern, on_during}
 use Rattle.uc_model.specs.declared.instance.Thermal.{Thermal}
-use Rattle.uc_model.proofs.ExtremePatterns.{fewest-from_lowest, lowest-must_run}
-use Rattle.uc_model.proofs.PeriodRuns.{during-off_past}
+use Rattle.uc_model.proofs.Common.{fewest-from_lowest, lowest-must_run, during-off_past}
 use Rattle.dispatch_repair.specs.MostOn.{Pattern, IsOffFrom}
 
 pub most-of_run : (periods : ℕ) (unit : Thermal) (first end : ℕ) (pattern : Pattern) → commitment_of pattern ≡ on_during first end

@@ -5,13 +5,8 @@ use Rattle.std.specs.Int.{int_max}
 use Rattle.std.proofs.lemmas.Int.{ints}
 use Rattle.std.proofs.lemmas.Bool.{cond-true, cond-false, and_parts, cases_lt, eqb-true, false_from_ne_true, lt-ltb, ltb-true}
 use Rattle.std.proofs.lemmas.List.Elements.{All-get_or}
-use Rattle.uc_model.specs.Sums.{bit}
-use Rattle.uc_model.specs.Limits.{IsLawfulInstance, IsPower}
-use Rattle.uc_model.specs.PrintedSchedule.{shed_at, short_at}
-use Rattle.uc_model.specs.Schedule.{thermal_unit, thermal_count, renewable_count, demand_at, reserve_at}
-use Rattle.uc_model.proofs.Ring.{linear, le_or_lt, le_trans, mul_nonneg}
-use Rattle.uc_model.proofs.Sums.{sum_below_nonneg, sum_below-le}
-use Rattle.uc_model.proofs.MinimumTimes.{bit_nonneg}
+use Rattle.uc_model.specs.Prelude.{bit, IsLawfulInstance, IsPower, shed_at, short_at, thermal_unit, thermal_count, renewable_count, demand_at, reserve_at}
+use Rattle.uc_model.proofs.Common.{linear, le_or_lt, le_trans, mul_nonneg, sum_below_nonneg, sum_below-le, bit_nonneg}
 use Rattle.dispatch_repair.specs.Period.{Instance, Pattern, Printed, Period, output_before, Source, FromRenewable, FromThermal, low_of, high_of, heads, thermal_sum, renewable_sum, minimums, total_output, demand_of, need_of}
 use Rattle.dispatch_repair.specs.Shortage.{reserve_room, served, unmet, lacking, shed_of, short_of}
 use Rattle.dispatch_repair.specs.MeritOrder.{IsInMeritOrder}

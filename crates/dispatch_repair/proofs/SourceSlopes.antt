@@ -1,11 +1,8 @@
 -- The slopes of a source beside an output: they are there, have a width, and rise.
 use Rattle.std.proofs.Common.{ℕ, ◌-◌, arith, refl, sym, subst, List, length, ℤ, pos, ◌+ℤ◌, ◌-ℤ◌, ◌*ℤ◌, ◌≤ℤ◌, ◌<ℤ◌}
-use Rattle.uc_model.specs.Points.{output_of}
-use Rattle.uc_model.specs.Hull.{rise, run}
-use Rattle.uc_model.specs.Schedule.{thermal_unit}
+use Rattle.uc_model.specs.Prelude.{output_of, rise, run, thermal_unit}
 use Rattle.uc_model.specs.declared.instance.Point.{Point}
-use Rattle.uc_model.proofs.Ring.{linear}
-use Rattle.uc_model.proofs.HullSegments.{pair_there, is_segment}
+use Rattle.uc_model.proofs.Common.{linear, pair_there, is_segment}
 use Rattle.cost_curves.specs.LeastCost.{IsLeftSlope, IsRightSlope}
 use Rattle.cost_curves.specs.LowerHull.{AreLawfulPoints, width_of}
 use Rattle.cost_curves.proofs.HullValues.{slope_right}

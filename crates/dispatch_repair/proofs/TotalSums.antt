@@ -2,10 +2,8 @@
 -- Cite by `use Rattle.dispatch_repair.proofs.TotalSums.{renewable_part}`.
 use Rattle.std.proofs.Common.{◌≡◌, ℕ, ◌+◌, ◌-◌, ◌<◌, arith, sym, ap, subst, ◌∙◌, List, length, take, drop, ℤ, pos, to_z, of_z, length-take, length-drop, get_or-take, get_or-drop}
 use Rattle.std.specs.Int.{w64}
-use Rattle.uc_model.specs.Schedule.{thermal_count, renewable_count}
-use Rattle.uc_model.specs.Sums.{sum_below}
-use Rattle.uc_model.proofs.Sizes.{narrow}
-use Rattle.uc_model.proofs.Sums.{sum_below-same}
+use Rattle.uc_model.specs.Prelude.{thermal_count, renewable_count, sum_below}
+use Rattle.uc_model.proofs.Common.{narrow, sum_below-same}
 use Rattle.dispatch_repair.specs.Period.{Period, Source, FromRenewable, FromThermal, head_of, heads, renewable_sum, thermal_sum}
 use Rattle.dispatch_repair.specs.Amounts.{Range, AreHeadsOf, AreRangesOf, amount_at, range_at}
 use Rattle.dispatch_repair.specs.Segments.{source_count}

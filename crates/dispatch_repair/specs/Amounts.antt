@@ -1,7 +1,6 @@
 -- Ranges, heads and amounts of a period's sources by their places: renewable units, then thermal ones. This project's own.
 use Rattle.std.specs.Prelude.{◌≡◌, ℕ, ◌+◌, ◌*◌, ◌<◌, ◌≤◌, nat_lt, List, ℤ, pos, unsigned_abs, length, slice_index_or, if◌then◌else◌}
-use Rattle.uc_model.specs.Limits.{IsLawfulInstance}
-use Rattle.uc_model.specs.Schedule.{thermal_count, renewable_count}
+use Rattle.uc_model.specs.Prelude.{IsLawfulInstance, thermal_count, renewable_count}
 pub use Rattle.uc_model.specs.declared.limits.TheConstants.{MAX_POWER}
 use Rattle.dispatch_repair.specs.Dispatch.{Instance, Pattern, period_after}
 use Rattle.dispatch_repair.specs.Period.{Period, Source, FromRenewable, FromThermal, low_of, high_of, head_of}

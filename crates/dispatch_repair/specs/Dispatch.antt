@@ -1,10 +1,7 @@
 -- The dispatch of a commitment: its schedule in merit order. Source: economic dispatch by the merit order of incremental costs,
 -- within the rules of the reference model by Knueven, Ostrowski and Watson; that a period is filled for itself is this project's own.
 use Rattle.std.specs.Prelude.{◌≡◌, ℕ, ◌<◌, false, List, ℤ, IsTrue, All, length}
-use Rattle.uc_model.specs.Commitment.{starts}
-use Rattle.uc_model.specs.StartCategory.{category_cost}
-use Rattle.uc_model.specs.Schedule.{thermal_unit, thermal_count, renewable_count, demand_at, reserve_at}
-use Rattle.uc_model.specs.PrintedSchedule.{cell_at, shed_at, short_at}
+use Rattle.uc_model.specs.Prelude.{starts, category_cost, thermal_unit, thermal_count, renewable_count, demand_at, reserve_at, cell_at, shed_at, short_at}
 pub use Rattle.uc_model.specs.declared.instance.Instance.{Instance}
 pub use Rattle.uc_model.specs.declared.pattern.Pattern.{Pattern}
 pub use Rattle.uc_model.specs.declared.schedule.Cell.{Cell}

@@ -1,7 +1,6 @@
 -- A period that was filled, by the sources' amounts and what is missing. This project's own.
 use Rattle.std.specs.Prelude.{◌≡◌, ℕ, ◌<◌, List, ℤ, ◌-ℤ◌}
-use Rattle.uc_model.specs.Limits.{IsPower}
-use Rattle.uc_model.specs.Schedule.{thermal_count}
+use Rattle.uc_model.specs.Prelude.{IsPower, thermal_count}
 use Rattle.dispatch_repair.specs.Period.{Period}
 use Rattle.dispatch_repair.specs.Shortage.{served, shed_of, short_of}
 use Rattle.dispatch_repair.specs.MeritOrder.{IsInMeritOrder}

@@ -1,8 +1,7 @@
 -- Raising amounts segment by segment, in order of merit. Source: economic dispatch by the merit order of incremental costs.
 use Rattle.std.specs.Prelude.{◌≡◌, ◌≢◌, ℕ, ◌+◌, ◌<◌, ◌≤◌, ◌⊎◌, List, ℤ, pos, ◌+ℤ◌, ◌-ℤ◌, ◌≤ℤ◌, ◌<ℤ◌, length}
 use Rattle.std.specs.Int.{int_min}
-use Rattle.uc_model.specs.Sums.{sum_below}
-use Rattle.uc_model.specs.Schedule.{thermal_count, renewable_count}
+use Rattle.uc_model.specs.Prelude.{sum_below, thermal_count, renewable_count}
 pub use Rattle.uc_model.specs.declared.limits.TheConstants.{MAX_POWER, MAX_UNITS}
 use Rattle.dispatch_repair.specs.Period.{Instance, Period, demand_of, need_of, low_of, high_of, thermal_limit, thermal_sum, total_output}
 use Rattle.dispatch_repair.specs.Shortage.{reserve_room}

@@ -2,8 +2,7 @@
 -- costs; that renewable units come first among sources of one slope, and then the order of the file, is this project's own.
 use Rattle.std.specs.Prelude.{◌≡◌, ℕ, ◌<◌, ℤ, pos, ◌+ℤ◌, ◌-ℤ◌, ◌*ℤ◌, ◌≤ℤ◌, ◌<ℤ◌, ◌⊎◌, ⊤}
 use Rattle.std.specs.Int.{int_min, int_max}
-use Rattle.uc_model.specs.Sums.{sum_below}
-use Rattle.uc_model.specs.Schedule.{thermal_unit, thermal_count}
+use Rattle.uc_model.specs.Prelude.{sum_below, thermal_unit, thermal_count}
 pub use Rattle.uc_model.specs.declared.instance.Instance.{Instance}
 use Rattle.cost_curves.specs.LeastCost.{IsLeftSlope, IsRightSlope}
 pub use Rattle.cost_curves.specs.declared.slope.Slope.{Slope}

@@ -3,11 +3,7 @@
 -- Watson; that each period is filled for itself, from the one before and with the fall to a stop ahead, is this project's own.
 use Rattle.std.specs.Prelude.{ℕ, zero, suc, ◌-◌, ◌<◌, Bool, not, ◌&&◌, nat_lt, List, ℤ, pos, ◌+ℤ◌, ◌-ℤ◌, ◌*ℤ◌, slice_index_or, if◌then◌else◌}
 use Rattle.std.specs.Int.{int_min, int_max}
-use Rattle.uc_model.specs.Sums.{sum_below, bit}
-use Rattle.uc_model.specs.Commitment.{Commitment, cap, initial_p}
-use Rattle.uc_model.specs.PatternBits.{commitment_of}
-use Rattle.uc_model.specs.PrintedSchedule.{cell_at}
-use Rattle.uc_model.specs.Schedule.{thermal_unit, thermal_count, renewable_count, renewable_minimum, renewable_maximum, point_p, point_count}
+use Rattle.uc_model.specs.Prelude.{sum_below, bit, Commitment, cap, initial_p, commitment_of, cell_at, thermal_unit, thermal_count, renewable_count, renewable_minimum, renewable_maximum, point_p, point_count}
 pub use Rattle.uc_model.specs.declared.instance.Instance.{Instance}
 pub use Rattle.uc_model.specs.declared.instance.Thermal.{Thermal}
 pub use Rattle.uc_model.specs.declared.pattern.Pattern.{Pattern}

@@ -5,8 +5,7 @@ use Rattle.std.specs.Int.{int_max}
 use Rattle.std.specs.Ordering.{int_eq}
 use Rattle.std.specs.List.{Contains}
 pub use Rattle.uc_model.specs.declared.limits.TheConstants.{MAX_POWER}
-use Rattle.uc_model.specs.Points.{point_of}
-use Rattle.uc_model.specs.Schedule.{thermal_unit, thermal_count, renewable_count, point_p, point_count}
+use Rattle.uc_model.specs.Prelude.{point_of, thermal_unit, thermal_count, renewable_count, point_p, point_count}
 pub use Rattle.uc_model.specs.declared.instance.Instance.{Instance}
 pub use Rattle.uc_model.specs.declared.instance.Point.{Point}
 use Rattle.dispatch_repair.specs.Period.{Source, FromRenewable, FromThermal}

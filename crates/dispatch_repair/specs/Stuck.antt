@@ -1,8 +1,7 @@
 -- Where a commitment can't be dispatched, and why. Source: the rules of the reference model by Knueven, Ostrowski and Watson; that a
 -- period is filled for itself, and in which order the obstacles are looked for, is this project's own.
 use Rattle.std.specs.Prelude.{◌≡◌, ℕ, ◌<◌, ◌≤◌, ◌⊎◌, List, ℤ, pos, ⊤, ◌*ℤ◌, ◌≤ℤ◌, ◌<ℤ◌, IsTrue}
-use Rattle.uc_model.specs.Schedule.{Schedule, thermal_unit, thermal_count, p_at, p_before}
-use Rattle.uc_model.specs.Rules.{Rule, rule_number, rule_units, holds_at}
+use Rattle.uc_model.specs.Prelude.{Schedule, thermal_unit, thermal_count, p_at, p_before, Rule, rule_number, rule_units, holds_at}
 pub use Rattle.uc_model.specs.declared.stuck.Stuck.{Stuck}
 pub use Rattle.uc_model.specs.declared.stuck.Why.{Why}
 use Rattle.uc_model.specs.declared.stuck.Why.TheVariants as why

@@ -2,9 +2,7 @@
 //! one as early as the unit may, the other never.
 
 ghost use Rattle.std.specs.Prelude.{◌≡◌, ◌<◌, ◌≤◌, ◌≤ℤ◌, true, false, IfSome, MatchOption};
-ghost use Rattle.uc_model.specs.Limits.{IsLawfulThermal};
-ghost use Rattle.uc_model.specs.PatternBits.{commitment_of};
-ghost use Rattle.uc_model.specs.ExtremePatterns.{IsMostOn, IsFewestOn, HasNoAllowedPattern, on_during};
+ghost use Rattle.uc_model.specs.Prelude.{IsLawfulThermal, commitment_of, IsMostOn, IsFewestOn, HasNoAllowedPattern, on_during};
 ghost use Rattle.dispatch_repair.specs.MostOn.{IsOffFrom};
 
 use uc_model::limits::MAX_PERIODS;

@@ -1,8 +1,7 @@
 //! The segments of all sources of an instance, in order of merit.
 
 ghost use Rattle.std.specs.Prelude.{◌≡◌, ℕ, suc, ◌+◌, ◌<◌, length, IfOk};
-ghost use Rattle.uc_model.specs.Limits.{IsLawfulInstance};
-ghost use Rattle.uc_model.specs.Schedule.{renewable_count, thermal_count, thermal_unit};
+ghost use Rattle.uc_model.specs.Prelude.{IsLawfulInstance, renewable_count, thermal_count, thermal_unit};
 ghost use Rattle.cost_curves.specs.LowerHull.{AreLawfulCorners, IsLowerHull};
 ghost use Rattle.dispatch_repair.specs.Segments.{Instance, AreInMeritOrder, AreSegmentsOf, corner_segment, free_segment, source_count};
 

@@ -1,7 +1,7 @@
 //! The most-on commitment: for each thermal unit its allowed pattern with the most on periods.
 
 ghost use Rattle.std.specs.Prelude.{IfOk, IfErr};
-ghost use Rattle.uc_model.specs.Limits.{IsLawfulInstance};
+ghost use Rattle.uc_model.specs.Prelude.{IsLawfulInstance};
 ghost use Rattle.dispatch_repair.specs.MostOn.{AreMostOn, IsMostFault};
 
 use crate::extreme_patterns::most_of;

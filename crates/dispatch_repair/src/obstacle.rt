@@ -2,8 +2,7 @@
 
 ghost use Rattle.std.specs.Prelude.{◌≡◌, ◌+◌, ◌<◌, ◌≤◌, ◌+ℤ◌, ◌-ℤ◌, ◌≤ℤ◌, ◌==◌, ◌&&◌, int_lt, ◌*◌, length, unsigned_abs, MatchOption};
 ghost use Rattle.std.specs.Int.{int_max};
-ghost use Rattle.uc_model.specs.Limits.{IsPower};
-ghost use Rattle.uc_model.specs.Schedule.{renewable_count, thermal_count};
+ghost use Rattle.uc_model.specs.Prelude.{IsPower, renewable_count, thermal_count};
 ghost use Rattle.dispatch_repair.specs.Period.{Period, demand_of, high_of, low_of, need_of, total_output};
 ghost use Rattle.dispatch_repair.specs.Shortage.{greatest_room as greatest_room_of, reserve_room as reserve_room_of};
 ghost use Rattle.dispatch_repair.specs.Stuck.{HaveRanges, IsFirstObstacle, IsFree};

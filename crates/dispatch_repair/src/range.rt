@@ -2,9 +2,7 @@
 
 ghost use Rattle.std.specs.Prelude.{◌≡◌, ℤ, suc, ◌<◌, ◌≤◌, pos, ◌+ℤ◌, ◌-ℤ◌, if◌then◌else◌};
 ghost use Rattle.std.specs.Int.{int_max, int_min};
-ghost use Rattle.uc_model.specs.Commitment.{cap as cap_of, start_cap as start_cap_of, starts as starts_at, stop_cap as stop_cap_of};
-ghost use Rattle.uc_model.specs.Limits.{IsLawfulThermal, IsLimit};
-ghost use Rattle.uc_model.specs.PatternBits.{commitment_of};
+ghost use Rattle.uc_model.specs.Prelude.{cap as cap_of, start_cap as start_cap_of, starts as starts_at, stop_cap as stop_cap_of, IsLawfulThermal, IsLimit, commitment_of};
 ghost use Rattle.dispatch_repair.specs.Period.{head as head_after, highest, is_off_next as is_off_after, lowest};
 ghost use Rattle.dispatch_repair.specs.Amounts.{IsSizedEnd, IsSizedOutput};
 

@@ -2,8 +2,7 @@
 
 ghost use Rattle.std.specs.Prelude.{◌≡◌, ℕ, ℤ, ◌+◌, ◌<◌, ◌≤◌, pos, length, List};
 ghost use Rattle.std.specs.Int.{int_max};
-ghost use Rattle.uc_model.specs.Limits.{IsLawfulInstance, IsPower};
-ghost use Rattle.uc_model.specs.Schedule.{renewable_count, renewable_maximum, renewable_minimum, thermal_count};
+ghost use Rattle.uc_model.specs.Prelude.{IsLawfulInstance, IsPower, renewable_count, renewable_maximum, renewable_minimum, thermal_count};
 ghost use Rattle.uc_model.specs.declared.pattern.Pattern.{Pattern as PatternValue};
 ghost use Rattle.dispatch_repair.specs.Dispatch.{period_after};
 ghost use Rattle.dispatch_repair.specs.Rooms.{IsRoomOf};

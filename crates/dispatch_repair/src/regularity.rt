@@ -1,8 +1,7 @@
 //! The rules on commitments: M1 to M5 and M7.
 
 ghost use Rattle.std.specs.Prelude.{◌≡◌, suc, ◌<◌, length, Some};
-ghost use Rattle.uc_model.specs.Limits.{IsLawfulInstance};
-ghost use Rattle.uc_model.specs.Schedule.{thermal_count, thermal_unit};
+ghost use Rattle.uc_model.specs.Prelude.{IsLawfulInstance, thermal_count, thermal_unit};
 ghost use Rattle.dispatch_repair.specs.Rooms.{ArePowerless, AreRowsOf};
 ghost use Rattle.dispatch_repair.specs.inside.Broken.{IsEarlier, IsFirstOf};
 

@@ -1,7 +1,7 @@
 //! What the dispatches of one instance share, made once.
 
 ghost use Rattle.std.specs.Prelude.{IfOk};
-ghost use Rattle.uc_model.specs.Limits.{IsLawfulInstance};
+ghost use Rattle.uc_model.specs.Prelude.{IsLawfulInstance};
 ghost use Rattle.dispatch_repair.specs.Rooms.{IsRoomOf};
 
 use crate::merit_order::merit_order;

@@ -1,8 +1,7 @@
 //! The rows of a schedule while it is dispatched.
 
 ghost use Rattle.std.specs.Prelude.{◌≡◌, ℕ, ◌<◌, ◌≤◌, ◌-ℤ◌, All, IfOk, length, map, slice_set, take};
-ghost use Rattle.uc_model.specs.Schedule.{renewable_count, reserve_at, thermal_count};
-ghost use Rattle.uc_model.specs.Limits.{IsLawfulInstance, IsPower};
+ghost use Rattle.uc_model.specs.Prelude.{renewable_count, reserve_at, thermal_count, IsLawfulInstance, IsPower};
 ghost use Rattle.dispatch_repair.specs.Dispatch.{Instance, Pattern, HasPeriods};
 ghost use Rattle.dispatch_repair.specs.Rooms.{ArePowerless, AreRowsOf, AreSameBelow, IsNewCell, IsRoomOf, printed_of, rows_of};
 ghost use Rattle.dispatch_repair.specs.Amounts.{IsSizedEnd, IsSizedOutput, amount_at, thermal_amount};

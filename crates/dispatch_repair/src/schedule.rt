@@ -1,10 +1,7 @@
 //! The dispatch of a commitment.
 
 ghost use Rattle.std.specs.Prelude.{◌≡◌, ◌<◌, ◌≤◌, IfOk, IfErr, MatchOption, length};
-ghost use Rattle.uc_model.specs.Limits.{IsLawfulInstance};
-ghost use Rattle.uc_model.specs.PrintedSchedule.{HasShapeOf, printed_denominator, printed_schedule};
-ghost use Rattle.uc_model.specs.Rules.{Obeys};
-ghost use Rattle.uc_model.specs.Schedule.{thermal_count};
+ghost use Rattle.uc_model.specs.Prelude.{IsLawfulInstance, HasShapeOf, printed_denominator, printed_schedule, Obeys, thermal_count};
 ghost use Rattle.schedule_check.specs.PlainNumbers.{HasPlainNumbers};
 ghost use Rattle.dispatch_repair.specs.Rooms.{AreRowsOf, IsObstacleOf, IsRoomOf, IsStuckAfter, printed_of};
 ghost use Rattle.dispatch_repair.specs.Stuck.{IsDispatchFault, IsDispatchOf, IsRegular};

@@ -2,7 +2,7 @@
 
 ghost use Rattle.std.specs.Prelude.{◌≡◌, ◌*◌, ◌≤◌, ◌==◌, ◌&&◌, ◌+ℤ◌, ◌-ℤ◌, nat_lt, pos, unsigned_abs, if◌then◌else◌};
 ghost use Rattle.std.specs.Int.{int_max};
-ghost use Rattle.uc_model.specs.Limits.{IsPower};
+ghost use Rattle.uc_model.specs.Prelude.{IsPower};
 ghost use Rattle.dispatch_repair.specs.Period.{Period, demand_of, need_of};
 ghost use Rattle.dispatch_repair.specs.Shortage.{reserve_room as reserve_room_of, unmet as unmet_of};
 ghost use Rattle.dispatch_repair.specs.Totals.{AreSizedTotals, AreTotalsOf, IsSizedMissing, IsSizedTotal, IsSizedUnmet};

@@ -1,9 +1,7 @@
 //! The sums over a period's sources.
 
 ghost use Rattle.std.specs.Prelude.{◌≡◌, ℕ, ℤ, ◌<◌, ◌≤◌, ◌+ℤ◌, ◌*ℤ◌, length};
-ghost use Rattle.uc_model.specs.Limits.{IsLawfulInstance, IsLawfulThermal};
-ghost use Rattle.uc_model.specs.Sums.{bit, sum_below};
-ghost use Rattle.uc_model.specs.Schedule.{thermal_count, thermal_unit};
+ghost use Rattle.uc_model.specs.Prelude.{IsLawfulInstance, IsLawfulThermal, bit, sum_below, thermal_count, thermal_unit};
 ghost use Rattle.dispatch_repair.specs.Dispatch.{period_after};
 ghost use Rattle.dispatch_repair.specs.Period.{commitment_at};
 ghost use Rattle.dispatch_repair.specs.Amounts.{AreHeadsOf, AreRangesOf, AreSizedHeads, AreSizedRanges, IsSizedEnd, IsSizedRange, amount_at, range_at};

@@ -3,10 +3,8 @@
 -- Cite by `use Rattle.dispatch_rules.proofs.Bests.{node_covers_dispatch}`.
 use Rattle.std.proofs.Common.{◌≡◌, ℕ, ◌<◌, ◌==◌, nat_lt, Bool, true, false, ◌&&◌, ⊎_elim, refl, sym, ap, ◌∙◌, arith, length, ℤ, pos, ◌+ℤ◌, ◌*ℤ◌, neg_ℤ, ◌≤ℤ◌, IsTrue}
 use Rattle.std.proofs.lemmas.Bool.{cases_Bool, cond_both, eq-eqb, ne_eqb, and_parts, ltb-true, ltb-false}
-use Rattle.uc_model.specs.Sums.{sum_below}
-use Rattle.uc_model.specs.Schedule.{thermal_unit, thermal_count}
-use Rattle.uc_model.proofs.Ring.{linear, mul-zero, mul-one, mul-sub, mul-neg, mul-le-mul_left}
-use Rattle.uc_model.proofs.Sums.{sum_below-same, sum_below-zero, sum_below-single, sum_below-add, sum_below-le, term-le-sum_below}
+use Rattle.uc_model.specs.Prelude.{sum_below, thermal_unit, thermal_count}
+use Rattle.uc_model.proofs.Common.{linear, mul-zero, mul-one, mul-sub, mul-neg, mul-le-mul_left, sum_below-same, sum_below-zero, sum_below-single, sum_below-add, sum_below-le, term-le-sum_below}
 use Rattle.pivot_run.specs.Rows.{entry}
 use Rattle.dispatch_program.specs.Programs.{place, CostValue, RightSide}
 use Rattle.dispatch_program.specs.ProgramValues.{AreValues}

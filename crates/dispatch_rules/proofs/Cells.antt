@@ -3,12 +3,11 @@
 use Rattle.std.proofs.Common.{◌≡◌, ℕ, zero, suc, ◌-◌, ◌<◌, ◌≤◌, ⊎_elim, sym, ap, ◌∙◌, arith, List, length, ℤ, pos, ◌+ℤ◌, ◌-ℤ◌, ◌*ℤ◌, neg_ℤ, ◌≤ℤ◌, ◌<ℤ◌}
 use Rattle.std.proofs.lemmas.Int.{by_lt_z}
 use Rattle.std.proofs.lemmas.Bool.{cases_lt}
-use Rattle.uc_model.specs.Sums.{sum_below}
-use Rattle.uc_model.specs.Points.{point_of, output_of}
-use Rattle.uc_model.proofs.Ring.{linear, spread, mul_comm, mul_assoc, mul_nonneg, mul-zero, mul-le-mul_left, le_from_mul, mul_left_comm, mul-add}
+use Rattle.uc_model.specs.Prelude.{sum_below, point_of, output_of}
+use Rattle.uc_model.proofs.Common.{linear, spread, mul_comm, mul_assoc, mul_nonneg, mul-zero, mul-le-mul_left, le_from_mul, mul_left_comm, mul-add}
 use Rattle.cost_curves.specs.LowerHull.{Point, IsLowerHull}
 use Rattle.cost_curves.proofs.HullValues.{starts}
-use Rattle.dual_model.specs.Term.{IsCellBound}
+use Rattle.dual_model.specs.Prelude.{IsCellBound}
 use Rattle.dual_model.proofs.Terms.{cell_bound-corners}
 use Rattle.dispatch_rules.specs.Cells.{IsPricedCell, cell_bound, width_at, rise_at, segments}
 

@@ -3,10 +3,8 @@
 use Rattle.std.proofs.Common.{◌≡◌, ℕ, zero, suc, ◌+◌, ◌<◌, ◌≤◌, true, ◌&&◌, ⊎_elim, refl, sym, ap, ◌∙◌, arith, List, [], ◌∷◌, ◌++◌, length, slice_index_or, ℤ, pos, ◌+ℤ◌, ◌≤ℤ◌}
 use Rattle.std.proofs.lemmas.Bool.{cases_lt, cond-true, cond_both, eq-eqb}
 use Rattle.std.proofs.lemmas.List.{length-append, get_or_append_left, get_or-append-add}
-use Rattle.uc_model.specs.Sums.{sum_below}
-use Rattle.uc_model.specs.Rules.{Demand, rule_units}
-use Rattle.uc_model.proofs.Ring.{linear, pos_nonneg}
-use Rattle.uc_model.proofs.Sums.{sum_below-same, sum_below-split, sum_below-single, term-le-sum_below}
+use Rattle.uc_model.specs.Prelude.{sum_below, Demand, rule_units}
+use Rattle.uc_model.proofs.Common.{linear, pos_nonneg, sum_below-same, sum_below-split, sum_below-single, term-le-sum_below}
 use Rattle.dispatch_rules.specs.Dispatch.{Task, Limit, limit, is_same, listed, copies, limits_of, limits, limit_at, rule_from, over_cells, over_limits, times_of, LimitsAreOnce}
 use Rattle.dispatch_rules.proofs.Multipliers.{same-equal, is_same-refl, where_same, IsListed, limit_at-listed, at_listed}
 

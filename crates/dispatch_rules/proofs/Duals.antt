@@ -3,12 +3,9 @@
 use Rattle.std.proofs.Common.{◌≡◌, ℕ, suc, ◌<◌, nat_lt, false, not, refl, sym, ap, subst, ◌∙◌, arith, List, [], ◌∷◌, ◌++◌, ℤ, pos, ◌+ℤ◌, ◌*ℤ◌, neg_ℤ, ◌≤ℤ◌, IsTrue}
 use Rattle.std.specs.Int.{int_min}
 use Rattle.std.proofs.lemmas.Bool.{cond-true, cond-false, cond_both}
-use Rattle.uc_model.specs.Rules.{rule_number, Production, StartCap, StopCap, RampUp, RampDown, Demand, Reserve}
-use Rattle.uc_model.specs.Commitment.{start_cap, stop_cap, cap}
-use Rattle.uc_model.specs.Schedule.{thermal_unit, thermal_count}
-use Rattle.uc_model.proofs.Ring.{linear, mul-one, mul-neg, mul_assoc, mul_nonneg, mul-zero, zero-mul, add-mul, mul-le-mul_left}
-use Rattle.uc_model.proofs.Tests.{int_min_left, int_min_right}
-use Rattle.dual_model.specs.Term.{IsCellBound}
+use Rattle.uc_model.specs.Prelude.{rule_number, Production, StartCap, StopCap, RampUp, RampDown, Demand, Reserve, start_cap, stop_cap, cap, thermal_unit, thermal_count}
+use Rattle.uc_model.proofs.Common.{linear, mul-one, mul-neg, mul_assoc, mul_nonneg, mul-zero, zero-mul, add-mul, mul-le-mul_left, int_min_left, int_min_right}
+use Rattle.dual_model.specs.Prelude.{IsCellBound}
 use Rattle.pivot_run.specs.Rows.{entry}
 use Rattle.dispatch_program.specs.Programs.{RightSide, place, multiplier, start_rows}
 use Rattle.dispatch_program.specs.LastRows.{IsLastRow}

@@ -2,7 +2,7 @@
 -- Cite by `use Rattle.dispatch_rules.proofs.Going.{costs_go_on}`.
 use Rattle.std.proofs.Common.{◌≡◌, ℕ, ◌<◌, ◌⊎◌, ⊎_elim, inl, inr, Option, None, Some, IsSome, refl, sym, subst, ◌∙◌, arith, ℤ, pos, ◌<ℤ◌, IsTrue}
 use Rattle.std.proofs.lemmas.Bool.{cond_both}
-use Rattle.uc_model.proofs.Ring.{linear}
+use Rattle.uc_model.proofs.Common.{linear}
 use Rattle.pivot_run.specs.Tables.{leaving}
 use Rattle.dispatch_program.specs.Programs.{Program, Column, Unknown, Slack, Artificial, SumValue, CostValue, RightSide, is_limit, has_artificial, place}
 use Rattle.dispatch_program.specs.ProgramRuns.{state_at, SumIsLeft, IsCheapest, IsStuck}

@@ -2,10 +2,8 @@
 -- Cite by `use Rattle.dispatch_rules.proofs.Multipliers.{amount}`.
 use Rattle.std.proofs.Common.{◌≡◌, ℕ, zero, suc, ◌+◌, ◌<◌, ◌==◌, Bool, true, false, ◌&&◌, refl, sym, ap, subst, ◌∙◌, arith, List, [], ◌∷◌, length, ℤ, pos, ◌+ℤ◌, ◌*ℤ◌, ◌≤ℤ◌, IsTrue, if◌then◌else◌}
 use Rattle.std.proofs.lemmas.Bool.{cond-true, cond_both, eqb-true, eq-eqb, and_parts}
-use Rattle.uc_model.specs.Sums.{sum_below}
-use Rattle.uc_model.specs.Rules.{Rule, rule_number, rule_units}
-use Rattle.uc_model.proofs.Ring.{mul-add, mul-zero, zero-mul, pos_nonneg}
-use Rattle.uc_model.proofs.Sums.{sum_below-same, sum_below-add, sum_below-zero, sum_below-single, sum_below-mul_right, sum_below-swap, sum_below_nonneg}
+use Rattle.uc_model.specs.Prelude.{sum_below, Rule, rule_number, rule_units}
+use Rattle.uc_model.proofs.Common.{mul-add, mul-zero, zero-mul, pos_nonneg, sum_below-same, sum_below-add, sum_below-zero, sum_below-single, sum_below-mul_right, sum_below-swap, sum_below_nonneg}
 use Rattle.dispatch_rules.specs.Dispatch.{Task, Limit, limit, is_same, Part, times_in, right_of, is_demand, copies, limits_of, limits, limit_at, rule_from, over_cells, over_limits, times_of}
 use Rattle.dispatch_rules.proofs.Listed.{Each, each_one, each_listed}
 

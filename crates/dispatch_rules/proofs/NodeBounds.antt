@@ -4,21 +4,12 @@ use Rattle.std.proofs.Common.{◌≡◌, ℕ, suc, ◌<◌, ◌≤◌, nat_lt, B
 use Rattle.std.specs.Int.{int_min, int_max}
 use Rattle.std.proofs.lemmas.Int.{ints}
 use Rattle.std.proofs.lemmas.Bool.{cases_Bool, cond-true, cond-false, cond_both, cases_lt}
-use Rattle.uc_model.specs.Sums.{sum_below}
-use Rattle.uc_model.specs.Rules.{Demand, Reserve, RenewableRange, ShedRange, ShortRange, RampUp, RampDown}
-use Rattle.uc_model.specs.Commitment.{starts, cap, initial_p}
-use Rattle.uc_model.specs.StartCategory.{last_stop, sigma}
-use Rattle.uc_model.specs.Schedule.{thermal_unit, thermal_count, renewable_count, renewable_maximum, most_shed, most_short, demand_at, reserve_at}
-use Rattle.uc_model.specs.Limits.{IsLawfulInstance}
-use Rattle.uc_model.proofs.Ring.{linear, mul-one, mul-neg, neg-mul, mul_assoc, mul_comm, mul-zero, mul-sub, mul-le-mul_right, mul_nonneg}
-use Rattle.uc_model.proofs.Sums.{sum_below-same, sum_below-le, sum_below-add}
-use Rattle.dual_model.specs.Term.{IsCellBound, IsTerm, IsTermAt}
+use Rattle.uc_model.specs.Prelude.{sum_below, Demand, Reserve, RenewableRange, ShedRange, ShortRange, RampUp, RampDown, starts, cap, initial_p, last_stop, sigma, thermal_unit, thermal_count, renewable_count, renewable_maximum, most_shed, most_short, demand_at, reserve_at, IsLawfulInstance}
+use Rattle.uc_model.proofs.Common.{linear, mul-one, mul-neg, neg-mul, mul_assoc, mul_comm, mul-zero, mul-sub, mul-le-mul_right, mul_nonneg, sum_below-same, sum_below-le, sum_below-add}
+use Rattle.dual_model.specs.Prelude.{IsCellBound, IsTerm, IsTermAt, pi_at, mu_at, up_at, down_at, period_value, IsUnitValue, shortage_value, needs_value, renewable_value, constant_at, unit_part, IsNodeValue}
 use Rattle.dual_model.specs.Term as term
 use Rattle.dual_model.specs.declared.table.Table.{Table}
 use Rattle.dual_model.specs.declared.node.Node.{Node}
-use Rattle.dual_model.specs.Prices.{pi_at, mu_at, up_at, down_at}
-use Rattle.dual_model.specs.UnitValue.{period_value, IsUnitValue}
-use Rattle.dual_model.specs.NodeValue.{shortage_value, needs_value, renewable_value, constant_at, unit_part, IsNodeValue}
 use Rattle.dual_model.proofs.Locality.{SameBelow, starts-same, cap-same, sigma-same}
 use Rattle.dual_model.proofs.Multipliers.{up_at_past, down_at_past}
 use Rattle.pivot_run.specs.Rows.{entry}

@@ -2,12 +2,8 @@
 -- Cite by `use Rattle.dispatch_rules.proofs.Primals.{values_dispatch_is}`.
 use Rattle.std.proofs.Common.{◌≡◌, ◌≢◌, ℕ, zero, suc, ◌<◌, ◌==◌, nat_lt, Bool, true, false, ◌&&◌, ⊎_elim, refl, sym, ap, subst, ◌∙◌, arith, List, [], ◌∷◌, length, ℤ, pos, ◌+ℤ◌, ◌-ℤ◌, ◌*ℤ◌, neg_ℤ, ◌≤ℤ◌, IsTrue, if◌then◌else◌}
 use Rattle.std.proofs.lemmas.Bool.{cond-true, cond_both, cases_eq, eq-eqb, ne_eqb, eqb-true, and_parts, true≢false, lt-ltb}
-use Rattle.uc_model.specs.Sums.{sum_below, bit}
-use Rattle.uc_model.specs.Rules.{Production, StartCap, StopCap, RampUp, RampDown, RenewableRange, Demand, Reserve, ShedRange, ShortRange, rule_units}
-use Rattle.uc_model.specs.Commitment.{start_cap, stop_cap}
-use Rattle.uc_model.specs.Schedule.{thermal_unit, thermal_count, renewable_count, renewable_maximum, demand_at, reserve_at}
-use Rattle.uc_model.proofs.Ring.{linear, mul-zero, zero-mul, mul-add, add-mul, sub-mul, mul-sub, mul-neg, mul_nonneg, mul_assoc}
-use Rattle.uc_model.proofs.Sums.{sum_below-same, sum_below-zero, sum_below-single, sum_below-add, sum_below-sub, sum_below_nonneg, sum_below-mul_left, sum_below-mul_right, sum_below-swap}
+use Rattle.uc_model.specs.Prelude.{sum_below, bit, Production, StartCap, StopCap, RampUp, RampDown, RenewableRange, Demand, Reserve, ShedRange, ShortRange, rule_units, start_cap, stop_cap, thermal_unit, thermal_count, renewable_count, renewable_maximum, demand_at, reserve_at}
+use Rattle.uc_model.proofs.Common.{linear, mul-zero, zero-mul, mul-add, add-mul, sub-mul, mul-sub, mul-neg, mul_nonneg, mul_assoc, sum_below-same, sum_below-zero, sum_below-single, sum_below-add, sum_below-sub, sum_below_nonneg, sum_below-mul_left, sum_below-mul_right, sum_below-swap}
 use Rattle.dispatch_program.specs.ProgramValues.{AreValues}
 use Rattle.dispatch_program.proofs.LineSums.{limit_holds, equality_holds, cost_is}
 use Rattle.dispatch_rules.specs.Cells.{segments, width_at}

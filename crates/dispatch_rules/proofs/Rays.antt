@@ -3,12 +3,8 @@
 use Rattle.std.proofs.Common.{◌≡◌, ℕ, ◌<◌, ◌==◌, nat_lt, Bool, true, false, not, ◌||◌, ◌&&◌, refl, sym, ap, ◌∙◌, arith, length, ℤ, pos, ◌+ℤ◌, ◌*ℤ◌, neg_ℤ, ◌≤ℤ◌, IsTrue, int_lt, if◌then◌else◌}
 use Rattle.std.proofs.lemmas.Int.{ints}
 use Rattle.std.proofs.lemmas.Bool.{cond-true, cond-false, eq-eqb, true≢false}
-use Rattle.uc_model.specs.Sums.{sum_below}
-use Rattle.uc_model.specs.Rules.{ShedRange, ShortRange, Production, rule_units}
-use Rattle.uc_model.specs.Schedule.{demand_at, reserve_at}
-use Rattle.uc_model.specs.Limits.{IsLawfulInstance}
-use Rattle.uc_model.proofs.Ring.{linear, one-mul, neg-mul, mul-zero, zero-mul, mul_nonneg}
-use Rattle.uc_model.proofs.Sums.{sum_below-same, sum_below-zero, sum_below-single, term-le-sum_below}
+use Rattle.uc_model.specs.Prelude.{sum_below, ShedRange, ShortRange, Production, rule_units, demand_at, reserve_at, IsLawfulInstance}
+use Rattle.uc_model.proofs.Common.{linear, one-mul, neg-mul, mul-zero, zero-mul, mul_nonneg, sum_below-same, sum_below-zero, sum_below-single, term-le-sum_below}
 use Rattle.dispatch_program.specs.Programs.{Program, Unknown, Slack, Artificial, RightSide, sign, one_at, is_limit, is_negated, has_artificial, rule_number, place}
 use Rattle.dispatch_program.specs.ProgramValues.{IsRay}
 use Rattle.dispatch_program.proofs.Combined.{one_at-same, one_at-other}

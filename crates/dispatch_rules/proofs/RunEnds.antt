@@ -2,11 +2,9 @@
 -- Cite by `use Rattle.dispatch_rules.proofs.RunEnds.{runs_give_rays, runs_give_dispatches}`.
 use Rattle.std.proofs.Common.{◌≡◌, ◌+◌, refl, sym, ap, ◌∙◌, arith, List, ℤ, pos, ◌*ℤ◌}
 use Rattle.std.proofs.lemmas.Bool.{cond_both}
-use Rattle.uc_model.specs.Points.{point_of}
-use Rattle.uc_model.specs.Schedule.{thermal_unit, thermal_count}
-use Rattle.uc_model.proofs.Ring.{linear, zero-mul}
-use Rattle.uc_model.proofs.Sums.{sum_below-zero}
-use Rattle.dual_model.specs.LeastStarts.{least_start_cost}
+use Rattle.uc_model.specs.Prelude.{point_of, thermal_unit, thermal_count}
+use Rattle.uc_model.proofs.Common.{linear, zero-mul, sum_below-zero}
+use Rattle.dual_model.specs.Prelude.{least_start_cost}
 use Rattle.pivot_run.specs.Pivots.{row_at}
 use Rattle.pivot_run.specs.Tables.{number}
 use Rattle.dispatch_program.specs.Programs.{CostValue, place}

@@ -2,10 +2,8 @@
 -- Cite by `use Rattle.dispatch_rules.proofs.SegmentCosts.{lengths_cost}`.
 use Rattle.std.proofs.Common.{◌≡◌, ℕ, zero, suc, ◌+◌, ◌-◌, ◌<◌, ◌≤◌, ⊎_elim, sym, ap, subst, ◌∙◌, arith, List, length, ℤ, pos, ◌+ℤ◌, ◌-ℤ◌, ◌*ℤ◌, ◌≤ℤ◌, ◌<ℤ◌}
 use Rattle.std.proofs.lemmas.Bool.{cases_lt}
-use Rattle.uc_model.specs.Sums.{sum_below}
-use Rattle.uc_model.specs.Points.{point_of, output_of}
-use Rattle.uc_model.proofs.Ring.{linear, spread, mul_comm, mul_assoc, mul_left_comm, mul_nonneg, mul-zero, mul-add, mul-sub, sub-mul, mul-le-mul_left, mul-le-mul_turned, le_from_mul, mul-lt-mul_left, le_trans}
-use Rattle.uc_model.proofs.Sums.{sum_below-same, sum_below-le, sum_below-sub, sum_below-mul_left, sum_below-split, sum_below_nonneg}
+use Rattle.uc_model.specs.Prelude.{sum_below, point_of, output_of}
+use Rattle.uc_model.proofs.Common.{linear, spread, mul_comm, mul_assoc, mul_left_comm, mul_nonneg, mul-zero, mul-add, mul-sub, sub-mul, mul-le-mul_left, mul-le-mul_turned, le_from_mul, mul-lt-mul_left, le_trans, sum_below-same, sum_below-le, sum_below-sub, sum_below-mul_left, sum_below-split, sum_below_nonneg}
 use Rattle.cost_curves.specs.LowerHull.{Point, IsLowerHull, IsAbove}
 use Rattle.dispatch_rules.specs.Cells.{width_at, rise_at, segments}
 

@@ -2,13 +2,8 @@
 -- Cite by `use Rattle.dispatch_rules.proofs.Totals.{total_whole}`.
 use Rattle.std.proofs.Common.{◌≡◌, ◌≢◌, ℕ, zero, suc, ◌<◌, nat_lt, Bool, true, false, not, ◌&&◌, ⊎_elim, refl, sym, ap, ◌∙◌, arith, List, ℤ, pos, ◌+ℤ◌, ◌-ℤ◌, ◌*ℤ◌, neg_ℤ, IsTrue}
 use Rattle.std.proofs.lemmas.Bool.{cases_Bool, cond-true, cond-false, true≢false}
-use Rattle.uc_model.specs.Sums.{sum_below, bit}
-use Rattle.uc_model.specs.Points.{point_of}
-use Rattle.uc_model.specs.Rules.{Rule, Production, StartCap, StopCap, RampUp, RampDown, RenewableRange, Demand, Reserve, ShedRange, ShortRange}
-use Rattle.uc_model.specs.Commitment.{start_cap, stop_cap, start_reduction, stop_reduction, initial_p, was_on}
-use Rattle.uc_model.specs.Schedule.{thermal_unit, thermal_count, renewable_count, demand_at, reserve_at}
-use Rattle.uc_model.proofs.Ring.{linear, mul-one, mul-neg, neg-mul, mul-zero, zero-mul, mul-add, mul-sub, sub-mul}
-use Rattle.uc_model.proofs.Sums.{sum_below-same, sum_below-add, sum_below-sub, sum_below-neg, sum_below-single, sum_below-mul_left, sum_below-swap}
+use Rattle.uc_model.specs.Prelude.{sum_below, bit, point_of, Rule, Production, StartCap, StopCap, RampUp, RampDown, RenewableRange, Demand, Reserve, ShedRange, ShortRange, start_cap, stop_cap, start_reduction, stop_reduction, initial_p, was_on, thermal_unit, thermal_count, renewable_count, demand_at, reserve_at}
+use Rattle.uc_model.proofs.Common.{linear, mul-one, mul-neg, neg-mul, mul-zero, zero-mul, mul-add, mul-sub, sub-mul, sum_below-same, sum_below-add, sum_below-sub, sum_below-neg, sum_below-single, sum_below-mul_left, sum_below-swap}
 use Rattle.pivot_run.specs.Rows.{entry}
 use Rattle.dispatch_program.specs.Programs.{RightSide, place}
 use Rattle.dispatch_program.specs.LastRows.{IsLastRow}

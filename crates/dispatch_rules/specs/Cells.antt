@@ -1,8 +1,7 @@
 -- What the multipliers of a cell's limits make of it, on the lower hull of its unit's points.
 -- Source: duality of linear programs (G. B. Dantzig, "Linear Programming and Extensions", 1963).
 use Rattle.std.specs.Prelude.{◌≡◌, ℕ, suc, ◌-◌, ◌<◌, List, ℤ, pos, ◌+ℤ◌, ◌-ℤ◌, ◌*ℤ◌, ◌≤ℤ◌, length}
-use Rattle.uc_model.specs.Sums.{sum_below}
-use Rattle.uc_model.specs.Points.{point_of}
+use Rattle.uc_model.specs.Prelude.{sum_below, point_of}
 use Rattle.cost_curves.specs.LowerHull.{Point}
 
 -- segment i of the hull, from corner i to the next: how wide it is, and how far it rises

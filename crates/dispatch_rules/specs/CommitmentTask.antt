@@ -2,10 +2,8 @@
 -- are whole, the least common multiple of the denominators of the amounts' costs, taken amount by amount.
 -- Source: the exact dispatch as a linear program of whole numbers; this project's own form.
 use Rattle.std.specs.Prelude.{◌≡◌, ℕ, zero, suc, ◌<◌, ◌⊎◌, List, length, slice_index_or, ℤ, pos, int_div, IsTrue}
-use Rattle.uc_model.specs.Commitment.{Commitment, is_allowed}
-use Rattle.uc_model.specs.PatternBits.{commitment_of}
+use Rattle.uc_model.specs.Prelude.{Commitment, is_allowed, commitment_of, thermal_unit, thermal_count}
 pub use Rattle.uc_model.specs.declared.pattern.Pattern.{Pattern}
-use Rattle.uc_model.specs.Schedule.{thermal_unit, thermal_count}
 pub use Rattle.uc_model.specs.declared.instance.Instance.{Instance}
 use Rattle.cost_curves.specs.LowerHull.{IsLowerHull}
 use Rattle.fractions.specs.Fractions.{lowest, joined, JoinForms}

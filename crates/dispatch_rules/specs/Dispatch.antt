@@ -3,10 +3,7 @@
 -- bits given, the production cost as segments of the lower hull.
 use Rattle.std.specs.Prelude.{◌≡◌, ℕ, zero, suc, ◌<◌, ◌==◌, nat_lt, Bool, ◌&&◌, List, [], ◌∷◌, ◌++◌, length, slice_index_or, ℤ, pos, ◌+ℤ◌, ◌-ℤ◌, ◌*ℤ◌, neg_ℤ, int_div, if◌then◌else◌}
 use Rattle.std.specs.Int.{int_max}
-use Rattle.uc_model.specs.Sums.{sum_below, bit}
-use Rattle.uc_model.specs.Commitment.{Commitment, start_cap, stop_cap, initial_p}
-use Rattle.uc_model.specs.Rules.{Rule, Production, StartCap, StopCap, RampUp, RampDown, RenewableRange, Demand, Reserve, ShedRange, ShortRange, rule_number, rule_units}
-use Rattle.uc_model.specs.Schedule.{thermal_unit, thermal_count, renewable_count, renewable_minimum, renewable_maximum, demand_at, reserve_at, most_shed, most_short}
+use Rattle.uc_model.specs.Prelude.{sum_below, bit, Commitment, start_cap, stop_cap, initial_p, Rule, Production, StartCap, StopCap, RampUp, RampDown, RenewableRange, Demand, Reserve, ShedRange, ShortRange, rule_number, rule_units, thermal_unit, thermal_count, renewable_count, renewable_minimum, renewable_maximum, demand_at, reserve_at, most_shed, most_short}
 use Rattle.uc_model.specs.declared.instance.Instance.{Instance}
 use Rattle.cost_curves.specs.LowerHull.{Point}
 use Rattle.dispatch_program.specs.Programs.{Program}

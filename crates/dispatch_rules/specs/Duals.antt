@@ -2,19 +2,11 @@
 -- Source: duality of linear programs (G. B. Dantzig, "Linear Programming and Extensions", 1963), for the rules of the reference model by Knueven,
 -- Ostrowski and Watson.
 use Rattle.std.specs.Prelude.{◌≡◌, ℕ, suc, ◌<◌, List, length, ℤ, pos, ◌+ℤ◌, ◌-ℤ◌, ◌*ℤ◌, neg_ℤ, ◌≤ℤ◌, ◌<ℤ◌, IsTrue, if◌then◌else◌}
-use Rattle.uc_model.specs.Sums.{sum_below}
-use Rattle.uc_model.specs.Points.{point_of}
-use Rattle.uc_model.specs.Commitment.{Commitment, start_cap, stop_cap, initial_p}
-use Rattle.uc_model.specs.Limits.{IsLawfulInstance}
-use Rattle.uc_model.specs.Rules.{Production, StartCap, StopCap, RampUp, RampDown, RenewableRange, Demand, Reserve, ShedRange, ShortRange}
-use Rattle.uc_model.specs.Schedule.{thermal_unit, thermal_count, renewable_count, renewable_maximum, demand_at, reserve_at}
+use Rattle.uc_model.specs.Prelude.{sum_below, point_of, Commitment, start_cap, stop_cap, initial_p, IsLawfulInstance, Production, StartCap, StopCap, RampUp, RampDown, RenewableRange, Demand, Reserve, ShedRange, ShortRange, thermal_unit, thermal_count, renewable_count, renewable_maximum, demand_at, reserve_at}
 use Rattle.cost_curves.specs.LowerHull.{IsLowerHull}
 use Rattle.dual_model.specs.declared.table.Table.{Table}
 use Rattle.dual_model.specs.declared.node.Node.{Node}
-use Rattle.dual_model.specs.Prices.{HasSizeOf, pi_at, mu_at, up_at, down_at}
-use Rattle.dual_model.specs.Fixings.{IsPatternAt}
-use Rattle.dual_model.specs.NodeValue.{IsNodeValue}
-use Rattle.dual_model.specs.LeastStarts.{least_start_cost}
+use Rattle.dual_model.specs.Prelude.{HasSizeOf, pi_at, mu_at, up_at, down_at, IsPatternAt, IsNodeValue, least_start_cost}
 use Rattle.pivot_run.specs.Rows.{entry}
 use Rattle.dispatch_program.specs.Programs.{CostValue, RightSide, place, multiplier}
 use Rattle.dispatch_program.specs.LastRows.{IsLastRow}

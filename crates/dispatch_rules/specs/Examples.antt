@@ -4,7 +4,7 @@ use Rattle.std.specs.Prelude.{ℕ, zero, suc, ◌==◌, if◌then◌else◌, tru
 use Rattle.uc_model.specs.declared.instance.Point.{Point}
 use Rattle.uc_model.specs.declared.instance.Thermal.{Thermal}
 use Rattle.uc_model.specs.declared.instance.Instance.{Instance}
-use Rattle.uc_model.specs.Commitment.{Commitment}
+use Rattle.uc_model.specs.Prelude.{Commitment}
 use Rattle.dispatch_rules.specs.Dispatch.{Task, listed}
 
 abbrev pub point : ℕ → ℕ → Point

@@ -7,3 +7,4 @@ pub mod Prints
 pub mod Rays
 pub mod RunEnds
 pub mod Examples
+pub mod Prelude

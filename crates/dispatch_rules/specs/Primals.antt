@@ -1,14 +1,10 @@
 -- What values of the table's columns say: a dispatch of the commitment over their denominator, and its cost.
 -- Source: the rules M8 to M17 and the objective of the reference model by Knueven, Ostrowski and Watson.
 use Rattle.std.specs.Prelude.{◌≡◌, ℕ, zero, suc, ◌<◌, ◌==◌, nat_lt, Bool, false, ◌&&◌, List, length, ℤ, pos, ◌+ℤ◌, ◌-ℤ◌, ◌*ℤ◌, neg_ℤ, ◌≤ℤ◌, IsTrue, if◌then◌else◌}
-use Rattle.uc_model.specs.Sums.{sum_below, bit}
-use Rattle.uc_model.specs.Commitment.{start_cap, stop_cap, initial_p}
-use Rattle.uc_model.specs.Schedule.{thermal_unit, thermal_count, renewable_count, renewable_maximum, demand_at, reserve_at, most_shed, most_short}
-use Rattle.uc_model.specs.Points.{point_of, output_of}
-use Rattle.uc_model.specs.Limits.{IsLawfulInstance}
+use Rattle.uc_model.specs.Prelude.{sum_below, bit, start_cap, stop_cap, initial_p, thermal_unit, thermal_count, renewable_count, renewable_maximum, demand_at, reserve_at, most_shed, most_short, point_of, output_of, IsLawfulInstance}
 use Rattle.dual_model.specs.declared.table.Table.{Table}
 use Rattle.dual_model.specs.declared.node.Node.{Node}
-use Rattle.dual_model.specs.NodeValue.{IsNodeValue}
+use Rattle.dual_model.specs.Prelude.{IsNodeValue}
 use Rattle.pivot_run.specs.Rows.{entry}
 use Rattle.dispatch_program.specs.LastRows.{IsLastRow}
 use Rattle.dispatch_program.specs.ProgramValues.{AreValues}

@@ -1,8 +1,7 @@
 -- The schedule that a commitment's dispatch is printed as, in whole numerators over a denominator of its own.
 -- Source: the variables of the reference model by Knueven, Ostrowski and Watson.
 use Rattle.std.specs.Prelude.{◌≡◌, ℕ, ◌<◌, [], slice_index_or, ℤ, pos, ◌+ℤ◌, ◌*ℤ◌}
-use Rattle.uc_model.specs.Schedule.{thermal_unit, thermal_count, renewable_count}
-use Rattle.uc_model.specs.PrintedSchedule.{HasShapeOf, cell_at, shed_at, short_at}
+use Rattle.uc_model.specs.Prelude.{thermal_unit, thermal_count, renewable_count, HasShapeOf, cell_at, shed_at, short_at}
 pub use Rattle.uc_model.specs.declared.schedule.Printed.{Printed}
 use Rattle.start_costs.specs.Cheapest.{HasLeastCategory}
 use Rattle.dispatch_rules.specs.Dispatch.{Task, low_at}

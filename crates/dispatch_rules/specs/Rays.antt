@@ -1,9 +1,7 @@
 -- A commitment's table has no rays, so a row leaves wherever a column enters by the cost's row.
 -- Source: the rays of a linear program (G. B. Dantzig, "Linear Programming and Extensions", 1963).
 use Rattle.std.specs.Prelude.{◌≡◌, ℕ, ◌<◌, ◌⊎◌, ℤ, pos, ◌≤ℤ◌, IsSome, None, IsTrue, if◌then◌else◌}
-use Rattle.uc_model.specs.Commitment.{start_cap}
-use Rattle.uc_model.specs.Schedule.{thermal_unit, thermal_count}
-use Rattle.uc_model.specs.Limits.{IsLawfulInstance}
+use Rattle.uc_model.specs.Prelude.{start_cap, thermal_unit, thermal_count, IsLawfulInstance}
 use Rattle.pivot_run.specs.Tables.{Table, leaving}
 use Rattle.pivot_run.specs.Stages.{plan_at}
 use Rattle.dispatch_program.specs.Programs.{Unknown, Slack, Artificial, is_limit, has_artificial, place, free_columns}

@@ -1,10 +1,10 @@
 -- What the end of a run on a commitment's table gives: a ray that excludes the commitment, or a dispatch whose cost the value of its node covers.
 -- Source: the two phases of the simplex method and duality (G. B. Dantzig, "Linear Programming and Extensions", 1963).
 use Rattle.std.specs.Prelude.{◌≡◌, ℕ, ◌+◌, ℤ, pos, ◌+ℤ◌, ◌*ℤ◌, ◌≤ℤ◌, ◌<ℤ◌}
-use Rattle.uc_model.specs.Limits.{IsLawfulInstance}
+use Rattle.uc_model.specs.Prelude.{IsLawfulInstance}
 use Rattle.dual_model.specs.declared.table.Table.{Table}
 use Rattle.dual_model.specs.declared.node.Node.{Node}
-use Rattle.dual_model.specs.NodeValue.{IsNodeValue}
+use Rattle.dual_model.specs.Prelude.{IsNodeValue}
 use Rattle.pivot_run.specs.Pivots.{row_at}
 use Rattle.pivot_run.specs.Tables as pivots
 use Rattle.dispatch_program.specs.LastTables.{IsReached, AreShares, basis_values}

@@ -3,11 +3,10 @@
 use Rattle.std.proofs.Common.{◌≡◌, ◌≢◌, ℕ, zero, suc, ◌+◌, ◌-◌, ◌<◌, ◌≤◌, nat_lt, Bool, ⊎_elim, refl, sym, ap, subst, ◌∙◌, arith, List, [], ◌∷◌, ◌++◌, length, slice_index_or}
 use Rattle.std.proofs.lemmas.Bool.{cases_lt, cond_both}
 use Rattle.std.proofs.lemmas.List.{length-append, get_or_append_left, get_or-append-add}
-use Rattle.uc_model.specs.Schedule.{thermal_count, renewable_count}
+use Rattle.uc_model.specs.Prelude.{thermal_count, renewable_count}
 use Rattle.dispatch_rules.specs.declared.amount.Amount.{Amount}
 use Rattle.dispatch_rules.specs.declared.amount.Amount.TheVariants.{Length, Held, Given, Shed, Short}
-use Rattle.dispatch_rules.specs.Cells.{segments}
-use Rattle.dispatch_rules.specs.Dispatch.{Task, amounts, amounts_in, listed, unit_amounts, where_true}
+use Rattle.dispatch_rules.specs.Prelude.{segments, Task, amounts, amounts_in, listed, unit_amounts, where_true}
 use Rattle.dispatch_rules.proofs.Listed.{Each, each_none, each_one, each_append, each_listed}
 
 module _ {A : Type 0} (d : A) where

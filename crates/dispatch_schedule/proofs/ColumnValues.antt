@@ -6,8 +6,7 @@ use Rattle.std.specs.Int.{◌∣◌}
 use Rattle.std.proofs.lemmas.Bool.{cases_eq, cond-true, cond-false, eq-eqb, ne_eqb}
 use Rattle.std.proofs.lemmas.Nat.Gcd.{dvd_trans}
 use Rattle.std.proofs.Math.Nat.{eq-one_of_dvd-one}
-use Rattle.uc_model.proofs.Ring.{linear, mul_comm, mul_assoc, mul-neg, zero-mul}
-use Rattle.uc_model.proofs.Sums.{below_or_last}
+use Rattle.uc_model.proofs.Common.{linear, mul_comm, mul_assoc, mul-neg, zero-mul, below_or_last}
 use Rattle.fractions.specs.declared.fraction.Fraction.{Fraction}
 use Rattle.fractions.specs.Fractions.{IsLowest}
 use Rattle.fractions.proofs.Divided.{fractions_are_lowest, joined_are_least}

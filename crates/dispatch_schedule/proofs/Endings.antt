@@ -6,17 +6,12 @@ use Rattle.std.proofs.lemmas.Bool.{cases_lt}
 use Rattle.std.proofs.lemmas.Int.{ints, by_lt_z}
 use Rattle.std.proofs.lemmas.List.Elements.{All-from_get_or}
 use Rattle.std.proofs.Math.ListN.{get_or-eq_default}
-use Rattle.uc_model.specs.Sums.{sum_below}
+use Rattle.uc_model.specs.Prelude.{sum_below, Commitment, IsLawfulInstance, HasShapeOf, cell_at, thermal_unit, thermal_count, renewable_count, renewable_minimum}
 use Rattle.uc_model.specs.declared.instance.Instance.{Instance}
 use Rattle.uc_model.specs.declared.limits.TheConstants.{MAX_POWER}
 use Rattle.uc_model.specs.declared.pattern.Pattern.{Pattern}
 use Rattle.uc_model.specs.declared.schedule.Printed.{Printed}
-use Rattle.uc_model.specs.Commitment.{Commitment}
-use Rattle.uc_model.specs.Limits.{IsLawfulInstance}
-use Rattle.uc_model.specs.PrintedSchedule.{HasShapeOf, cell_at}
-use Rattle.uc_model.specs.Schedule.{thermal_unit, thermal_count, renewable_count, renewable_minimum}
-use Rattle.uc_model.proofs.Ring.{linear, mul_comm, mul-add, mul_left_comm, mul_nonneg, mul-zero, zero-mul, mul-le-mul_right, le_from_mul, pos_nonneg}
-use Rattle.uc_model.proofs.Sums.{sum_below-same}
+use Rattle.uc_model.proofs.Common.{linear, mul_comm, mul-add, mul_left_comm, mul_nonneg, mul-zero, zero-mul, mul-le-mul_right, le_from_mul, pos_nonneg, sum_below-same}
 use Rattle.schedule_check.specs.SizedNumbers.{HasSizedNumbers, IsSized, IsSizedCell, output_at}
 use Rattle.start_costs.specs.Cheapest.{HasLeastCategory}
 use Rattle.fractions.specs.declared.fraction.Fraction.{Fraction}
@@ -28,9 +23,7 @@ use Rattle.dispatch_program.specs.ProgramValues.{AreValues}
 use Rattle.dispatch_program.proofs.BasicValues.{shares_exist}
 use Rattle.dispatch_rules.specs.declared.amount.Amount.{Amount}
 use Rattle.dispatch_rules.specs.declared.amount.Amount.TheVariants.{Shed}
-use Rattle.dispatch_rules.specs.Dispatch.{Task, amounts, amount_at, low_at, program}
-use Rattle.dispatch_rules.specs.Primals.{sum_of, given_in}
-use Rattle.dispatch_rules.specs.Prints.{Prints}
+use Rattle.dispatch_rules.specs.Prelude.{Task, amounts, amount_at, low_at, program, sum_of, given_in, Prints}
 use Rattle.dispatch_rules.proofs.NodeBounds.{max_nonneg}
 use Rattle.dispatch_schedule.specs.ColumnValues.{column_value, denominator_to, schedule_denominator, DenominatorForms}
 use Rattle.dispatch_schedule.specs.ShownSchedules.{IsCheapestEnd}

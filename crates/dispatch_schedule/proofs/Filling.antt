@@ -3,11 +3,8 @@
 use Rattle.std.proofs.Common.{◌≡◌, ◌≢◌, ℕ, zero, suc, ◌+◌, ◌<◌, ◌≤◌, ◌==◌, ◌⊎◌, Bool, true, false, not, ◌&&◌, ⊎_elim, inl, inr, refl, sym, ap, subst, ◌∙◌, arith, List, [], ◌∷◌, length, ℤ, pos, ◌+ℤ◌, ◌-ℤ◌, ◌*ℤ◌, neg_ℤ, ◌<ℤ◌, IsTrue}
 use Rattle.std.proofs.lemmas.Bool.{cases_lt, cond-true, cond-false, eq-eqb, eqb-true, and_parts}
 use Rattle.std.proofs.lemmas.Int.{by_lt_z}
-use Rattle.uc_model.specs.Rules.{Production, StartCap, StopCap, RampUp, RampDown, Demand}
-use Rattle.uc_model.specs.Points.{point_of}
-use Rattle.uc_model.specs.Schedule.{thermal_unit, thermal_count}
-use Rattle.uc_model.proofs.Ring.{linear, spread, mul_comm, mul_assoc, mul-zero, zero-mul, mul-one, one-mul, mul-lt-mul_left, mul-le-mul_left}
-use Rattle.uc_model.proofs.Sums.{sum_below-same, sum_below-single}
+use Rattle.uc_model.specs.Prelude.{Production, StartCap, StopCap, RampUp, RampDown, Demand, point_of, thermal_unit, thermal_count, IsLawfulInstance}
+use Rattle.uc_model.proofs.Common.{linear, spread, mul_comm, mul_assoc, mul-zero, zero-mul, mul-one, one-mul, mul-lt-mul_left, mul-le-mul_left, sum_below-same, sum_below-single}
 use Rattle.cost_curves.specs.LowerHull.{Point, IsLowerHull}
 use Rattle.pivot_run.specs.Pivots.{row_at}
 use Rattle.pivot_run.specs.Tables.{Table, basic, number}
@@ -22,16 +19,12 @@ use Rattle.dispatch_program.proofs.LineSums.{rule_is}
 use Rattle.dispatch_program.proofs.Starts.{counted-le, start_is}
 use Rattle.dispatch_rules.specs.declared.amount.Amount.{Amount}
 use Rattle.dispatch_rules.specs.declared.amount.Amount.TheVariants.{Length, Held, Given, Shed, Short}
-use Rattle.dispatch_rules.specs.Cells.{segments, width_at, rise_at}
-use Rattle.dispatch_rules.specs.Dispatch.{Task, Limit, Part, limit, part, parts, times_in, is_demand, copies, limits, limit_at, right_of, amounts, amount_at, amounts_in, unit_amounts, listed, cost_of, program}
-use Rattle.dispatch_rules.specs.Duals.{IsTask, times_at, cost_times}
-use Rattle.dispatch_rules.specs.Primals.{sum_of, one_if, length_in, held_in, given_in, shed_in, short_in}
+use Rattle.dispatch_rules.specs.Prelude.{segments, width_at, rise_at, Task, Limit, Part, limit, part, parts, times_in, is_demand, copies, limits, limit_at, right_of, amounts, amount_at, amounts_in, unit_amounts, listed, cost_of, program, IsTask, times_at, cost_times, sum_of, one_if, length_in, held_in, given_in, shed_in, short_in}
 use Rattle.dispatch_rules.proofs.Distinct.{limits_are_once}
 use Rattle.dispatch_rules.proofs.Duals.{m_nonneg}
 use Rattle.dispatch_rules.proofs.Listed.{StandsIn, stands_alone, stands_left, stands_listed}
 use Rattle.dispatch_rules.proofs.Multipliers.{priced, amount}
 use Rattle.dispatch_rules.proofs.Primals.{limit_stands, in_production}
-use Rattle.uc_model.specs.Limits.{IsLawfulInstance}
 use Rattle.dispatch_schedule.proofs.Apart.{amounts_apart}
 use Rattle.dispatch_schedule.proofs.ColumnValues.{IsOfRow, IsNothing, value_comes, value_nothing, constraints, rule_row}
 use Rattle.dispatch_schedule.proofs.Powers.{values as end_values}

@@ -5,14 +5,10 @@ use Rattle.std.specs.Int.{◌∣◌, int_max}
 use Rattle.std.proofs.lemmas.Bool.{cases_Bool, eq-eqb}
 use Rattle.std.proofs.lemmas.List.Elements.{All-get_or}
 use Rattle.std.proofs.lemmas.Int.{ints}
-use Rattle.uc_model.specs.Sums.{bit}
-use Rattle.uc_model.specs.Commitment.{Commitment, start_cap, start_reduction, starts}
-use Rattle.uc_model.specs.Limits.{IsLawfulInstance, IsLawfulThermal, IsPower}
+use Rattle.uc_model.specs.Prelude.{bit, Commitment, start_cap, start_reduction, starts, IsLawfulInstance, IsLawfulThermal, IsPower, thermal_unit, renewable_count, renewable_minimum, renewable_maximum, demand_at, reserve_at, most_shed, most_short}
 use Rattle.uc_model.specs.declared.limits.TheConstants.{MAX_POWER}
 use Rattle.uc_model.specs.declared.instance.Thermal.{Thermal}
-use Rattle.uc_model.specs.Schedule.{thermal_unit, renewable_count, renewable_minimum, renewable_maximum, demand_at, reserve_at, most_shed, most_short}
-use Rattle.uc_model.proofs.Ring.{linear, mul_comm, mul_assoc, mul_left_comm, mul_nonneg, mul-zero, mul-one, one-mul, mul-add, mul-le-mul_left, le_from_mul, le_trans}
-use Rattle.uc_model.proofs.Sums.{sum_below-same, sum_below-mul_left, sum_below_nonneg, term-le-sum_below}
+use Rattle.uc_model.proofs.Common.{linear, mul_comm, mul_assoc, mul_left_comm, mul_nonneg, mul-zero, mul-one, one-mul, mul-add, mul-le-mul_left, le_from_mul, le_trans, sum_below-same, sum_below-mul_left, sum_below_nonneg, term-le-sum_below}
 use Rattle.fractions.proofs.Divided.{times}
 use Rattle.pivot_run.specs.Tables.{Table}
 use Rattle.dispatch_program.specs.LastTables.{IsReached, AreShares, basis_values}
@@ -21,9 +17,7 @@ use Rattle.dispatch_program.specs.ProgramValues.{AreValues}
 use Rattle.dispatch_program.proofs.LastTables.{bases_give_values}
 use Rattle.dispatch_rules.specs.declared.amount.Amount.{Amount}
 use Rattle.dispatch_rules.specs.declared.amount.Amount.TheVariants.{Length, Held, Given, Shed, Short}
-use Rattle.dispatch_rules.specs.Dispatch.{Task, amounts, amount_at, low_at, program}
-use Rattle.dispatch_rules.specs.Duals.{IsTask}
-use Rattle.dispatch_rules.specs.Primals.{IsDispatch, sum_of, one_if, output_in, held_in, given_in, shed_in, short_in}
+use Rattle.dispatch_rules.specs.Prelude.{Task, amounts, amount_at, low_at, program, IsTask, IsDispatch, sum_of, one_if, output_in, held_in, given_in, shed_in, short_in}
 use Rattle.dispatch_rules.proofs.NodeBounds.{max_nonneg}
 use Rattle.dispatch_rules.proofs.Primals.{Fits, amounts-fit, values_dispatch_is}
 use Rattle.dispatch_schedule.specs.ColumnValues.{column_value}

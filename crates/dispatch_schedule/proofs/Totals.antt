@@ -2,9 +2,8 @@
 -- Cite by `use Rattle.dispatch_schedule.proofs.Totals.{part_read, sum_low, part_low, next_is, next_high}`.
 use Rattle.std.proofs.Common.{◌≡◌, ℕ, zero, suc, ◌<◌, ◌≤◌, ◌==◌, ◌&&◌, ⊎_elim, sym, ap, subst, arith, List, length, slice_index_or, ℤ, pos, ◌+ℤ◌, ◌*ℤ◌, ◌≤ℤ◌, ◌<ℤ◌}
 use Rattle.std.proofs.lemmas.List.{get_or_default}
-use Rattle.uc_model.specs.Sums.{sum_below}
-use Rattle.uc_model.proofs.Ring.{linear, mul_nonneg, le_refl}
-use Rattle.uc_model.proofs.Sums.{below_or_last, sum_below_nonneg}
+use Rattle.uc_model.specs.Prelude.{sum_below}
+use Rattle.uc_model.proofs.Common.{linear, mul_nonneg, le_refl, below_or_last, sum_below_nonneg}
 use Rattle.dispatch_rules.specs.declared.amount.Amount.{Amount}
 use Rattle.dispatch_rules.specs.declared.amount.Amount.TheVariants.{Length, Held, Given, Shed, Short}
 use Rattle.dispatch_rules.proofs.Primals.{one_if-nonneg}

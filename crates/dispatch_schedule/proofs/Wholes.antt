@@ -6,10 +6,8 @@ use Rattle.std.specs.Int.{◌∣◌}
 use Rattle.std.proofs.Math.Nat.{dvd-mul_left, one-dvd}
 use Rattle.std.proofs.lemmas.Bool.{cases_eq, cases_lt, cond-true, cond-false, eq-eqb, ne_eqb}
 use Rattle.std.proofs.lemmas.Int.{unsigned_abs-mul}
-use Rattle.uc_model.specs.Sums.{sum_below}
-use Rattle.uc_model.specs.Limits.{IsLawfulInstance}
-use Rattle.uc_model.proofs.Ring.{linear, mul_comm, mul_assoc, mul_left_comm, mul-zero, zero-mul, add-mul, sub-mul, le_or_lt, le_antisymm, le_from_mul, le_of_eq}
-use Rattle.uc_model.proofs.Sums.{sum_below-sub, sum_below-single, sum_below-mul_left}
+use Rattle.uc_model.specs.Prelude.{sum_below, IsLawfulInstance}
+use Rattle.uc_model.proofs.Common.{linear, mul_comm, mul_assoc, mul_left_comm, mul-zero, zero-mul, add-mul, sub-mul, le_or_lt, le_antisymm, le_from_mul, le_of_eq, sum_below-sub, sum_below-single, sum_below-mul_left}
 use Rattle.cost_curves.proofs.LowestTerms.{coprime-dvd}
 use Rattle.fractions.proofs.Divided.{joined_are_least}
 use Rattle.pivot_run.specs.Tables.{Table}
@@ -17,10 +15,7 @@ use Rattle.dispatch_program.specs.LastTables.{IsReached, AreShares, basis_values
 use Rattle.dispatch_program.specs.ProgramRuns.{IsCheapest}
 use Rattle.dispatch_rules.specs.declared.amount.Amount.{Amount}
 use Rattle.dispatch_rules.specs.declared.amount.Amount.TheVariants.{Length, Held, Given, Shed, Short}
-use Rattle.dispatch_rules.specs.Cells.{segments, width_at}
-use Rattle.dispatch_rules.specs.Dispatch.{Task, amounts, amount_at, program}
-use Rattle.dispatch_rules.specs.Duals.{IsTask}
-use Rattle.dispatch_rules.specs.Primals.{sum_of, length_in, output_in, held_in, given_in, shed_in, short_in}
+use Rattle.dispatch_rules.specs.Prelude.{segments, width_at, Task, amounts, amount_at, program, IsTask, sum_of, length_in, output_in, held_in, given_in, shed_in, short_in}
 use Rattle.dispatch_rules.proofs.Primals.{Fits, amounts-fit}
 use Rattle.dispatch_schedule.specs.ColumnValues.{column_value, denominator_to, schedule_denominator}
 use Rattle.dispatch_schedule.specs.ShownSchedules.{AreWholeOver, LeastDenominators}

@@ -5,7 +5,7 @@ use Rattle.std.specs.Prelude.{ℕ, zero, suc, ◌<◌, ◌==◌, if◌then◌els
 use Rattle.fractions.specs.declared.fraction.Fraction.{Fraction}
 use Rattle.fractions.specs.Fractions.{lowest, joined, JoinForms}
 use Rattle.pivot_run.specs.Tables.{Table, basic, number, right_side}
-use Rattle.dispatch_rules.specs.Dispatch.{Task, amounts}
+use Rattle.dispatch_rules.specs.Prelude.{Task, amounts}
 
 abbrev pub nothing : Fraction
 nothing = record { numerator = pos 0; denominator = pos 1 }

@@ -4,19 +4,14 @@ use Rattle.std.specs.Prelude.{◌≡◌, ℕ, ◌≤◌, ◌<◌, ◌↔◌, Lis
 use Rattle.std.specs.Int.{◌∣◌}
 use Rattle.uc_model.specs.declared.instance.Instance.{Instance}
 use Rattle.uc_model.specs.declared.pattern.Pattern.{Pattern}
-use Rattle.uc_model.specs.Limits.{IsLawfulInstance}
-use Rattle.uc_model.specs.Schedule.{thermal_count, renewable_count}
+use Rattle.uc_model.specs.Prelude.{IsLawfulInstance, thermal_count, renewable_count}
 use Rattle.schedule_check.specs.SizedNumbers.{HasSizedNumbers}
 use Rattle.pivot_run.specs.Pivots.{IsNarrow, IsWide}
 use Rattle.pivot_run.specs.Tables.{Table}
 use Rattle.dispatch_program.specs.LastTables.{IsReached, AreShares, basis_values}
 use Rattle.dispatch_program.specs.ProgramRuns.{IsCheapest}
-use Rattle.dispatch_rules.specs.CommitmentTask.{IsTaskOf}
+use Rattle.dispatch_rules.specs.Prelude.{IsTaskOf, Task, amounts, program, IsTask, sum_of, output_in, held_in, given_in, shed_in, short_in, Prints}
 use Rattle.dispatch_rules.specs.declared.amount.Amount.{Amount}
-use Rattle.dispatch_rules.specs.Dispatch.{Task, amounts, program}
-use Rattle.dispatch_rules.specs.Duals.{IsTask}
-use Rattle.dispatch_rules.specs.Primals.{sum_of, output_in, held_in, given_in, shed_in, short_in}
-use Rattle.dispatch_rules.specs.Prints.{Prints}
 pub use Rattle.dispatch_schedule.specs.declared.shown.Shown.{Shown}
 use Rattle.dispatch_schedule.specs.declared.shown.Shown.TheVariants.{Schedule, Fine, Wide}
 use Rattle.dispatch_schedule.specs.ColumnValues.{schedule_denominator, DenominatorForms}

@@ -1,7 +1,7 @@
 //! The powers of a dispatch, which its amounts add up to. Units and periods count from 0.
 
 ghost use Rattle.std.specs.Prelude.{◌≡◌, ◌==◌, ◌&&◌};
-ghost use Rattle.dispatch_rules.specs.Primals.{given_in, held_in, one_if, output_in, shed_in, short_in};
+ghost use Rattle.dispatch_rules.specs.Prelude.{given_in, held_in, one_if, output_in, shed_in, short_in};
 
 use dispatch_rules::Amount;
 

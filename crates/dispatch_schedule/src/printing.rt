@@ -1,9 +1,8 @@
 //! Printing the amounts that are chosen as a schedule.
 
 ghost use Rattle.std.specs.Prelude.{◌≡◌, ◌≤◌, ◌<◌, pos, ◌+ℤ◌, ◌*ℤ◌, ◌≤ℤ◌, ◌<ℤ◌, IfOk};
-ghost use Rattle.uc_model.specs.Limits.{IsLawfulInstance};
-ghost use Rattle.uc_model.specs.Schedule.{renewable_count, thermal_count};
-ghost use Rattle.dispatch_rules.specs.CommitmentTask.{AreAllowed};
+ghost use Rattle.uc_model.specs.Prelude.{IsLawfulInstance, renewable_count, thermal_count};
+ghost use Rattle.dispatch_rules.specs.Prelude.{AreAllowed};
 ghost use Rattle.dispatch_schedule.specs.inside.Chosen.{AreCellRows, AreNumbers, AreRows, AreSmall, AreSmallOutputs, IsCellOf, IsCellRow, IsPrintOf, low_of, renewable_of, total_of};
 ghost use Rattle.dispatch_schedule.specs.declared.power.Power.TheVariants.{Missing, Unserved};
 

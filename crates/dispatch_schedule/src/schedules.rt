@@ -1,9 +1,8 @@
 //! The schedule of a cheapest basis.
 
 ghost use Rattle.std.specs.Prelude.{IfOk};
-ghost use Rattle.uc_model.specs.Limits.{IsLawfulInstance};
-ghost use Rattle.dispatch_rules.specs.CommitmentTask.{AreAllowed};
-ghost use Rattle.dispatch_rules.specs.Dispatch.{Task};
+ghost use Rattle.uc_model.specs.Prelude.{IsLawfulInstance};
+ghost use Rattle.dispatch_rules.specs.Prelude.{AreAllowed, Task};
 ghost use Rattle.dispatch_schedule.specs.ShownSchedules.{IsCheapestEnd, IsShown};
 
 use crate::choices::choose;

@@ -4,8 +4,9 @@ use Rattle.std.proofs.Common.{◌≡◌, ℕ, zero, suc, ◌+◌, ◌-◌, ◌*�
 use Rattle.std.proofs.lemmas.Bool.{cases_lt}
 use Rattle.std.proofs.lemmas.List.{map-append, length-map, get_or-map, get_or_append_left, get_or-append-add, take_more}
 use Rattle.std.specs.Int.{w128}
-use Rattle.uc_model.specs.Sums.{sum_below}
-use Rattle.uc_model.proofs.Sizes.{abs_add, wide}
+use Rattle.uc_model.specs.Prelude.{sum_below}
+use Rattle.uc_model.proofs.Common.{abs_add}
+use Rattle.uc_model.proofs.Sizes.{wide}
 use Rattle.pivot_run.specs.Rows.{IsSmall, entry}
 use Rattle.dispatch_program.specs.Programs.{Program, RightSide, HasColumn, Line, RuleLine, SumLine, CostLine, Slack, Artificial, SumValue, CostValue, all, basic_column, bump, columns_of, counted, has_artificial, is_limit, lines_of, picked, place, slacks}
 use Rattle.dispatch_rules.proofs.Listed.{Each, each_none, each_one, each_append}

@@ -2,8 +2,8 @@
 -- Cite by `use Rattle.dispatch_table.proofs.Corners.{few_corners}`.
 use Rattle.std.proofs.Common.{◌≡◌, ℕ, zero, suc, ◌<◌, ◌≤◌, ⊎_elim, arith, subst, ap, sym, List, length, ℤ, ◌≤ℤ◌}
 use Rattle.std.proofs.lemmas.Bool.{cases_lt}
-use Rattle.uc_model.specs.Points.{point_of}
-use Rattle.uc_model.proofs.Ring.{linear, le_refl}
+use Rattle.uc_model.specs.Prelude.{point_of}
+use Rattle.uc_model.proofs.Common.{linear, le_refl}
 use Rattle.cost_curves.specs.LowerHull.{Point, IsLowerHull}
 
 module _ (points corners : List Point) (is : IsLowerHull points corners) where

@@ -2,10 +2,9 @@
 -- Cite by `use Rattle.dispatch_table.proofs.LimitReads.{read_limit}`.
 use Rattle.std.proofs.Common.{◌≡◌, ℕ, ◌<◌, sym, ap, subst, ◌∙◌, List, map, length, get_or}
 use Rattle.std.proofs.lemmas.List.{get_or-map, length-map}
-use Rattle.uc_model.specs.Rules.{Rule, Demand, rule_units}
+use Rattle.uc_model.specs.Prelude.{Rule, Demand, rule_units}
 use Rattle.dispatch_rules.specs.declared.limit.LimitAt.{LimitAt}
-use Rattle.dispatch_rules.specs.CommitmentTask.{limit_of}
-use Rattle.dispatch_rules.specs.Dispatch.{Task, Limit, limit, copies, limits, limit_at, rule_from}
+use Rattle.dispatch_rules.specs.Prelude.{limit_of, Task, Limit, limit, copies, limits, limit_at, rule_from}
 use Rattle.dispatch_rules.proofs.Multipliers.{limit_at-listed}
 use Rattle.dispatch_table.specs.Tasks.{IsLimitIn}
 

@@ -4,17 +4,13 @@ use Rattle.std.proofs.Common.{◌≡◌, ℕ, ◌<◌, ⊎_elim, refl, sym, ap, 
 use Rattle.std.specs.Int.{◌∣◌}
 use Rattle.std.proofs.lemmas.Bool.{cond-true}
 use Rattle.std.proofs.lemmas.List.{get_or-map}
-use Rattle.uc_model.specs.Rules.{Demand}
-use Rattle.uc_model.specs.Schedule.{thermal_count}
+use Rattle.uc_model.specs.Prelude.{Demand, thermal_count}
 use Rattle.pivot_run.specs.Pivots.{IsNarrow}
 use Rattle.pivot_run.specs.Rows.{entry}
 use Rattle.dispatch_program.specs.Programs.{free_columns, start_table}
 use Rattle.dispatch_rules.specs.declared.amount.Amount.{Amount}
 use Rattle.dispatch_rules.specs.declared.amount.Amount.TheVariants.{Length, Held, Shed}
-use Rattle.dispatch_rules.specs.Cells.{segments}
-use Rattle.dispatch_rules.specs.CommitmentTask.{CostForms, IsTaskOf, MakingForms, ScaleForms, cost_fraction, scale_to}
-use Rattle.dispatch_rules.specs.Dispatch.{Task, Limit, limit, limits, amounts, amounts_in, amount_at, listed, program, right_of, unit_amounts}
-use Rattle.dispatch_rules.specs.Duals.{IsTask}
+use Rattle.dispatch_rules.specs.Prelude.{segments, CostForms, IsTaskOf, MakingForms, ScaleForms, cost_fraction, scale_to, Task, Limit, limit, limits, amounts, amounts_in, amount_at, listed, program, right_of, unit_amounts, IsTask}
 use Rattle.dispatch_rules.proofs.Listed.{StandsIn, stands_alone, stands_left, stands_listed}
 use Rattle.dispatch_table.specs.Numbers.{program_from}
 use Rattle.dispatch_table.specs.Start.{AreCosts}

@@ -6,7 +6,7 @@ use Rattle.std.specs.Int.{w128}
 use Rattle.uc_model.proofs.Sizes.{wide}
 use Rattle.pivot_run.specs.Rows.{entry}
 use Rattle.dispatch_program.specs.Programs.{picked}
-use Rattle.dispatch_rules.specs.Dispatch.{listed}
+use Rattle.dispatch_rules.specs.Prelude.{listed}
 
 module _ {A : Type 0} where
   pub push_listed : (before items new : List A) (n : ℕ) (f : ℕ → List A) → items ≡ before ++ listed n f → new ≡ items ++ f n

@@ -6,16 +6,13 @@ use Rattle.std.proofs.Math.Nat.{dvd-mul_left}
 use Rattle.std.proofs.lemmas.Nat.Gcd.{dvd_trans}
 use Rattle.std.proofs.lemmas.Int.{ints, unsigned_abs-mul}
 use Rattle.std.proofs.lemmas.List.{get_or_default}
-use Rattle.uc_model.specs.Schedule.{thermal_unit, thermal_count}
-use Rattle.uc_model.proofs.Ring.{linear, mul_assoc, mul_comm, mul-one, zero-mul, le_antisymm, le_from_mul, le_of_eq}
-use Rattle.uc_model.proofs.Sums.{below_or_last}
+use Rattle.uc_model.specs.Prelude.{thermal_unit, thermal_count}
+use Rattle.uc_model.proofs.Common.{linear, mul_assoc, mul_comm, mul-one, zero-mul, le_antisymm, le_from_mul, le_of_eq, below_or_last}
 use Rattle.cost_curves.specs.LowerHull.{IsLowerHull}
 use Rattle.fractions.proofs.Divided.{times, missing_positive, fractions_are_lowest, joined_are_least}
 use Rattle.dispatch_rules.specs.declared.amount.Amount.{Amount}
 use Rattle.dispatch_rules.specs.declared.amount.Amount.TheVariants.{Length, Held, Given, Shed, Short}
-use Rattle.dispatch_rules.specs.Cells.{rise_at, width_at}
-use Rattle.dispatch_rules.specs.CommitmentTask.{cost_fraction, fraction_at, scale_to}
-use Rattle.dispatch_rules.specs.Dispatch.{Task, amounts, amount_at, cost_of}
+use Rattle.dispatch_rules.specs.Prelude.{rise_at, width_at, cost_fraction, fraction_at, scale_to, Task, amounts, amount_at, cost_of}
 use Rattle.dispatch_rules.proofs.Primals.{Fits, amounts-fit}
 use Rattle.dispatch_table.specs.Tasks.{IsAmountIn, scaled_cost}
 

@@ -4,7 +4,7 @@ use Rattle.std.proofs.Common.{◌≡◌, ◌+◌, ◌≤◌, arith, sym, subst, 
 use Rattle.pivot_run.specs.Tables.{Table}
 use Rattle.dispatch_program.specs.Programs.{Program, free_columns, start_table}
 use Rattle.dispatch_program.proofs.Starts.{rows_long}
-use Rattle.dispatch_rules.specs.Dispatch.{Task, program}
+use Rattle.dispatch_rules.specs.Prelude.{Task, program}
 use Rattle.dispatch_table.specs.Start.{Start, IsStartOf}
 
 -- the sum row and the cost row follow the constraints

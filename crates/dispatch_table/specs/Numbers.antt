@@ -5,9 +5,8 @@ use Rattle.pivot_run.specs.Rows.{entry}
 use Rattle.dispatch_program.specs.Programs.{Program, Column, Unknown, Slack, Artificial, SumValue, CostValue, RightSide, Line, RuleLine, SumLine, CostLine}
 use Rattle.dispatch_rules.specs.declared.amount.Amount.{Amount}
 use Rattle.dispatch_rules.specs.declared.amount.Amount.TheVariants.{Shed}
-use Rattle.uc_model.specs.Rules.{Demand}
-use Rattle.dispatch_rules.specs.CommitmentTask.{limit_of}
-use Rattle.dispatch_rules.specs.Dispatch.{Limit, limit, is_demand, parts, times_in}
+use Rattle.uc_model.specs.Prelude.{Demand}
+use Rattle.dispatch_rules.specs.Prelude.{limit_of, Limit, limit, is_demand, parts, times_in}
 pub use Rattle.dispatch_table.specs.declared.program.Numbers.{Numbers}
 use Rattle.dispatch_table.specs.declared.column.Column.{Column as ColumnName}
 use Rattle.dispatch_table.specs.declared.column.Column.TheVariants.{Unknown as UnknownAt, Slack as SlackOf, Artificial as ArtificialOf, SumValue as SumOf, CostValue as CostOf, RightSide as RightOf}

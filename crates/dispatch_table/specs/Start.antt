@@ -6,9 +6,7 @@ use Rattle.uc_model.specs.declared.pattern.Pattern.{Pattern}
 use Rattle.pivot_run.specs.Pivots.{IsNarrow, IsWide}
 use Rattle.pivot_run.specs.Rows.{entry}
 use Rattle.dispatch_program.specs.Programs.{free_columns, start_table}
-use Rattle.dispatch_rules.specs.CommitmentTask.{CostForms, IsTaskOf, MakingForms, ScaleForms, limit_of, scale_to}
-use Rattle.dispatch_rules.specs.Dispatch.{Task, amounts, amount_at, limits, program, right_of}
-use Rattle.dispatch_rules.specs.Duals.{IsTask}
+use Rattle.dispatch_rules.specs.Prelude.{CostForms, IsTaskOf, MakingForms, ScaleForms, limit_of, scale_to, Task, amounts, amount_at, limits, program, right_of, IsTask}
 use Rattle.dispatch_table.specs.Tasks.{Given, scaled_cost, task_of}
 pub use Rattle.dispatch_table.specs.declared.made.Made.{Made}
 pub use Rattle.dispatch_table.specs.declared.made.Start.{Start}

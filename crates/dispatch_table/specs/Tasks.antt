@@ -1,15 +1,12 @@
 -- The task of an instance with a pattern and a curve for each thermal unit, its limits and its costs by parts.
 -- Source: the exact dispatch as a linear program of whole numbers; this project's own form.
 use Rattle.std.specs.Prelude.{◌≡◌, ℕ, suc, ◌<◌, ◌≤◌, ◌*◌, List, [], ◌∷◌, length, ℤ, pos, ◌*ℤ◌, int_div, unsigned_abs}
-use Rattle.uc_model.specs.Limits.{IsLawfulInstance}
-use Rattle.uc_model.specs.Schedule.{thermal_count}
+use Rattle.uc_model.specs.Prelude.{IsLawfulInstance, thermal_count, Rule, rule_units}
 use Rattle.cost_curves.specs.UnitCurves.{AreCurvesOf, curve_in}
-use Rattle.dispatch_rules.specs.CommitmentTask.{commitment_at, cost_fraction}
+use Rattle.dispatch_rules.specs.Prelude.{commitment_at, cost_fraction, Task, Limit, limit, listed, copies}
 use Rattle.uc_model.specs.declared.limits.TheConstants.{MAX_POWER, MAX_UNITS}
-use Rattle.uc_model.specs.Rules.{Rule, rule_units}
 use Rattle.dispatch_rules.specs.declared.amount.Amount.{Amount}
 use Rattle.dispatch_rules.specs.declared.amount.Amount.TheVariants.{Length}
-use Rattle.dispatch_rules.specs.Dispatch.{Task, Limit, limit, listed, copies}
 pub use Rattle.dispatch_table.specs.declared.given.Given.{Given}
 
 -- the instance is lawful, and there is a pattern and a curve for each unit

@@ -1,7 +1,7 @@
 //! The amounts of a commitment's dispatch, in order.
 ghost use Rattle.std.specs.Prelude.{◌≡◌, ◌<◌, ◌++◌, ◌∷◌, ◌^◌, [], IfOk, OnOk, nat_lt};
-ghost use Rattle.uc_model.specs.Schedule.{renewable_count, thermal_count};
-ghost use Rattle.dispatch_rules.specs.Dispatch.{amounts as amounts_of, amounts_in, listed, unit_amounts, where_true};
+ghost use Rattle.uc_model.specs.Prelude.{renewable_count, thermal_count};
+ghost use Rattle.dispatch_rules.specs.Prelude.{amounts as amounts_of, amounts_in, listed, unit_amounts, where_true};
 ghost use Rattle.dispatch_table.specs.Tasks.{IsGiven, task_of};
 
 use crate::given::Given;

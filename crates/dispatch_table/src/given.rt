@@ -1,12 +1,9 @@
 //! What a table is made of.
 ghost use Rattle.std.specs.Prelude.{◌≡◌, ◌<◌, ◌≤◌, ◌*◌, suc, length, unsigned_abs};
-ghost use Rattle.uc_model.specs.Commitment.{was_on as was_on_in};
-ghost use Rattle.uc_model.specs.Limits.{IsLawfulThermal};
-ghost use Rattle.uc_model.specs.Schedule.{thermal_count, thermal_unit};
+ghost use Rattle.uc_model.specs.Prelude.{was_on as was_on_in, IsLawfulThermal, thermal_count, thermal_unit};
 ghost use Rattle.cost_curves.specs.LowerHull.{AreLawfulCorners};
 ghost use Rattle.cost_curves.specs.UnitCurves.{curve_in};
-ghost use Rattle.dispatch_rules.specs.Cells.{rise_at, segments, width_at};
-ghost use Rattle.dispatch_rules.specs.CommitmentTask.{commitment_at};
+ghost use Rattle.dispatch_rules.specs.Prelude.{rise_at, segments, width_at, commitment_at};
 ghost use Rattle.dispatch_table.specs.Tasks.{IsGiven};
 
 use cost_curves::{Curve, rise, run};

@@ -1,9 +1,7 @@
 //! The limits on the amounts of a dispatch, in order.
 ghost use Rattle.std.specs.Prelude.{◌≡◌, ◌<◌, ◌++◌, ◌∷◌, [], IfOk, OnOk, map};
-ghost use Rattle.uc_model.specs.Rules.{rule_units};
-ghost use Rattle.uc_model.specs.Schedule.{thermal_count};
-ghost use Rattle.dispatch_rules.specs.CommitmentTask.{limit_of, rule_of};
-ghost use Rattle.dispatch_rules.specs.Dispatch.{copies as copies_of, limit, limits as limits_in, limits_of, listed, rule_from as rule_numbered};
+ghost use Rattle.uc_model.specs.Prelude.{rule_units, thermal_count};
+ghost use Rattle.dispatch_rules.specs.Prelude.{limit_of, rule_of, copies as copies_of, limit, limits as limits_in, limits_of, listed, rule_from as rule_numbered};
 ghost use Rattle.dispatch_table.specs.Tasks.{IsGiven, task_of, unit_limits};
 
 use crate::given::Given;

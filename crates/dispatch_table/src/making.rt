@@ -1,8 +1,7 @@
 //! The making of a commitment's table.
 ghost use Rattle.std.specs.Prelude.{◌≡◌, IfOk};
-ghost use Rattle.uc_model.specs.Limits.{IsLawfulInstance};
-ghost use Rattle.dispatch_rules.specs.CommitmentTask.{AreAllowed};
-ghost use Rattle.dispatch_rules.specs.Dispatch.{amounts as amounts_in};
+ghost use Rattle.uc_model.specs.Prelude.{IsLawfulInstance};
+ghost use Rattle.dispatch_rules.specs.Prelude.{AreAllowed, amounts as amounts_in};
 ghost use Rattle.dispatch_table.specs.Tasks.{IsGiven, task_of};
 ghost use Rattle.dispatch_table.specs.Start.{AreCosts, IsMade, IsScale};
 

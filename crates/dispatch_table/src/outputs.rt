@@ -1,11 +1,8 @@
 //! The output that a commitment gives without a choice.
 ghost use Rattle.std.specs.Prelude.{◌≡◌, ◌<◌, ◌≤◌, ◌*◌, ◌+ℤ◌, ◌*ℤ◌, ℤ, pos, unsigned_abs};
 ghost use Rattle.std.specs.Int.{int_max};
-ghost use Rattle.uc_model.specs.Limits.{IsLawfulInstance, IsLawfulThermal, IsPower};
-ghost use Rattle.uc_model.specs.Schedule.{renewable_count, renewable_maximum, renewable_minimum, thermal_count, thermal_unit};
-ghost use Rattle.uc_model.specs.Sums.{bit, sum_below};
-ghost use Rattle.dispatch_rules.specs.CommitmentTask.{commitment_at};
-ghost use Rattle.dispatch_rules.specs.Dispatch.{given_output as output_given};
+ghost use Rattle.uc_model.specs.Prelude.{IsLawfulInstance, IsLawfulThermal, IsPower, renewable_count, renewable_maximum, renewable_minimum, thermal_count, thermal_unit, bit, sum_below};
+ghost use Rattle.dispatch_rules.specs.Prelude.{commitment_at, given_output as output_given};
 ghost use Rattle.dispatch_table.specs.Tasks.{IsGiven, IsOutputSum, task_of};
 
 use crate::given::Given;

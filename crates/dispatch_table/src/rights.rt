@@ -1,11 +1,8 @@
 //! The right sides of the limits.
 ghost use Rattle.std.specs.Prelude.{◌≡◌, ℕ, suc, ◌<◌, ◌≤◌, ◌*◌, IfOk, map, pos, unsigned_abs, ◌+ℤ◌, ◌-ℤ◌};
 ghost use Rattle.std.specs.Int.{int_max};
-ghost use Rattle.uc_model.specs.Commitment.{initial_p, start_cap as start_cap_of, stop_cap as stop_cap_of, stops};
-ghost use Rattle.uc_model.specs.Limits.{IsLawfulInstance, IsLawfulThermal, IsPower};
-ghost use Rattle.uc_model.specs.Schedule.{demand_at, renewable_count, renewable_maximum, renewable_minimum, reserve_at, thermal_count, thermal_unit};
-ghost use Rattle.dispatch_rules.specs.CommitmentTask.{commitment_at, limit_of};
-ghost use Rattle.dispatch_rules.specs.Dispatch.{given_output as output_given, initial_at as initial_in, limits as limits_in, right_of};
+ghost use Rattle.uc_model.specs.Prelude.{initial_p, start_cap as start_cap_of, stop_cap as stop_cap_of, stops, IsLawfulInstance, IsLawfulThermal, IsPower, demand_at, renewable_count, renewable_maximum, renewable_minimum, reserve_at, thermal_count, thermal_unit};
+ghost use Rattle.dispatch_rules.specs.Prelude.{commitment_at, limit_of, given_output as output_given, initial_at as initial_in, limits as limits_in, right_of};
 ghost use Rattle.dispatch_table.specs.Tasks.{IsGiven, IsLimitIn, task_of};
 
 use crate::given::Given;

@@ -2,12 +2,10 @@
 ghost use Rattle.std.specs.Prelude.{◌≡◌, ℕ, ℤ, ◌^◌, ◌*◌, ◌<◌, IfOk, IfErr, OnOk, length, pos, suc, ◌<ℤ◌, ◌*ℤ◌, int_div, unsigned_abs};
 ghost use Rattle.pivot_run.specs.Pivots.{IsNarrow, IsWide};
 ghost use Rattle.pivot_run.specs.Rows.{entry};
-ghost use Rattle.uc_model.specs.Schedule.{thermal_count};
+ghost use Rattle.uc_model.specs.Prelude.{thermal_count};
 ghost use Rattle.cost_curves.specs.UnitCurves.{curve_in};
 ghost use Rattle.fractions.specs.Fractions.{JoinForms, joined, lowest as lowest_of};
-ghost use Rattle.dispatch_rules.specs.Cells.{rise_at, width_at};
-ghost use Rattle.dispatch_rules.specs.CommitmentTask.{CostForms, ScaleForms, cost_fraction, scale_to};
-ghost use Rattle.dispatch_rules.specs.Dispatch.{amount_at, amounts as amounts_in};
+ghost use Rattle.dispatch_rules.specs.Prelude.{rise_at, width_at, CostForms, ScaleForms, cost_fraction, scale_to, amount_at, amounts as amounts_in};
 ghost use Rattle.dispatch_table.specs.Tasks.{AmountForms, IsAmountIn, IsGiven, scaled_cost, task_of};
 
 use crate::given::Given;

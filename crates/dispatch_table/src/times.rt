@@ -1,8 +1,7 @@
 //! How often an amount stands in a limit.
 ghost use Rattle.std.specs.Prelude.{◌≡◌, ◌≤◌, ◌==◌, ◌&&◌, ◌≤ℤ◌, pos, suc, unsigned_abs};
-ghost use Rattle.uc_model.specs.Sums.{bit};
-ghost use Rattle.dispatch_rules.specs.CommitmentTask.{limit_of};
-ghost use Rattle.dispatch_rules.specs.Dispatch.{parts, times_in};
+ghost use Rattle.uc_model.specs.Prelude.{bit};
+ghost use Rattle.dispatch_rules.specs.Prelude.{limit_of, parts, times_in};
 
 use dispatch_rules::{Amount, LimitAt, LimitRule};
 

@@ -2,10 +2,8 @@
 use Rattle.std.proofs.Common.{◌≡◌, ℕ, ◌<◌, List, [], ◌∷◌, false, not, ◌==◌, refl, ap, subst, ⊎_elim, ◌≤◌, IsTrue}
 use Rattle.std.specs.List.{list_all}
 use Rattle.std.proofs.lemmas.Bool.{and_parts, and_from, or_left, or_right, cases_Bool, eqb-true}
-use Rattle.uc_model.specs.Schedule.{Schedule, thermal_unit, thermal_count}
-use Rattle.uc_model.specs.Rules.{Obeys}
-use Rattle.uc_model.specs.Limits.{IsLawfulThermal}
-use Rattle.uc_model.proofs.Obeyed.{is_allowed-obeying}
+use Rattle.uc_model.specs.Prelude.{Schedule, thermal_unit, thermal_count, Obeys, IsLawfulThermal}
+use Rattle.uc_model.proofs.Common.{is_allowed-obeying}
 use Rattle.dual_model.specs.Fixings.{Fixing, Instance, Node, keeps, keeps_of, unit_agrees, agrees, IsPatternAt}
 
 kept_by_unit : (x : Schedule) (g : ℕ) (fixing : Fixing) → IsTrue (keeps fixing (x.thermal fixing.g).on)

@@ -2,18 +2,11 @@
 use Rattle.std.proofs.Common.{◌≡◌, ℕ, zero, suc, ◌+◌, ◌-◌, ◌<◌, ◌≤◌, ⊎_elim, min, Bool, true, false, not, ◌&&◌, ◌||◌, refl, sym, ap, subst, ◌∙◌, arith, ℤ, pos, ◌≤ℤ◌, IsTrue, Option, Some, None, nat_lt, int_le, if◌then◌else◌}
 use mathlib.Core.Bool.{not-not}
 use Rattle.std.proofs.lemmas.Bool.{and_parts, and_from, or_cases, or_left, or_right, true≢false, not-true, not_from_false, ltb-true, lt-ltb, cond-true, cond-false}
-use Rattle.uc_model.specs.Sums.{bit, all_below}
-use Rattle.uc_model.specs.Commitment.{Commitment, state_before, was_on, starts, stops, keeps_minimum_at, must_run_at, initial_up_at, initial_down_at, minimum_up_at, minimum_down_at, cap, is_allowed_at, initial_stop_holds}
-use Rattle.uc_model.specs.PatternBits.{commitment_of}
-use Rattle.uc_model.specs.Limits.{IsLawfulThermal}
-use Rattle.uc_model.proofs.Ring.{linear}
-use Rattle.uc_model.proofs.Sums.{sum_below-same}
-use Rattle.uc_model.proofs.Tests.{int_le-true, le-int_le, all_below-at, all_below-from}
-use Rattle.uc_model.specs.Terms.{period_count, term_at}
+use Rattle.uc_model.specs.Prelude.{bit, all_below, Commitment, state_before, was_on, starts, stops, keeps_minimum_at, must_run_at, initial_up_at, initial_down_at, minimum_up_at, minimum_down_at, cap, is_allowed_at, initial_stop_holds, commitment_of, IsLawfulThermal, period_count, term_at, has_lasted}
+use Rattle.uc_model.proofs.Common.{linear, sum_below-same, int_le-true, le-int_le, all_below-at, all_below-from}
 use Rattle.dual_model.specs.UnitTerms.{Terms, Thermal, AreSizedTerms, IsSized}
 use Rattle.dual_model.specs.PatternValue.{IsPattern, is_followed}
 use Rattle.dual_model.specs.Moves.{Fix, holds_initially, initial_limit, hour_cost}
-use Rattle.uc_model.specs.Switches.{has_lasted}
 use Rattle.dual_model.specs.CostToGo.{since_after}
 use Rattle.dual_model.proofs.Switches.{since}
 use Rattle.dual_model.proofs.Lasting.{enters, leaves, LeavesInTime, window-from_lasting, initial-from_lasting, lasting-from_windows}

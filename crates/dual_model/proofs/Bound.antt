@@ -1,14 +1,8 @@
 -- Weak duality: q times the value of a node is at most K times the cost by least starts, for each schedule that obeys over
 -- q and agrees with the node.
 use Rattle.std.proofs.Common.{ℕ, ◌<◌, ◌≤◌, length, refl, ap, arith, ℤ, pos, ◌+ℤ◌, ◌-ℤ◌, ◌*ℤ◌, ◌≤ℤ◌}
-use Rattle.uc_model.specs.Sums.{sum_below, bit}
-use Rattle.uc_model.specs.Commitment.{initial_p}
-use Rattle.uc_model.specs.Schedule.{Schedule, thermal_unit, thermal_count, renewable_count, demand_at, reserve_at, p_at, p_before}
-use Rattle.uc_model.specs.Cost.{shortage_cost}
-use Rattle.uc_model.specs.Rules.{RampUp, RampDown, RenewableRange, Demand, Reserve, Obeys, thermal_output}
-use Rattle.uc_model.proofs.Ring.{linear, scale-le-scale}
-use Rattle.uc_model.proofs.Tests.{int_le-true, int_eq-true}
-use Rattle.uc_model.proofs.Obeyed.{rule_at}
+use Rattle.uc_model.specs.Prelude.{sum_below, bit, initial_p, Schedule, thermal_unit, thermal_count, renewable_count, demand_at, reserve_at, p_at, p_before, shortage_cost, RampUp, RampDown, RenewableRange, Demand, Reserve, Obeys, thermal_output}
+use Rattle.uc_model.proofs.Common.{linear, scale-le-scale, int_le-true, int_eq-true, rule_at}
 use Rattle.dual_model.specs.Prices.{Instance, Table, pi_at, mu_at, up_at, down_at, HasSizeOf, HasLawfulSigns}
 use Rattle.dual_model.specs.Fixings.{Node, IsPatternAt}
 use Rattle.dual_model.specs.UnitValue.{Thermal, period_value, IsPatternValue, IsUnitValue}

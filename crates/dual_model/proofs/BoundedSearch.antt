@@ -4,7 +4,7 @@
 -- Cite from a crate above by `use Rattle.dual_model.proofs.BoundedSearch.{Agrees, IsSearched, IsWithin, search}`.
 use Rattle.std.proofs.Common.{◌≡◌, ℕ, zero, suc, ◌<◌, ◌≤◌, ◌⊎◌, inl, inr, ⊎_elim, false, refl, sym, subst, ◌∙◌, arith, IsTrue, ℤ, ◌≤ℤ◌, ◌<ℤ◌, ◌==◌, if◌then◌else◌}
 use Rattle.std.proofs.lemmas.Bool.{cases_Bool, cond-true, cond-false, cond_both, eqb-true, eqb-false, eq-eqb}
-use Rattle.uc_model.proofs.Ring.{linear, le_or_lt, le_of_eq}
+use Rattle.uc_model.proofs.Common.{linear, le_or_lt, le_of_eq}
 
 -- ---- the least of the functions inside a set
 pub record IsLeastIn (inside has : (ℕ → ℕ) → Type 0) (value : (ℕ → ℕ) → ℤ) (s : ℕ → ℕ) : Type 0 where

@@ -5,9 +5,8 @@
 -- Over plain functions of the point: f is its reduced cost, d how far it lies left of the cap.
 use Rattle.std.proofs.Common.{◌≡◌, ℕ, ◌<◌, true, false, cond, refl, sym, ap, subst, ◌∙◌, arith, ℤ, pos, ◌+ℤ◌, ◌-ℤ◌, ◌*ℤ◌, neg_ℤ, ◌≤ℤ◌, ◌<ℤ◌, int_le}
 use Rattle.std.proofs.lemmas.Int.{ints, by_lt_z}
-use Rattle.uc_model.specs.Sums.{sum_below}
-use Rattle.uc_model.proofs.Ring.{linear, spread, mul_comm, mul_assoc, mul_nonneg, sub_nonneg, mul-zero, zero-mul, mul-le-mul_left, mul-le-mul_turned, le_from_mul, pos_nonneg, mul-add, add-mul, neg-mul, one-mul, sub-mul}
-use Rattle.uc_model.proofs.Sums.{sum_below-same, sum_below-zero, sum_below-add, sum_below-sub, sum_below-neg, sum_below_nonneg, sum_below-mul_left, sum_below-mul_right, term-le-sum_below}
+use Rattle.uc_model.specs.Prelude.{sum_below}
+use Rattle.uc_model.proofs.Common.{linear, spread, mul_comm, mul_assoc, mul_nonneg, sub_nonneg, mul-zero, zero-mul, mul-le-mul_left, mul-le-mul_turned, le_from_mul, pos_nonneg, mul-add, add-mul, neg-mul, one-mul, sub-mul, sum_below-same, sum_below-zero, sum_below-add, sum_below-sub, sum_below-neg, sum_below_nonneg, sum_below-mul_left, sum_below-mul_right, term-le-sum_below}
 
 -- m bounds the reduced cost at each corner, b being the price of reserve
 pub record BoundsCorners (n : ℕ) (f d : ℕ → ℤ) (b m : ℤ) : Type 0 where

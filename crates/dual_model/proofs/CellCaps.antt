@@ -3,10 +3,8 @@
 use Rattle.std.proofs.Common.{◌≡◌, ℕ, zero, suc, Bool, true, false, not, ◌&&◌, refl, sym, ap, ◌∙◌, arith, ℤ, pos, ◌-ℤ◌, ◌*ℤ◌, ◌≤ℤ◌, ◌==◌, nat_lt, ne_eqb, if◌then◌else◌}
 use Rattle.std.specs.Int.{int_min}
 use Rattle.std.proofs.lemmas.Int.{ints}
-use Rattle.uc_model.specs.Sums.{bit}
-use Rattle.uc_model.specs.Commitment.{Commitment, starts, stops, start_reduction, stop_reduction, cap, cell_cap}
-use Rattle.uc_model.proofs.Ring.{linear, mul-one, mul-zero, mul_nonneg}
-use Rattle.uc_model.proofs.MinimumTimes.{bit_nonneg}
+use Rattle.uc_model.specs.Prelude.{bit, Commitment, starts, stops, start_reduction, stop_reduction, cap, cell_cap}
+use Rattle.uc_model.proofs.Common.{linear, mul-one, mul-zero, mul_nonneg, bit_nonneg}
 use Rattle.dual_model.specs.UnitTerms.{Thermal}
 use Rattle.dual_model.specs.PatternValue.{is_followed}
 

@@ -1,9 +1,8 @@
 -- Values of nodes by computing them.
 use Rattle.std.proofs.Common.{◌≡◌, ℕ, length, subst, ℤ, Bool, ◌&&◌, IsTrue, nat_lt, Some, None}
 use Rattle.std.proofs.lemmas.Bool.{and_parts, ltb-true}
-use Rattle.uc_model.specs.Sums.{all_below}
-use Rattle.uc_model.specs.Schedule.{thermal_unit, thermal_count}
-use Rattle.uc_model.proofs.Tests.{all_below-at}
+use Rattle.uc_model.specs.Prelude.{all_below, thermal_unit, thermal_count}
+use Rattle.uc_model.proofs.Common.{all_below-at}
 use Rattle.dual_model.specs.Fixings.{Instance, Node, HasEmptyUnit}
 use Rattle.dual_model.specs.NodeValue.{Table, IsNodeValue}
 use Rattle.dual_model.specs.UnitValue.{IsUnitValue}

@@ -2,12 +2,9 @@
 use Rattle.std.proofs.Common.{ℕ, zero, suc, ◌+◌, ◌*◌, ◌^◌, ◌<◌, ◌≤◌, Bool, true, false, arith, ℤ, pos, ◌*ℤ◌, Option, Some, None, unsigned_abs, ◌==◌, if◌then◌else◌}
 use Rattle.std.proofs.lemmas.Int.{ints}
 use Rattle.std.proofs.lemmas.Bool.{cond_both}
-use Rattle.uc_model.specs.StartCategory.{sigma}
-use Rattle.uc_model.specs.Limits.{IsLawfulThermal}
+use Rattle.uc_model.specs.Prelude.{sigma, IsLawfulThermal, period_count, price_at}
 use Rattle.uc_model.specs.declared.limits.TheConstants.{MAX_COST, MAX_POWER, MAX_TERM}
-use Rattle.uc_model.proofs.Sizes.{abs_add, abs_sub, abs_mul, abs_min}
-use Rattle.uc_model.proofs.StartCosts.{sigma-size}
-use Rattle.uc_model.specs.Terms.{period_count, price_at}
+use Rattle.uc_model.proofs.Common.{abs_add, abs_sub, abs_mul, abs_min, sigma-size}
 use Rattle.dual_model.specs.UnitTerms.{MAX_UNIT_PRICE, Terms, Thermal, AreSizedTerms, IsSized}
 use Rattle.dual_model.specs.Moves.{Fix, stop_since, hour_cost, hour_before, move}
 use Rattle.dual_model.specs.CostToGo.{total_of, lesser_of, end_cost, since_after, cost_to_go, IsWithin, MAX_MOVE, MAX_COST_TO_GO}

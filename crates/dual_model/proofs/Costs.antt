@@ -2,7 +2,7 @@
 -- Cite from a crate above by `use Rattle.dual_model.proofs.Costs.{total-zero, lesser-none}`.
 use Rattle.std.proofs.Common.{◌≡◌, refl, ap, arith, ℤ, pos, ◌+ℤ◌, Option, Some, None}
 use Rattle.std.proofs.lemmas.Int.{ints}
-use Rattle.uc_model.proofs.Ring.{linear}
+use Rattle.uc_model.proofs.Common.{linear}
 use Rattle.dual_model.specs.Bellman.{lesser_of, total_of}
 
 -- ---- totals

@@ -3,11 +3,8 @@ use Rattle.std.proofs.Common.{◌≡◌, ℕ, ◌+◌, List, [], ◌∷◌, Bool
 use Rattle.std.proofs.lemmas.Bool.{and_from, cases_Bool}
 use Rattle.std.proofs.lemmas.List.Folds.{list_all-append}
 use Rattle.std.proofs.lemmas.Option.{get_or_from_slice_get, slice_get_within}
-use Rattle.uc_model.specs.Schedule.{Schedule}
-use Rattle.uc_model.specs.Cost.{cost}
-use Rattle.uc_model.specs.Rules.{Obeys}
-use Rattle.uc_model.specs.Limits.{IsLawfulInstance}
-use Rattle.uc_model.proofs.Ring.{linear, le_from_mul, mul-le-mul_right, mul_left_comm, mul_comm, scale-le-scale}
+use Rattle.uc_model.specs.Prelude.{Schedule, cost, Obeys, IsLawfulInstance}
+use Rattle.uc_model.proofs.Common.{linear, le_from_mul, mul-le-mul_right, mul_left_comm, mul_comm, scale-le-scale}
 use Rattle.dual_model.specs.Prices.{Instance, Table, IsLawfulTable}
 use Rattle.dual_model.specs.Fixings.{Fixing, Node, keeps, agrees}
 use Rattle.dual_model.specs.ValueKind.{HasBlockedUnit}

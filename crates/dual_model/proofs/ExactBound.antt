@@ -4,19 +4,8 @@ use Rattle.std.proofs.Common.{◌≡◌, ℕ, zero, suc, ◌-◌, ◌<◌, ◌�
 use Rattle.std.specs.Int.{int_max}
 use Rattle.std.proofs.lemmas.Int.{ints, clamps}
 use Rattle.std.proofs.lemmas.Bool.{cases_Bool, cond-true, cond-false, or_cases, not_from_true, true≢false, lt-ltb}
-use Rattle.uc_model.specs.Sums.{sum_below, bit}
-use Rattle.uc_model.specs.Commitment.{starts, start_cap, stop_cap}
-use Rattle.uc_model.specs.StartCategory.{last_stop, sigma}
-use Rattle.uc_model.specs.Schedule.{Row, Schedule, thermal_unit, thermal_count, point_count, p_at, p_before, weight_sum}
-use Rattle.uc_model.specs.Points.{output_of}
-use Rattle.uc_model.specs.Cost.{production_cost}
-use Rattle.uc_model.specs.Rules.{Production, StartCap, StopCap, RampUp, RampDown, Obeys, stop_cap_at, thermal_output}
-use Rattle.uc_model.specs.Limits.{IsLawfulThermal}
-use Rattle.uc_model.proofs.Ring.{linear, mul-le-mul_right, mul_nonneg, mul_comm, mul-one, mul-zero, mul-add, pos_nonneg}
-use Rattle.uc_model.proofs.Sums.{sum_below-le, sum_below-sub, sum_below-mul_left}
-use Rattle.uc_model.proofs.Tests.{int_le-true}
-use Rattle.uc_model.proofs.HullPoints.{abs_is}
-use Rattle.uc_model.proofs.Obeyed.{rule_at, Produces, production_parts, point_p_nonneg, p_at_nonneg}
+use Rattle.uc_model.specs.Prelude.{sum_below, bit, starts, start_cap, stop_cap, last_stop, sigma, Row, Schedule, thermal_unit, thermal_count, point_count, p_at, p_before, weight_sum, output_of, production_cost, Production, StartCap, StopCap, RampUp, RampDown, Obeys, stop_cap_at, thermal_output, IsLawfulThermal}
+use Rattle.uc_model.proofs.Common.{linear, mul-le-mul_right, mul_nonneg, mul_comm, mul-one, mul-zero, mul-add, pos_nonneg, sum_below-le, sum_below-sub, sum_below-mul_left, int_le-true, abs_is, rule_at, Produces, production_parts, point_p_nonneg, p_at_nonneg, Rises, outputs_rise}
 use Rattle.dual_model.specs.Prices.{pi_at, mu_at}
 use Rattle.dual_model.specs.Fixings.{IsPatternAt}
 use Rattle.dual_model.specs.NodeValue.{unit_part}
@@ -28,7 +17,6 @@ use Rattle.dual_model.proofs.LeastStarts.{start_scaled}
 use Rattle.dual_model.proofs.PricedRules.{made_off}
 use Rattle.dual_model.proofs.Bound.{unit_share, parts_bound}
 use Rattle.dual_model.proofs.UnitValues.{allowed_value}
-use Rattle.uc_model.proofs.HullSegments.{Rises, outputs_rise}
 use Rattle.dual_model.proofs.FlooredHull.{floored_cost-le}
 
 -- ---- the unit's schedule

@@ -5,13 +5,8 @@ use Rattle.std.specs.Int.{int_max}
 use Rattle.std.proofs.lemmas.Int.{ints, clamps}
 use Rattle.std.proofs.lemmas.Nat.{div-mul-add, mod-mul-add}
 use Rattle.std.proofs.lemmas.Bool.{cases_Bool, true≢false, and_parts, and_from, cond-true, cond-false, lt-ltb, ltb-true}
-use Rattle.uc_model.specs.Sums.{bit}
-use Rattle.uc_model.specs.Commitment.{Commitment, starts, start_cap, stop_cap, start_reduction, stop_reduction}
-use Rattle.uc_model.specs.Schedule.{thermal_unit, thermal_count}
-use Rattle.uc_model.specs.Limits.{IsLawfulThermal, IsLawfulInstance}
-use Rattle.uc_model.proofs.Ring.{linear, le_or_lt, mul-one, mul-zero, one-mul}
-use Rattle.uc_model.proofs.Sums.{sum_below-same}
-use Rattle.uc_model.proofs.HullPoints.{abs_is}
+use Rattle.uc_model.specs.Prelude.{bit, Commitment, starts, start_cap, stop_cap, start_reduction, stop_reduction, thermal_unit, thermal_count, IsLawfulThermal, IsLawfulInstance}
+use Rattle.uc_model.proofs.Common.{linear, le_or_lt, mul-one, mul-zero, one-mul, sum_below-same, abs_is}
 use Rattle.dual_model.specs.Prices.{pi_at, mu_at}
 use Rattle.dual_model.specs.Fixings.{HasEmptyUnit}
 use Rattle.dual_model.specs.NodeValue.{IsNodeValue}

@@ -3,10 +3,8 @@
 use Rattle.std.proofs.Common.{◌≡◌, ℕ, ◌<◌, Bool, true, sym, ap, subst, ◌∙◌, arith, ℤ, ◌+ℤ◌, ◌≤ℤ◌}
 use Rattle.std.specs.Int.{int_max}
 use Rattle.std.proofs.lemmas.Int.{ints, clamps}
-use Rattle.uc_model.specs.Sums.{sum_below}
-use Rattle.uc_model.specs.Schedule.{thermal_count}
-use Rattle.uc_model.proofs.Ring.{linear, le_antisymm}
-use Rattle.uc_model.proofs.Sums.{sum_below-same, sum_below-le}
+use Rattle.uc_model.specs.Prelude.{sum_below, thermal_count}
+use Rattle.uc_model.proofs.Common.{linear, le_antisymm, sum_below-same, sum_below-le}
 use Rattle.dual_model.specs.NodeValue.{unit_part, system_value, renewables_value}
 use Rattle.dual_model.specs.ExactValue.{Instance, Node, Table, UnitSchedule, IsUnitSchedule, IsExactUnitValue, exact_part, parts_total}
 use Rattle.dual_model.specs.Tree.{child}

@@ -4,11 +4,8 @@
 -- Cite from a crate above by `use Rattle.dual_model.proofs.Hermite.{counted, floors}`.
 use Rattle.std.proofs.Common.{◌≡◌, ℕ, zero, suc, ◌+◌, ◌*◌, ◌/◌, ◌%◌, ◌<◌, ◌≤◌, sym, ap, ◌∙◌, arith, ℤ, pos, ◌+ℤ◌, ◌-ℤ◌, ◌*ℤ◌, ◌≤ℤ◌}
 use Rattle.std.proofs.lemmas.Nat.{div-mul-add, div-add-mod', mod_below, le-div}
-use Rattle.uc_model.specs.Sums.{sum_below}
-use Rattle.uc_model.specs.Division.{IsFloor}
-use Rattle.uc_model.proofs.Ring.{linear, mul_comm, mul-one}
-use Rattle.uc_model.proofs.Sums.{sum_below-same, sum_below-zero, sum_below-first, sum_below-const}
-use Rattle.uc_model.proofs.Quotients.{IsFloor-greatest, IsFloor-add}
+use Rattle.uc_model.specs.Prelude.{sum_below, IsFloor}
+use Rattle.uc_model.proofs.Common.{linear, mul_comm, mul-one, sum_below-same, sum_below-zero, sum_below-first, sum_below-const, IsFloor-greatest, IsFloor-add}
 
 -- ---- quotients
 -- numbers below q, and the quotient by 1

@@ -2,10 +2,8 @@
 use Rattle.std.proofs.Common.{◌≡◌, Bool, true, false, not, ◌&&◌, refl, sym, subst, arith, ℤ, pos, ◌-ℤ◌, ◌*ℤ◌, ◌≤ℤ◌, IsTrue, int_le, if◌then◌else◌}
 use Rattle.std.specs.Int.{int_min, int_max}
 use Rattle.std.proofs.lemmas.Int.{ints, clamps}
-use Rattle.uc_model.specs.Sums.{bit}
-use Rattle.uc_model.specs.Commitment.{Commitment, initial_stop_holds}
-use Rattle.uc_model.proofs.Ring.{linear, mul-one, mul-zero, one-mul, zero-mul}
-use Rattle.uc_model.proofs.Tests.{int_le-true, le-int_le}
+use Rattle.uc_model.specs.Prelude.{bit, Commitment, initial_stop_holds}
+use Rattle.uc_model.proofs.Common.{linear, mul-one, mul-zero, one-mul, zero-mul, int_le-true, le-int_le}
 use Rattle.dual_model.specs.Moves.{Thermal, initial_limit}
 
 limit_at : (pmin pmax sd : ℤ) (now : Bool) → (bit true *ℤ (pmax -ℤ pmin) -ℤ int_max (pmax -ℤ sd) (pos 0) *ℤ bit (not now))

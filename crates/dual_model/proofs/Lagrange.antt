@@ -1,9 +1,8 @@
 -- The Lagrangian bound over plain functions of periods, units and renewable units: each priced rule, times its
 -- multiplier, is added to the cost, and the sums are regrouped by unit and period.
 use Rattle.std.proofs.Common.{◌≡◌, ℕ, zero, suc, ◌<◌, sym, ap, ◌∙◌, arith, ℤ, pos, ◌+ℤ◌, ◌-ℤ◌, ◌*ℤ◌, neg_ℤ, ◌≤ℤ◌}
-use Rattle.uc_model.specs.Sums.{sum_below}
-use Rattle.uc_model.proofs.Ring.{linear, spread, mul-le-mul_left, mul_left_comm, mul-add, mul-neg, zero-mul}
-use Rattle.uc_model.proofs.Sums.{sum_below-le, sum_below-add, sum_below-sub, sum_below-neg, sum_below-mul_left, sum_below-same, sum_below-swap}
+use Rattle.uc_model.specs.Prelude.{sum_below}
+use Rattle.uc_model.proofs.Common.{linear, spread, mul-le-mul_left, mul_left_comm, mul-add, mul-neg, zero-mul, sum_below-le, sum_below-add, sum_below-sub, sum_below-neg, sum_below-mul_left, sum_below-same, sum_below-swap}
 
 -- ---- steps over numbers
 -- a sum of products with the period before is one with the period itself, the factors shifted

@@ -2,13 +2,8 @@
 -- that no state is left before it has lasted long enough. Said of any state; M4 takes it for on, M5 for off.
 use Rattle.std.proofs.Common.{◌≡◌, ℕ, zero, suc, ◌+◌, ◌-◌, ◌<◌, ◌≤◌, ⊎_elim, min, Bool, false, not, ◌&&◌, refl, sym, ap, subst, ◌∙◌, arith, ℤ, pos, ◌≤ℤ◌, IsTrue, int_le, nat_lt}
 use Rattle.std.proofs.lemmas.Bool.{cases_Bool, cases_lt, or_cases, or_left, or_right, and_parts, and_from, true≢false, not-true, not_from_false, ltb-true, lt-ltb, leb-true, le-leb}
-use Rattle.uc_model.specs.Sums.{sum_below, any_below, bit}
-use Rattle.uc_model.specs.Commitment.{Commitment, state_before, keeps_minimum_at}
-use Rattle.uc_model.proofs.Ring.{linear}
-use Rattle.uc_model.proofs.Sums.{sum_below-zero, sum_below-single, term-le-sum_below}
-use Rattle.uc_model.proofs.Tests.{int_le-true, le-int_le, any_below-at, any_below-from}
-use Rattle.uc_model.proofs.MinimumTimes.{bit_nonneg, bit-le-one, two_terms-le-sum_below, one-le-bit}
-use Rattle.uc_model.specs.Switches.{has_lasted}
+use Rattle.uc_model.specs.Prelude.{sum_below, any_below, bit, Commitment, state_before, keeps_minimum_at, has_lasted}
+use Rattle.uc_model.proofs.Common.{linear, sum_below-zero, sum_below-single, term-le-sum_below, int_le-true, le-int_le, any_below-at, any_below-from, bit_nonneg, bit-le-one, two_terms-le-sum_below, one-le-bit}
 use Rattle.dual_model.proofs.Switches.{since, since-zero, since-suc, since_after-same, since_after-other}
 
 -- the state is entered in period t, or left

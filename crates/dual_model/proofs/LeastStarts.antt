@@ -2,15 +2,8 @@
 -- than it does by them.
 use Rattle.std.proofs.Common.{◌≡◌, ℕ, ◌<◌, cond, sym, ap, ◌∙◌, arith, ℤ, pos, ◌*ℤ◌, ◌≤ℤ◌, IsTrue, Bool, true, false}
 use Rattle.std.proofs.lemmas.Bool.{cond_both, cond-true, cond-false, eqb-true}
-use Rattle.uc_model.specs.Commitment.{Commitment, starts}
-use Rattle.uc_model.specs.StartCategory.{sigma, last_stop, category_cost, is_category_allowed, category_holds_at}
-use Rattle.uc_model.specs.Schedule.{Schedule, thermal_unit, thermal_count}
-use Rattle.uc_model.specs.Cost.{cell_cost, unit_cost, cost}
-use Rattle.uc_model.specs.Rules.{Category, Obeys}
-use Rattle.uc_model.proofs.Ring.{linear, scale-le-scale, mul_left_comm, mul-zero}
-use Rattle.uc_model.proofs.Sums.{sum_below-le}
-use Rattle.uc_model.proofs.Obeyed.{rule_at}
-use Rattle.uc_model.proofs.StartCosts.{sigma-le-allowed}
+use Rattle.uc_model.specs.Prelude.{Commitment, starts, sigma, last_stop, category_cost, is_category_allowed, category_holds_at, Schedule, thermal_unit, thermal_count, cell_cost, unit_cost, cost, Category, Obeys}
+use Rattle.uc_model.proofs.Common.{linear, scale-le-scale, mul_left_comm, mul-zero, sum_below-le, rule_at, sigma-le-allowed}
 use Rattle.dual_model.specs.Prices.{Instance}
 use Rattle.dual_model.specs.UnitValue.{Thermal}
 use Rattle.dual_model.specs.LeastStarts.{least_start_cost, cell_cost_by_least_starts, unit_cost_by_least_starts, cost_by_least_starts}

@@ -1,9 +1,7 @@
 -- What the walk's recursion gives is the least value of a pattern, or that there is none.
 use Rattle.std.proofs.Common.{◌≡◌, sym, ◌∙◌, arith, ℤ, Option, Some, None}
-use Rattle.uc_model.specs.Commitment.{Commitment}
-use Rattle.uc_model.specs.Limits.{IsLawfulThermal}
-use Rattle.uc_model.proofs.Ring.{linear}
-use Rattle.uc_model.specs.Terms.{period_count}
+use Rattle.uc_model.specs.Prelude.{Commitment, IsLawfulThermal, period_count}
+use Rattle.uc_model.proofs.Common.{linear}
 use Rattle.dual_model.specs.UnitTerms.{Terms, Thermal, AreSizedTerms}
 use Rattle.dual_model.specs.PatternValue.{Fix, IsPattern, IsLeastValue, HasNoPattern, pattern_value}
 use Rattle.dual_model.specs.CostToGo.{cost_to_go, end_cost}

@@ -2,11 +2,9 @@
 use Rattle.std.proofs.Common.{◌≡◌, ℕ, zero, suc, ◌+◌, ◌-◌, ◌<◌, ◌≤◌, Bool, true, false, not, ◌&&◌, ◌||◌, cond, refl, ap, arith, List, [], ◌∷◌, pos, ◌-ℤ◌, ◌*ℤ◌, nat_lt, nat_le, int_le, min, max, Some, ◌==◌, ltb-true, ltb-false}
 use Rattle.std.specs.List.{list_all}
 use Rattle.std.specs.Int.{int_min}
-use Rattle.uc_model.specs.Sums.{sum_below, all_below, any_below, bit}
-use Rattle.uc_model.specs.Commitment.{Commitment, was_on, starts, stops, keeps_minimum_at, start_cap, stop_cap, cap, is_allowed_at, is_allowed, initial_stop_holds, stop_reduction, start_reduction}
-use Rattle.uc_model.specs.StartCategory.{last_stop, sigma, category_lag, category_count, is_barred, is_category_allowed}
+use Rattle.uc_model.specs.Prelude.{sum_below, all_below, any_below, bit, Commitment, was_on, starts, stops, keeps_minimum_at, start_cap, stop_cap, cap, is_allowed_at, is_allowed, initial_stop_holds, stop_reduction, start_reduction, last_stop, sigma, category_lag, category_count, is_barred, is_category_allowed}
 use Rattle.uc_model.specs.declared.instance.Thermal.{Thermal}
-use Rattle.uc_model.proofs.Sums.{sum_below-same}
+use Rattle.uc_model.proofs.Common.{sum_below-same}
 use Rattle.dual_model.specs.Fixings.{Fixing, keeps, keeps_of}
 
 -- the commitments are the same in the periods below n

@@ -2,7 +2,7 @@
 use Rattle.std.proofs.Common.{◌≡◌, ℕ, suc, ◌<◌, ◌≤◌, List, [], ◌∷◌, length, refl, sym, ap, subst, arith, ⊎_elim, ℤ, pos, ◌≤ℤ◌, ◌&&◌, ◌==◌, All, slice_index_or}
 use Rattle.std.proofs.lemmas.Bool.{and_parts, cond_both, eqb-true}
 use Rattle.std.proofs.lemmas.List.{get_or_past}
-use Rattle.uc_model.proofs.Ring.{le_refl}
+use Rattle.uc_model.proofs.Common.{le_refl}
 use Rattle.dual_model.specs.Prices.{RampRow, Table, mu_at, up_at, down_at, row_of, IsRowSigned, IsRowWithin, HasLawfulSigns}
 
 -- what holds of each element and of the default holds of each look-up

@@ -3,12 +3,8 @@
 use Rattle.std.proofs.Common.{◌≡◌, ℕ, zero, suc, ◌<◌, ◌≤◌, ◌⊎◌, inl, inr, [], ◌∷◌, length, Bool, false, refl, sym, ap, subst, ◌∙◌, arith, ⊎_elim, ℤ, pos, ◌+ℤ◌, ◌≤ℤ◌, IsTrue, Option, Some, None, option_map, unwrap_or}
 use Rattle.std.proofs.lemmas.Bool.{and_parts}
 use Rattle.std.proofs.lemmas.List.Folds.{list_all-append}
-use Rattle.uc_model.specs.Sums.{sum_below}
-use Rattle.uc_model.specs.Commitment.{Commitment}
-use Rattle.uc_model.specs.Schedule.{Schedule, thermal_unit, thermal_count}
-use Rattle.uc_model.specs.Limits.{IsLawfulInstance}
-use Rattle.uc_model.proofs.Ring.{linear, le_antisymm}
-use Rattle.uc_model.proofs.Sums.{sum_below-same, sum_below-le}
+use Rattle.uc_model.specs.Prelude.{sum_below, Commitment, Schedule, thermal_unit, thermal_count, IsLawfulInstance}
+use Rattle.uc_model.proofs.Common.{linear, le_antisymm, sum_below-same, sum_below-le}
 use Rattle.dual_model.specs.Fixings.{Instance, Node, keeps_of, unit_agrees, HasEmptyUnit}
 use Rattle.dual_model.specs.UnitValue.{IsUnitValue}
 use Rattle.dual_model.specs.NodeValue.{Table, constant_at, unit_part, system_value, renewables_value, IsNodeValue}

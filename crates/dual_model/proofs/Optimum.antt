@@ -4,8 +4,8 @@ use Rattle.std.proofs.Common.{◌≡◌, ℕ, zero, suc, ◌≤◌, ◌⊎◌, i
 use Rattle.std.specs.Int.{int_min}
 use Rattle.std.proofs.lemmas.Int.{ints}
 use Rattle.std.proofs.lemmas.Bool.{cond_both, cond-true, cond-false, eq-eqb, ne_eqb}
-use Rattle.uc_model.specs.Commitment.{Commitment}
-use Rattle.uc_model.proofs.Ring.{linear}
+use Rattle.uc_model.specs.Prelude.{Commitment}
+use Rattle.uc_model.proofs.Common.{linear}
 use Rattle.dual_model.specs.Bellman.{MoveCosts, EndCosts, total_of, lesser_of, since_after, least_cost, way_cost}
 
 -- ---- costs that may not be there

@@ -2,9 +2,8 @@
 use Rattle.std.proofs.Common.{◌≡◌, ℕ, zero, suc, ◌<◌, Bool, true, false, ◌==◌, sym, ap, ◌∙◌, arith, ⊎_elim, ℤ, ◌≤ℤ◌, eq-eqb, IsTrue, int_le, Option, Some, None, if◌then◌else◌}
 use Rattle.std.proofs.lemmas.Int.{ints}
 use Rattle.std.proofs.lemmas.Bool.{cases_Bool, true≢false, cond_both, cond-true, cond-false, eqb-true}
-use Rattle.uc_model.specs.Commitment.{Commitment}
-use Rattle.uc_model.proofs.Ring.{le_trans, le_of_eq}
-use Rattle.uc_model.proofs.Tests.{int_le-true}
+use Rattle.uc_model.specs.Prelude.{Commitment}
+use Rattle.uc_model.proofs.Common.{le_trans, le_of_eq, int_le-true}
 use Rattle.dual_model.proofs.Locality.{SameBelow}
 
 -- the test and the value depend on the periods below n alone

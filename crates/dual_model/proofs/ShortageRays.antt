@@ -5,14 +5,8 @@ use Rattle.std.specs.Int.{int_div_euclid, int_min, int_max}
 use Rattle.std.proofs.Math.Nat.{zero-div}
 use Rattle.std.proofs.lemmas.Int.{ints, clamps}
 use Rattle.std.proofs.lemmas.Bool.{cond-true, cond_both, lt-ltb}
-use Rattle.uc_model.specs.Sums.{sum_below, bit}
-use Rattle.uc_model.specs.Hull.{rise, Segment, segment_at, segment_width, hull_cost}
-use Rattle.uc_model.specs.Commitment.{starts, initial_p}
-use Rattle.uc_model.specs.StartCategory.{sigma, last_stop}
-use Rattle.uc_model.specs.Schedule.{thermal_unit, thermal_count, renewable_count, renewable_minimum, renewable_maximum, demand_at, reserve_at}
-use Rattle.uc_model.specs.Limits.{IsLawfulInstance}
-use Rattle.uc_model.proofs.Ring.{linear, mul-zero, zero-mul, mul-one, one-mul, mul_nonneg, mul-le-mul_left, neg-mul, le_trans, le_from_mul, pos_nonneg}
-use Rattle.uc_model.proofs.Sums.{sum_below-le, sum_below-zero, sum_below-single}
+use Rattle.uc_model.specs.Prelude.{sum_below, bit, rise, Segment, segment_at, segment_width, hull_cost, starts, initial_p, sigma, last_stop, thermal_unit, thermal_count, renewable_count, renewable_minimum, renewable_maximum, demand_at, reserve_at, IsLawfulInstance}
+use Rattle.uc_model.proofs.Common.{linear, mul-zero, zero-mul, mul-one, one-mul, mul_nonneg, mul-le-mul_left, neg-mul, le_trans, le_from_mul, pos_nonneg, sum_below-le, sum_below-zero, sum_below-single}
 use Rattle.dual_model.specs.Prices.{Instance, Table, pi_at, mu_at, up_at, down_at}
 use Rattle.dual_model.specs.Term.{Point, output_of, weighted_total, weighted_output, weighted_cost, IsTerm}
 use Rattle.dual_model.specs.Fixings.{Node}

@@ -3,16 +3,13 @@
 use Rattle.std.proofs.Common.{◌≡◌, ℕ, zero, suc, ◌*◌, ◌/◌, ◌<◌, ◌≤◌, ◌⊎◌, ⊎_elim, true, false, cond, true≢false, refl, sym, ap, subst, ◌∙◌, arith, List, length, ℤ, pos, ◌+ℤ◌, ◌-ℤ◌, ◌*ℤ◌, neg_ℤ, ◌≤ℤ◌, Some}
 use Rattle.std.proofs.lemmas.Nat.{div_below}
 use Rattle.std.proofs.lemmas.Bool.{cases_Bool}
-use Rattle.uc_model.specs.Points.{point_of, output_of}
-use Rattle.uc_model.specs.Hull.{Segment, hull_cost}
+use Rattle.uc_model.specs.Prelude.{point_of, output_of, Segment, hull_cost}
 use Rattle.uc_model.specs.Examples.{mw}
-use Rattle.uc_model.proofs.Ring.{linear, zero-mul, one-mul, neg-mul}
-use Rattle.uc_model.proofs.Sums.{sum_below-same, sum_below-const}
+use Rattle.uc_model.proofs.Common.{linear, zero-mul, one-mul, neg-mul, sum_below-same, sum_below-const, Rises, Steps, step_there}
 use Rattle.dual_model.specs.Prices.{pi_at, mu_at}
 use Rattle.dual_model.specs.ExactValue.{Point, Instance, Table, UnitSchedule, floored_slope, slope_from, floored_cost, IsUnitScheduleAt, IsUnitSchedule, exact_cell_value, exact_period_value, unit_schedule_value, IsExactUnitValue}
 use Rattle.dual_model.specs.Tree.{root}
 use Rattle.dual_model.specs.Examples.{alone, sinking_unit, zero_prices, ray, scaled_dollars}
-use Rattle.uc_model.proofs.HullSegments.{Rises, Steps, step_there}
 
 -- ---- L, where all its slopes are one
 pub flat_cost : (points : List Point) (k m : ℤ) (width q p : ℕ) → 0 < q → ((x : ℕ) → x < width → slope_from points k x ≡ m)

@@ -1,8 +1,7 @@
 -- Since when a commitment's state before a period lasts, and what that says of starts and stops.
 use Rattle.std.proofs.Common.{◌≡◌, ℕ, zero, suc, ◌<◌, ◌≤◌, ◌⊎◌, inl, inr, ⊎_elim, Bool, true, false, not, ◌&&◌, refl, sym, ap, subst, ◌∙◌, arith, Some, ◌==◌, if◌then◌else◌}
 use Rattle.std.proofs.lemmas.Bool.{cases_lt, eq-eqb, ne_eqb}
-use Rattle.uc_model.specs.Commitment.{Commitment, state_before, was_on, starts}
-use Rattle.uc_model.specs.StartCategory.{last_stop}
+use Rattle.uc_model.specs.Prelude.{Commitment, state_before, was_on, starts, last_stop}
 use Rattle.dual_model.specs.Moves.{Thermal, stop_since}
 use Rattle.dual_model.specs.CostToGo.{since_after}
 

@@ -1,17 +1,12 @@
 -- The least value by a unit's terms is the unit's value at the table that the terms are of.
 use Rattle.std.proofs.Common.{◌≡◌, ℕ, ◌<◌, Bool, true, false, refl, sym, ap, subst, ◌∙◌, arith, ℤ, pos, ◌+ℤ◌, ◌-ℤ◌, ◌*ℤ◌, ◌≤ℤ◌, IsTrue, Option, Some, None, unwrap_or, List, if◌then◌else◌}
-use Rattle.uc_model.specs.Sums.{sum_below}
-use Rattle.uc_model.specs.Commitment.{Commitment, starts, cap, is_allowed}
-use Rattle.uc_model.specs.StartCategory.{last_stop, sigma}
-use Rattle.uc_model.specs.Schedule.{thermal_unit}
-use Rattle.uc_model.proofs.Ring.{linear}
-use Rattle.uc_model.proofs.Sums.{sum_below-same}
+use Rattle.uc_model.specs.Prelude.{sum_below, Commitment, starts, cap, is_allowed, last_stop, sigma, thermal_unit, term_at, price_at}
+use Rattle.uc_model.proofs.Common.{linear, sum_below-same}
 use Rattle.dual_model.specs.Prices.{Instance, Table, pi_at}
 use Rattle.dual_model.specs.Fixings.{Fix, Node, IsPatternAt, IsFixOf, HasNoPattern}
 use Rattle.dual_model.specs.Term.{Point, IsTerm, IsTermAt, output_price, reserve_price}
 use Rattle.dual_model.specs.UnitValue.{Thermal, IsPatternValue, IsUnitValue, period_value}
 use Rattle.dual_model.proofs.UnitValues.{term_unique, cap-allowed}
-use Rattle.uc_model.specs.Terms.{term_at, price_at}
 use Rattle.dual_model.specs.PatternValue.{Terms, IsPattern, IsLeastValue, is_followed, term_of, pattern_value}
 use Rattle.dual_model.specs.PatternValue as by_terms
 use Rattle.dual_model.specs.TableValue.{IsCellTerm, AreTermsOf, IsUnitValueOf}

@@ -1,11 +1,9 @@
 -- Lists of prices and terms make terms of a unit, in shape and size, and those of a table where the rows are the table's.
 use Rattle.std.proofs.Common.{◌≡◌, ℕ, ◌<◌, ◌≤◌, List, length, refl, sym, subst, ◌∙◌, ℤ, Option, Some, None, IfSome, unsigned_abs}
-use Rattle.uc_model.specs.Schedule.{thermal_unit}
+use Rattle.uc_model.specs.Prelude.{thermal_unit, term_at, cell_cap}
 use Rattle.dual_model.specs.Term.{Instance, Point, output_price, reserve_price}
 use Rattle.dual_model.specs.declared.table.Table.{Table}
-use Rattle.uc_model.specs.Terms.{term_at}
 use Rattle.dual_model.specs.UnitTerms.{MAX_PERIODS, MAX_TERM, MAX_UNIT_PRICE, Terms, Thermal, AreSizedTerms, IsSized}
-use Rattle.uc_model.specs.Commitment.{cell_cap}
 use Rattle.dual_model.specs.TableValue.{row_at, ArePricesOf, AreTermsOfRows, AreTermsFor, AreRowsOf, AreTermsOf, IsCellTerm, IsLawfulRow, IsLawfulScale}
 
 abbrev pub made : ℤ → List ℤ → List (List (Option ℤ)) → Terms

@@ -1,13 +1,8 @@
 -- The value of a unit, computed over all its patterns: it is there exactly where the unit has a pattern at the node.
 use Rattle.std.proofs.Common.{◌≡◌, ℕ, ◌<◌, List, length, Bool, true, false, not, ◌&&◌, cond, refl, sym, ap, subst, ◌∙◌, arith, ⊎_elim, ℤ, pos, ◌+ℤ◌, ◌-ℤ◌, ◌*ℤ◌, ◌≤ℤ◌, IsTrue, int_le, max, Option, Some, None, option_map}
 use Rattle.std.proofs.lemmas.Bool.{and_parts, and_from, or_cases, not_from_true, true≢false}
-use Rattle.uc_model.specs.Sums.{sum_below}
-use Rattle.uc_model.specs.Commitment.{Commitment, starts, cap, is_allowed, is_allowed_at}
-use Rattle.uc_model.specs.StartCategory.{last_stop, sigma}
-use Rattle.uc_model.specs.Schedule.{thermal_unit}
-use Rattle.uc_model.proofs.Ring.{le_antisymm}
-use Rattle.uc_model.proofs.Sums.{sum_below-same}
-use Rattle.uc_model.proofs.Tests.{int_le-true, all_below-at}
+use Rattle.uc_model.specs.Prelude.{sum_below, Commitment, starts, cap, is_allowed, is_allowed_at, last_stop, sigma, thermal_unit}
+use Rattle.uc_model.proofs.Common.{le_antisymm, sum_below-same, int_le-true, all_below-at}
 use Rattle.dual_model.specs.Prices.{Instance, Table, pi_at}
 use Rattle.dual_model.specs.Fixings.{Node, unit_agrees, HasNoPattern}
 use Rattle.dual_model.specs.Term.{Point, IsTerm, IsTermAt, output_price, reserve_price}

@@ -1,8 +1,7 @@
 -- The laws of values over both kinds: each by cases from those of either, or from another one of both.
 use Rattle.std.proofs.Common.{ℕ, ◌<◌, Bool, true, false, ap, ◌∙◌, arith, pos, ◌*ℤ◌}
-use Rattle.uc_model.specs.Schedule.{thermal_count}
-use Rattle.uc_model.specs.Cost.{cost}
-use Rattle.uc_model.proofs.Ring.{linear, le_trans, mul-le-mul_left, mul-lt-mul_left, mul-zero, zero-mul}
+use Rattle.uc_model.specs.Prelude.{thermal_count, cost}
+use Rattle.uc_model.proofs.Common.{linear, le_trans, mul-le-mul_left, mul-lt-mul_left, mul-zero, zero-mul}
 use Rattle.dual_model.specs.Fixings.{Instance, Node}
 use Rattle.dual_model.specs.ValueKind.{IsBlocked, HasBlockedUnit}
 use Rattle.dual_model.specs.Laws.{WeakDuality, WeakDualityOfLeastStarts, RaysExclude, BlockedUnitsExclude, ValuesAreUnique, ValuesExist, ValuesExistAtSchedules, ChildBound}

@@ -2,16 +2,11 @@
 use Rattle.std.proofs.Common.{◌≡◌, ℕ, zero, suc, ◌+◌, ◌<◌, ◌≤◌, ⊎_elim, Bool, true, false, not, ◌&&◌, refl, sym, ap, subst, ◌∙◌, arith, ℤ, pos, ◌+ℤ◌, ◌-ℤ◌, ◌*ℤ◌, IsTrue, Option, Some, None, unwrap_or, ◌==◌, if◌then◌else◌}
 use mathlib.Core.Bool.{and-true, and-false}
 use Rattle.std.proofs.lemmas.Bool.{cond-true, cond-false, and_parts, and_from, true≢false, lt-ltb, le-ltb}
-use Rattle.uc_model.specs.Sums.{sum_below}
-use Rattle.uc_model.specs.Commitment.{Commitment, was_on, starts, stops}
-use Rattle.uc_model.specs.StartCategory.{last_stop, sigma}
-use Rattle.uc_model.proofs.Ring.{linear}
-use Rattle.uc_model.proofs.Sums.{sum_below-first, sum_below-same}
-use Rattle.uc_model.specs.Terms.{period_count, term_at, price_at}
+use Rattle.uc_model.specs.Prelude.{sum_below, Commitment, was_on, starts, stops, last_stop, sigma, period_count, term_at, price_at, may_stop, may_start}
+use Rattle.uc_model.proofs.Common.{linear, sum_below-first, sum_below-same}
 use Rattle.dual_model.specs.PatternValue.{Terms, Thermal, is_followed, term_of, period_value, pattern_value}
 use Rattle.dual_model.specs.Bellman.{MoveCosts, EndCosts, total_of, since_after, way_cost}
 use Rattle.dual_model.specs.Moves.{Fix, may_be_on, may_be_off, may_move, allowed, holds_initially, stop_since, hour_cost, hour_before, hour_and_start}
-use Rattle.uc_model.specs.Switches.{may_stop, may_start}
 use Rattle.dual_model.specs.CostToGo.{end_cost, way}
 use Rattle.dual_model.proofs.Optimum.{total_of-parts}
 use Rattle.dual_model.proofs.Switches.{since, since-start, last_stop-since}

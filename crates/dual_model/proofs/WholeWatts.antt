@@ -2,13 +2,8 @@
 -- for the j below q. Each rule is a limit on a difference of two of these numbers, so each of them keeps it, and their
 -- values add up.
 use Rattle.std.proofs.Common.{◌≡◌, ℕ, zero, suc, ◌+◌, ◌-◌, ◌/◌, ◌<◌, Bool, true, false, cond, List, refl, ap, ◌∙◌, arith, ℤ, pos, ◌+ℤ◌, ◌-ℤ◌, ◌*ℤ◌, ◌≤ℤ◌}
-use Rattle.uc_model.specs.Sums.{sum_below}
-use Rattle.uc_model.specs.Hull.{hull_cost}
-use Rattle.uc_model.specs.Commitment.{starts, start_cap, stop_cap, initial_p}
-use Rattle.uc_model.specs.StartCategory.{last_stop, sigma}
-use Rattle.uc_model.specs.Schedule.{thermal_unit}
-use Rattle.uc_model.proofs.Ring.{linear, one-mul, mul-add}
-use Rattle.uc_model.proofs.Sums.{sum_below-same, sum_below-zero, sum_below-add, sum_below-sub, sum_below-mul_left, sum_below-const, sum_below-swap, sum_below-le}
+use Rattle.uc_model.specs.Prelude.{sum_below, hull_cost, starts, start_cap, stop_cap, initial_p, last_stop, sigma, thermal_unit}
+use Rattle.uc_model.proofs.Common.{linear, one-mul, mul-add, sum_below-same, sum_below-zero, sum_below-add, sum_below-sub, sum_below-mul_left, sum_below-const, sum_below-swap, sum_below-le}
 use Rattle.dual_model.specs.Prices.{pi_at, mu_at}
 use Rattle.dual_model.specs.ExactValue.{Point, Thermal, Instance, Node, Table, UnitSchedule, greatest_output, slope_from, floored_cost, output_before, IsUnitScheduleAt, IsUnitSchedule, exact_cell_value, exact_period_value, unit_schedule_value}
 use Rattle.dual_model.specs.Laws.{WholeWattsBound, WholeWattsExist}

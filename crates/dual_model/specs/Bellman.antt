@@ -6,7 +6,7 @@
 -- Periods count from 0 here. None is what may not be.
 use Rattle.std.specs.Prelude.{ℕ, zero, suc, Bool, true, false, ℤ, ◌+ℤ◌, Option, Some, None}
 use Rattle.std.specs.Int.{int_min}
-use Rattle.uc_model.specs.Commitment.{Commitment}
+use Rattle.uc_model.specs.Prelude.{Commitment}
 
 -- what it costs to go on from a state before a period, the unit being on in the period or not: by the period, whether the unit was
 -- on and since when, and whether it is on

@@ -1,9 +1,7 @@
 -- When a certificate holds: its size is the instance's, its tables are lawful, its schedule obeys and costs
 -- what is written, and its tree carries its claim. This project's own format.
 use Rattle.std.specs.Prelude.{◌≡◌, ℕ, List, ℤ, Option, Some, None, IsTrue, All}
-use Rattle.uc_model.specs.Schedule.{thermal_count, renewable_count}
-use Rattle.uc_model.specs.Rules.{Obeys}
-use Rattle.uc_model.specs.PrintedSchedule.{HasShapeOf, printed_schedule, printed_denominator, printed_cost}
+use Rattle.uc_model.specs.Prelude.{thermal_count, renewable_count, Obeys, HasShapeOf, printed_schedule, printed_denominator, printed_cost}
 use Rattle.uc_model.specs.declared.schedule.Printed.{Printed}
 use Rattle.dual_model.specs.Prices.{Instance, Table, IsLawfulTable}
 use Rattle.dual_model.specs.Tree.{Tree, IsCover}

@@ -1,7 +1,7 @@
 -- The least cost of going on from a state to the end of the horizon, where an hour is paid for at the move behind it, and the cost
 -- of a commitment's way there.
 use Rattle.std.specs.Prelude.{ℕ, ◌*◌, ◌^◌, ◌≤◌, Bool, true, false, ◌==◌, ℤ, pos, unsigned_abs, Option, Some, IfSome}
-use Rattle.uc_model.specs.Commitment.{Commitment}
+use Rattle.uc_model.specs.Prelude.{Commitment}
 use Rattle.dual_model.specs.Bellman.{least_cost, way_cost}
 pub use Rattle.dual_model.specs.Bellman.{total_of, lesser_of, since_after}
 use Rattle.dual_model.specs.Moves.{Terms, Thermal, Fix, hour_before, move}

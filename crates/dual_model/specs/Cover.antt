@@ -3,8 +3,7 @@
 --
 -- The values are of one kind or the other, exact or not. Units and tables count from 0 here.
 use Rattle.std.specs.Prelude.{◌≡◌, ℕ, ◌<◌, ◌⊎◌, Bool, true, false, List, ℤ, pos, ◌≤ℤ◌, ◌<ℤ◌, slice_get, Some}
-use Rattle.uc_model.specs.Division.{IsFloor}
-use Rattle.uc_model.specs.Schedule.{thermal_count}
+use Rattle.uc_model.specs.Prelude.{IsFloor, thermal_count}
 use Rattle.dual_model.specs.Fixings.{Instance, Node}
 use Rattle.dual_model.specs.NodeValue.{Table}
 use Rattle.dual_model.specs.ValueKind.{IsValueOf, IsBlocked, HasBlockedUnit}

@@ -8,13 +8,8 @@
 -- Units and periods count from 0 here.
 use Rattle.std.specs.Prelude.{◌≡◌, ℕ, zero, suc, ◌-◌, ◌/◌, ◌<◌, ◌≤◌, List, false, ℤ, pos, ◌+ℤ◌, ◌-ℤ◌, ◌*ℤ◌, ◌≤ℤ◌, length, Option, Some, None, if◌then◌else◌}
 use Rattle.std.specs.Int.{int_div_euclid, int_max}
-use Rattle.uc_model.specs.Sums.{sum_below}
+use Rattle.uc_model.specs.Prelude.{sum_below, output_of, rise, Segment, segment_at, segment_width, hull_cost, Commitment, starts, start_cap, stop_cap, initial_p, last_stop, sigma, thermal_unit, thermal_count}
 pub use Rattle.uc_model.specs.declared.instance.Point.{Point}
-use Rattle.uc_model.specs.Points.{output_of}
-use Rattle.uc_model.specs.Hull.{rise, Segment, segment_at, segment_width, hull_cost}
-use Rattle.uc_model.specs.Commitment.{Commitment, starts, start_cap, stop_cap, initial_p}
-use Rattle.uc_model.specs.StartCategory.{last_stop, sigma}
-use Rattle.uc_model.specs.Schedule.{thermal_unit, thermal_count}
 pub use Rattle.uc_model.specs.declared.instance.Thermal.{Thermal}
 pub use Rattle.uc_model.specs.declared.instance.Instance.{Instance}
 use Rattle.dual_model.specs.Prices.{pi_at, mu_at}

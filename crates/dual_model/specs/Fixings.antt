@@ -5,10 +5,7 @@
 -- Units and periods count from 0 here.
 use Rattle.std.specs.Prelude.{◌≡◌, ℕ, ◌<◌, Bool, not, ◌||◌, ◌==◌, IsTrue, All, if◌then◌else◌}
 use Rattle.std.specs.List.{list_all}
-use Rattle.uc_model.specs.Sums.{all_below}
-use Rattle.uc_model.specs.Commitment.{Commitment, is_allowed}
-use Rattle.uc_model.specs.PatternBits.{commitment_of}
-use Rattle.uc_model.specs.Schedule.{Schedule, thermal_unit, thermal_count}
+use Rattle.uc_model.specs.Prelude.{all_below, Commitment, is_allowed, commitment_of, Schedule, thermal_unit, thermal_count}
 pub use Rattle.uc_model.specs.declared.instance.Instance.{Instance}
 pub use Rattle.dual_model.specs.declared.node.Fix.{Fix}
 pub use Rattle.dual_model.specs.declared.node.Fixing.{Fixing}

@@ -1,10 +1,7 @@
 -- The laws that make the value of a node a bound, as statements. Source: weak duality of the Lagrangian
 -- relaxation, and branch and bound, over the reference model by Knueven, Ostrowski and Watson.
 use Rattle.std.specs.Prelude.{◌≡◌, ℕ, ◌<◌, ◌⊎◌, Bool, Option, Some, None, List, ℤ, pos, ◌*ℤ◌, ◌≤ℤ◌, ◌<ℤ◌, IsTrue, slice_get}
-use Rattle.uc_model.specs.Schedule.{Schedule, thermal_count}
-use Rattle.uc_model.specs.Cost.{cost}
-use Rattle.uc_model.specs.Rules.{Obeys}
-use Rattle.uc_model.specs.Limits.{IsLawfulInstance}
+use Rattle.uc_model.specs.Prelude.{Schedule, thermal_count, cost, Obeys, IsLawfulInstance}
 use Rattle.dual_model.specs.Prices.{Instance, Table, HasSizeOf, HasLawfulSigns, IsLawfulTable}
 use Rattle.dual_model.specs.Fixings.{Node, agrees}
 use Rattle.dual_model.specs.NodeValue.{IsNodeValue}

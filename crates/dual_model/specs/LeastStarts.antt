@@ -2,13 +2,9 @@
 -- category's cost. Where a unit's start costs don't rise with the lag, each category that M6 allows may cost more. Source:
 -- the objective of the reference model by Knueven, Ostrowski and Watson, with the start costs that the values of units have.
 use Rattle.std.specs.Prelude.{ℕ, ℤ, pos, ◌+ℤ◌, ◌*ℤ◌, if◌then◌else◌}
-use Rattle.uc_model.specs.Sums.{sum_below}
-use Rattle.uc_model.specs.Commitment.{Commitment, starts}
-use Rattle.uc_model.specs.StartCategory.{last_stop, sigma}
-use Rattle.uc_model.specs.Schedule.{Row, Schedule, thermal_unit, thermal_count}
+use Rattle.uc_model.specs.Prelude.{sum_below, Commitment, starts, last_stop, sigma, Row, Schedule, thermal_unit, thermal_count, production_cost, shortage_cost}
 pub use Rattle.uc_model.specs.declared.instance.Thermal.{Thermal}
 pub use Rattle.uc_model.specs.declared.instance.Instance.{Instance}
-use Rattle.uc_model.specs.Cost.{production_cost, shortage_cost}
 
 -- the least start cost of a start in period t, and nothing where there is none, in micro-dollars
 abbrev pub least_start_cost : Thermal → Commitment → ℕ → ℤ

@@ -22,3 +22,4 @@ pub mod Bellman
 pub mod Choices
 pub mod Moves
 pub mod CostToGo
+pub mod Prelude

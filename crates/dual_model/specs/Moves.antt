@@ -2,13 +2,10 @@
 -- reference model by Knueven, Ostrowski and Watson, each said of the one period in which it decides.
 use Rattle.std.specs.Prelude.{ℕ, zero, suc, Bool, true, false, not, ◌&&◌, ◌||◌, ◌==◌, nat_lt, ℤ, pos, ◌-ℤ◌, ◌*ℤ◌, int_le, Option, Some, None, if◌then◌else◌}
 use Rattle.std.specs.Int.{int_min}
-use Rattle.uc_model.specs.PatternBits.{commitment_of}
-use Rattle.uc_model.specs.StartCategory.{sigma}
+use Rattle.uc_model.specs.Prelude.{commitment_of, sigma, may_start, may_stop, term_at, price_at}
 pub use Rattle.uc_model.specs.declared.instance.Thermal.{Thermal}
 pub use Rattle.uc_model.specs.declared.terms.Terms.{Terms}
 pub use Rattle.dual_model.specs.declared.node.Fix.{Fix}
-use Rattle.uc_model.specs.Switches.{may_start, may_stop}
-use Rattle.uc_model.specs.Terms.{term_at, price_at}
 use Rattle.dual_model.specs.Bellman.{MoveCosts}
 
 -- nothing that is decided wants the unit off in period t

@@ -2,8 +2,7 @@
 -- attains the unit's value. Source: the Lagrangian dual function of the reference model by Knueven, Ostrowski and
 -- Watson, whose subgradients such patterns give.
 use Rattle.std.specs.Prelude.{◌≡◌, ℕ, ◌*◌, ◌^◌, ◌<◌, ◌≤◌, ℤ, pos, unsigned_abs, length, slice_index_or}
-use Rattle.uc_model.specs.PatternBits.{commitment_of}
-use Rattle.uc_model.specs.Schedule.{thermal_count}
+use Rattle.uc_model.specs.Prelude.{commitment_of, thermal_count}
 use Rattle.uc_model.specs.declared.limits.TheConstants.{MAX_UNITS}
 use Rattle.uc_model.specs.declared.pattern.Pattern.{Pattern}
 use Rattle.dual_model.specs.NodeValue.{Instance, Node, Table, IsNodeValue, unit_part}

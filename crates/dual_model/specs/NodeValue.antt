@@ -4,9 +4,7 @@
 -- number is K times micro-dollars.
 use Rattle.std.specs.Prelude.{◌≡◌, ℕ, zero, ◌<◌, nat_lt, ℤ, pos, ◌+ℤ◌, ◌-ℤ◌, ◌*ℤ◌, neg_ℤ, int_lt, if◌then◌else◌}
 use Rattle.std.specs.Int.{int_min, int_max}
-use Rattle.uc_model.specs.Sums.{sum_below}
-use Rattle.uc_model.specs.Commitment.{initial_p}
-use Rattle.uc_model.specs.Schedule.{thermal_unit, thermal_count, renewable_count, renewable_minimum, renewable_maximum, demand_at, reserve_at, most_shed, most_short}
+use Rattle.uc_model.specs.Prelude.{sum_below, initial_p, thermal_unit, thermal_count, renewable_count, renewable_minimum, renewable_maximum, demand_at, reserve_at, most_shed, most_short}
 pub use Rattle.uc_model.specs.declared.instance.Thermal.{Thermal}
 pub use Rattle.uc_model.specs.declared.instance.Instance.{Instance}
 use Rattle.dual_model.specs.Prices.{pi_at, mu_at, up_at, down_at}

@@ -2,14 +2,11 @@
 -- Lagrangian relaxation of the reference model by Knueven, Ostrowski and Watson, with the start cost that
 -- the last stop alone allows in place of the category's.
 use Rattle.std.specs.Prelude.{◌≡◌, ℕ, suc, Bool, ◌&&◌, nat_lt, ℤ, pos, ◌+ℤ◌, ◌-ℤ◌, ◌*ℤ◌, ◌≤ℤ◌, IsTrue, unwrap_or, if◌then◌else◌}
-use Rattle.uc_model.specs.Sums.{sum_below}
-use Rattle.uc_model.specs.Commitment.{Commitment, starts, stops, is_allowed}
-use Rattle.uc_model.specs.StartCategory.{last_stop, sigma}
+use Rattle.uc_model.specs.Prelude.{sum_below, Commitment, starts, stops, is_allowed, last_stop, sigma, period_count, term_at, price_at}
 pub use Rattle.uc_model.specs.declared.instance.Thermal.{Thermal}
 pub use Rattle.uc_model.specs.declared.terms.Terms.{Terms}
 use Rattle.dual_model.specs.Fixings.{fix_agrees}
 pub use Rattle.dual_model.specs.declared.node.Fix.{Fix}
-use Rattle.uc_model.specs.Terms.{period_count, term_at, price_at}
 
 -- a pattern of the unit: allowed, and as the fix decides
 pub record IsPattern (periods : ℕ) (unit : Thermal) (fix : Fix) (on : Commitment) : Type 0 where

@@ -4,7 +4,7 @@
 --
 -- Units and periods count from 0 here.
 use Rattle.std.specs.Prelude.{◌≡◌, ℕ, suc, ◌<◌, ◌≤◌, ◌⊎◌, ◌≢◌, ◌-◌, ◌&&◌, ◌==◌, nat_lt, List, [], ◌∷◌, ℤ, pos, ◌≤ℤ◌, unsigned_abs, length, take, drop, slice_index_or, All, if◌then◌else◌}
-use Rattle.uc_model.specs.Schedule.{thermal_count}
+use Rattle.uc_model.specs.Prelude.{thermal_count}
 pub use Rattle.uc_model.specs.declared.instance.Instance.{Instance}
 pub use Rattle.dual_model.specs.declared.limits.TheConstants.{MAX_SCALE, MAX_PRICE}
 pub use Rattle.dual_model.specs.declared.table.Table.{Table}

@@ -1,14 +1,12 @@
 -- The terms of one unit of an instance at a price table, and the unit's value there. Source: the single-unit
 -- problems of the Lagrangian relaxation of the reference model by Knueven, Ostrowski and Watson.
 use Rattle.std.specs.Prelude.{◌≡◌, ℕ, ◌<◌, ◌≤◌, Bool, List, [], ℤ, pos, ◌≤ℤ◌, ◌<ℤ◌, unsigned_abs, length, slice_index_or, Option, None, IfSome, MatchOption}
-use Rattle.uc_model.specs.Schedule.{thermal_unit}
+use Rattle.uc_model.specs.Prelude.{thermal_unit, period_count, term_at, price_at, place, cell_cap}
 use Rattle.dual_model.specs.Prices.{Instance, Table, MAX_SCALE, pi_at}
 use Rattle.dual_model.specs.Fixings.{Node, HasNoPattern}
 use Rattle.dual_model.specs.Term.{Point, IsTerm, output_price, reserve_price}
 use Rattle.dual_model.specs.UnitValue.{Thermal, IsUnitValue}
-use Rattle.uc_model.specs.Terms.{period_count, term_at, price_at, place}
 use Rattle.dual_model.specs.UnitTerms.{MAX_TERM, MAX_UNIT_PRICE, Terms}
-use Rattle.uc_model.specs.Commitment.{cell_cap}
 
 -- the term of a cell of this cap, or nothing where the cap is below 0
 abbrev pub IsCellTerm : List Point → ℤ → ℤ → ℤ → ℤ → Option ℤ → Type 0

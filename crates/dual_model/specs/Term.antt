@@ -3,9 +3,8 @@
 -- the least cost of weights on the unit's points. A schedule is rational, so the weights are whole over any
 -- denominator q; the term is the greatest whole number that bounds all of them.
 use Rattle.std.specs.Prelude.{◌≡◌, ℕ, suc, List, ℤ, pos, ◌+ℤ◌, ◌-ℤ◌, ◌*ℤ◌, ◌≤ℤ◌}
-pub use Rattle.uc_model.specs.Points.{point_of, output_of, weighted_total, weighted_output, weighted_cost}
-use Rattle.uc_model.specs.Commitment.{Commitment, cap}
-use Rattle.uc_model.specs.Schedule.{thermal_unit}
+pub use Rattle.uc_model.specs.Prelude.{point_of, output_of, weighted_total, weighted_output, weighted_cost}
+use Rattle.uc_model.specs.Prelude.{Commitment, cap, thermal_unit}
 pub use Rattle.uc_model.specs.declared.instance.Point.{Point}
 pub use Rattle.uc_model.specs.declared.instance.Instance.{Instance}
 use Rattle.dual_model.specs.Prices.{Table, pi_at, mu_at, up_at, down_at}

@@ -5,7 +5,7 @@
 -- Units and periods count from 0 here.
 use Rattle.std.specs.Prelude.{ℕ, ◌+◌, ◌<◌, Bool, true, false, not, ◌&&◌, ◌||◌, ◌==◌, [], ◌∷◌, ◌++◌, IsTrue, if◌then◌else◌}
 use Rattle.std.specs.List.{list_any}
-use Rattle.uc_model.specs.Schedule.{Schedule, thermal_count}
+use Rattle.uc_model.specs.Prelude.{Schedule, thermal_count}
 use Rattle.dual_model.specs.Fixings.{Instance, Node, HasNoPattern, IsCell, agrees}
 
 -- a leaf, or a split on a unit and a period into the off-child and the on-child

@@ -4,10 +4,9 @@
 --
 -- Periods count from 0 here.
 use Rattle.std.specs.Prelude.{◌≡◌, ℕ, ◌<◌, ◌≤◌, Bool, ℤ, pos, ◌≤ℤ◌, ◌<ℤ◌, unsigned_abs, length, Option, MatchOption}
-use Rattle.uc_model.specs.Commitment.{cell_cap}
+use Rattle.uc_model.specs.Prelude.{cell_cap, period_count, price_at, term_at}
 pub use Rattle.uc_model.specs.declared.limits.TheConstants.{MAX_PERIODS, MAX_TERM}
 pub use Rattle.uc_model.specs.declared.instance.Thermal.{Thermal}
-use Rattle.uc_model.specs.Terms.{period_count, price_at, term_at}
 pub use Rattle.uc_model.specs.declared.terms.Terms.{Terms}
 pub use Rattle.dual_model.specs.declared.limits.TheConstants.{MAX_SCALE, MAX_UNIT_PRICE}
 

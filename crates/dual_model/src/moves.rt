@@ -1,8 +1,7 @@
 //! What a unit may do in a period, by its state before it, and what an hour costs.
 
 ghost use Rattle.std.specs.Prelude.{◌≡◌, ◌<◌, ◌≤◌, ◌-ℤ◌, ◌*ℤ◌, unsigned_abs};
-ghost use Rattle.uc_model.specs.Limits.{IsLawfulThermal};
-ghost use Rattle.uc_model.specs.Terms.{period_count, term_at as term_of};
+ghost use Rattle.uc_model.specs.Prelude.{IsLawfulThermal, period_count, term_at as term_of};
 ghost use Rattle.dual_model.specs.CostToGo.{IsWithin, MAX_MOVE};
 ghost use Rattle.dual_model.specs.Moves.{holds_initially as initially, hour_before as hour_of, initial_limit as limit_of};
 ghost use Rattle.dual_model.specs.UnitTerms.{AreSizedTerms};

@@ -1,16 +1,10 @@
 -- The value of a node from its parent's: what the other units add stays, and one part gives way to another.
 use Rattle.std.proofs.Common.{◌≡◌, ◌≢◌, ℕ, zero, suc, ◌+◌, ◌*◌, ◌<◌, ◌≤◌, ⊎_elim, Bool, false, List, Some, length, sym, ap, subst, ◌∙◌, arith, ℤ, pos, ◌+ℤ◌, ◌-ℤ◌, slice_set, unsigned_abs, get_or-set_other, get_or-set_same, length-set}
 use Rattle.std.proofs.lemmas.List.Elements.{All-pop}
-use Rattle.uc_model.specs.PatternBits.{commitment_of}
-use Rattle.uc_model.specs.Schedule.{thermal_count}
-use Rattle.uc_model.specs.Sums.{sum_below}
+use Rattle.uc_model.specs.Prelude.{commitment_of, thermal_count, sum_below}
 use Rattle.uc_model.specs.declared.pattern.Pattern.{Pattern}
-use Rattle.uc_model.proofs.Ring.{linear}
-use Rattle.uc_model.proofs.Sizes.{abs_add}
-use Rattle.uc_model.proofs.Sums.{below_or_last, sum_below-same}
-use Rattle.dual_model.specs.Fixings.{IsCell, IsFirstEmpty, IsNodeOf, IsPatternAt}
-use Rattle.dual_model.specs.NodeValue.{renewables_value, system_value, unit_part}
-use Rattle.dual_model.specs.UnitValue.{IsBestPattern}
+use Rattle.uc_model.proofs.Common.{linear, abs_add, below_or_last, sum_below-same}
+use Rattle.dual_model.specs.Prelude.{IsCell, IsFirstEmpty, IsNodeOf, IsPatternAt, renewables_value, system_value, unit_part, IsBestPattern}
 use Rattle.dual_model.specs.declared.node.Fixing.{Fixing}
 use Rattle.dual_model.specs.declared.node.Node.{Node}
 use Rattle.dual_model.specs.declared.table.Table.{Table}

@@ -2,15 +2,10 @@
 use Rattle.std.proofs.Common.{◌≡◌, ℕ, ◌<◌, ⊎_elim, inl, inr, Bool, true, false, refl, sym, ap, subst, ◌∙◌, arith, ℤ, pos, ◌≤ℤ◌, int_lt, if◌then◌else◌}
 use Rattle.std.specs.Int.{int_max}
 use Rattle.std.proofs.lemmas.Int.{ints, clamps}
-use Rattle.uc_model.specs.Limits.{IsLawfulInstance}
-use Rattle.uc_model.specs.PatternBits.{commitment_of}
-use Rattle.uc_model.specs.Schedule.{thermal_count}
+use Rattle.uc_model.specs.Prelude.{IsLawfulInstance, commitment_of, thermal_count}
 use Rattle.uc_model.specs.declared.pattern.Pattern.{Pattern}
-use Rattle.uc_model.proofs.Ring.{linear, one-mul}
-use Rattle.dual_model.specs.ExactValue.{HasNoUnitSchedule, IsExactUnitValue}
-use Rattle.dual_model.specs.Fixings.{IsPatternAt}
-use Rattle.dual_model.specs.NodeValue.{constant_at, unit_part}
-use Rattle.dual_model.specs.UnitValue.{IsBestPattern}
+use Rattle.uc_model.proofs.Common.{linear, one-mul}
+use Rattle.dual_model.specs.Prelude.{HasNoUnitSchedule, IsExactUnitValue, IsPatternAt, constant_at, unit_part, IsBestPattern}
 use Rattle.dual_model.specs.declared.node.Node.{Node}
 use Rattle.dual_model.specs.declared.table.Table.{Table}
 use Rattle.dual_model.proofs.ExactExists.{exact_unit_values_exist}

@@ -5,11 +5,9 @@ use Rattle.std.specs.List.{list_all}
 use Rattle.std.proofs.Math.Seq.{drop-cons}
 use Rattle.std.proofs.lemmas.List.{drop_all}
 use Rattle.std.proofs.lemmas.Bool.{cases_Bool, cases_lt, eq-eqb, ne_eqb, true≢false}
-use Rattle.uc_model.specs.Sums.{all_below}
-use Rattle.uc_model.specs.Commitment.{Commitment}
-use Rattle.uc_model.specs.PatternBits.{commitment_of}
-use Rattle.uc_model.proofs.Tests.{all_below-at, all_below-from}
-use Rattle.dual_model.specs.Fixings.{fix_agrees, keeps, keeps_of, unit_agrees}
+use Rattle.uc_model.specs.Prelude.{all_below, Commitment, commitment_of}
+use Rattle.uc_model.proofs.Common.{all_below-at, all_below-from}
+use Rattle.dual_model.specs.Prelude.{fix_agrees, keeps, keeps_of, unit_agrees}
 use Rattle.dual_model.proofs.Locality.{all_below-same}
 use Rattle.dual_value.specs.inside.Fixes.{Fix, Fixing, Node, IsFixWith, IsPlain}
 

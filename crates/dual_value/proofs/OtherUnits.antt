@@ -3,12 +3,9 @@ use Rattle.std.proofs.Common.{◌≡◌, ◌≢◌, ℕ, Bool, true, not, ◌&&�
 use mathlib.Core.Bool.{and-true}
 use Rattle.std.proofs.lemmas.Bool.{ne_eqb}
 use Rattle.std.proofs.lemmas.List.Folds.{list_all-append}
-use Rattle.uc_model.specs.Commitment.{Commitment}
-use Rattle.uc_model.specs.PatternBits.{commitment_of}
+use Rattle.uc_model.specs.Prelude.{Commitment, commitment_of}
 use Rattle.uc_model.specs.declared.pattern.Pattern.{Pattern}
-use Rattle.dual_model.specs.Fixings.{IsPatternAt, keeps, keeps_of, unit_agrees}
-use Rattle.dual_model.specs.Tree.{child}
-use Rattle.dual_model.specs.UnitValue.{IsBestPattern}
+use Rattle.dual_model.specs.Prelude.{IsPatternAt, keeps, keeps_of, unit_agrees, child, IsBestPattern}
 use Rattle.dual_model.specs.declared.node.Fixing.{Fixing}
 use Rattle.dual_model.specs.declared.node.Node.{Node}
 use Rattle.dual_model.specs.declared.table.Table.{Table}

@@ -1,6 +1,7 @@
 -- What a node decides of a unit, by what `fix_of` says.
 use Rattle.std.proofs.Common.{◌≡◌, ℕ, sym, subst, ◌∙◌, Option, Some, None, MatchOption, true≢false}
-use Rattle.dual_model.specs.Fixings.{HasNoPattern, IsFixOf}
+use Rattle.dual_model.specs.Prelude.{IsFixOf}
+use Rattle.dual_model.specs.Fixings.{HasNoPattern}
 use Rattle.dual_value.specs.NodeAnswer.{Instance}
 use Rattle.dual_model.specs.declared.node.Node.{Node}
 use Rattle.dual_value.specs.inside.Fixes.{Fix, AreBelow, Contradicts}

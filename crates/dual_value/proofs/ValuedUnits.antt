@@ -2,17 +2,10 @@
 use Rattle.std.proofs.Common.{◌≡◌, ℕ, Bool, true, false, ◌⊎◌, inl, inr, suc, ◌+◌, ◌*◌, ◌<◌, ◌≤◌, ⊎_elim, List, length, add-one, sym, ap, subst, ◌∙◌, arith, ℤ, pos, ◌+ℤ◌, ◌-ℤ◌, slice_index_or, slice_set, unsigned_abs, get_or-set_other, get_or-set_same, length-set, Result, Ok, Err, IfErr, IsErrAnd}
 use Rattle.std.proofs.lemmas.Bool.{cases_lt}
 use Rattle.std.proofs.lemmas.List.Elements.{All-from_get_or}
-use Rattle.uc_model.specs.PatternBits.{commitment_of}
-use Rattle.uc_model.specs.Schedule.{thermal_count}
-use Rattle.uc_model.specs.Sums.{sum_below}
+use Rattle.uc_model.specs.Prelude.{commitment_of, thermal_count, sum_below}
 use Rattle.uc_model.specs.declared.pattern.Pattern.{Pattern}
-use Rattle.uc_model.proofs.Ring.{linear}
-use Rattle.uc_model.proofs.Sizes.{abs_add}
-use Rattle.uc_model.proofs.Sums.{sum_below-same}
-use Rattle.dual_model.specs.ExactValue.{IsExactUnitValue, exact_part, parts_total}
-use Rattle.dual_model.specs.NodeValue.{constant_at, node_total, renewables_value, system_value, unit_part}
-use Rattle.dual_model.specs.UnitValue.{IsBestPattern, IsUnitValue}
-use Rattle.dual_model.specs.ValueKind.{IsBlocked, IsFirstBlocked}
+use Rattle.uc_model.proofs.Common.{linear, abs_add, sum_below-same}
+use Rattle.dual_model.specs.Prelude.{IsExactUnitValue, exact_part, parts_total, constant_at, node_total, renewables_value, system_value, unit_part, IsBestPattern, IsUnitValue, IsBlocked, IsFirstBlocked}
 use Rattle.dual_model.specs.declared.table.Table.{Table}
 use Rattle.dual_model.specs.declared.valued.Valued.{Valued}
 use Rattle.dual_value.specs.NodeAnswer.{Empty, Instance, NoMemory, ValueFault, HasSizes, IsExactValued, IsFaultOfKind, IsPartFault, IsPartOfKind, IsValued, IsValuedOf, MAX_PART}

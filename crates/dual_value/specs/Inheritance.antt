@@ -2,7 +2,7 @@
 -- other units stay. Source: branch and bound on the commitment variables of the reference model by Knueven, Ostrowski and
 -- Watson, with the Lagrangian bound, which is a sum over units.
 use Rattle.std.specs.Prelude.{◌≡◌, ℕ, Bool}
-use Rattle.dual_model.specs.Tree.{child}
+use Rattle.dual_model.specs.Prelude.{child}
 use Rattle.dual_model.specs.declared.node.Node.{Node}
 use Rattle.dual_model.specs.declared.table.Table.{Table}
 use Rattle.dual_model.specs.declared.valued.Valued.{Valued}

@@ -1,16 +1,11 @@
 -- What an evaluation answers: the value of a node at a table, or the first unit without a pattern. Source: the Lagrangian
 -- dual function of the reference model by Knueven, Ostrowski and Watson.
-pub use Rattle.dual_model.specs.NodeAnswer.{IsPartOf, IsValued, MAX_PART, MAX_VALUE}
+pub use Rattle.dual_model.specs.Prelude.{IsPartOf, IsValued, MAX_PART, MAX_VALUE}
 use Rattle.std.specs.Prelude.{◌≡◌, ℕ, ⊤, ◌+◌, ◌<◌, ◌≤◌, ◌⊎◌, Bool, true, false, ℤ, pos, ◌-ℤ◌, unsigned_abs, length, slice_index_or, All}
-use Rattle.uc_model.specs.Sums.{sum_below}
+use Rattle.uc_model.specs.Prelude.{sum_below, commitment_of, thermal_count, thermal_unit}
 pub use Rattle.uc_model.specs.declared.instance.Instance.{Instance}
-use Rattle.uc_model.specs.PatternBits.{commitment_of}
-use Rattle.uc_model.specs.Schedule.{thermal_count, thermal_unit}
 use Rattle.uc_model.specs.declared.pattern.Pattern.{Pattern}
-use Rattle.dual_model.specs.ExactValue.{IsExactNodeValue, IsExactUnitValue, exact_part}
-use Rattle.dual_model.specs.Fixings.{IsPatternAt}
-use Rattle.dual_model.specs.UnitValue.{IsUnitValue}
-use Rattle.dual_model.specs.ValueKind.{IsBlocked, IsFirstBlocked}
+use Rattle.dual_model.specs.Prelude.{IsExactNodeValue, IsExactUnitValue, exact_part, IsPatternAt, IsUnitValue, IsBlocked, IsFirstBlocked}
 use Rattle.dual_model.specs.declared.table.Table.{Table}
 use Rattle.dual_model.specs.declared.node.Node.{Node}
 use Rattle.dual_model.specs.declared.valued.Valued.{Valued}

@@ -7,7 +7,7 @@ use Rattle.uc_model.specs.declared.instance.Thermal.{Thermal}
 use Rattle.uc_model.specs.declared.limits.TheConstants.{MAX_PERIODS, MAX_UNITS}
 use Rattle.dual_model.specs.declared.table.Table.{Table}
 use Rattle.cost_curves.specs.LowerHull.{IsLowerHull}
-use Rattle.uc_model.specs.Schedule.{thermal_count, thermal_unit}
+use Rattle.uc_model.specs.Prelude.{thermal_count, thermal_unit}
 use Rattle.cost_curves.specs.UnitCurves.{curve_in, AreCurvesOf}
 pub use Rattle.unit_exact.specs.Sizes.{Size}
 

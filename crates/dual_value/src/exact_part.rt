@@ -2,15 +2,8 @@
 
 ghost use Rattle.std.specs.Prelude.{◌≡◌, ◌<◌, ◌≤◌, ◌+ℤ◌, true, int_lt, IfErr, IfOk, length, unsigned_abs, if◌then◌else◌};
 ghost use Rattle.cost_curves.specs.LowerHull.{IsLowerHull};
-ghost use Rattle.uc_model.specs.Limits.{IsLawfulInstance};
-ghost use Rattle.uc_model.specs.PatternBits.{commitment_of};
-ghost use Rattle.uc_model.specs.Schedule.{thermal_count, thermal_unit};
-ghost use Rattle.dual_model.specs.Fixings.{IsFixOf};
-ghost use Rattle.dual_model.specs.NodeValue.{constant_at};
-ghost use Rattle.dual_model.specs.Prices.{HasSizeOf, IsWithinLimits};
-ghost use Rattle.dual_model.specs.TableValue.{AreTermsOf};
-ghost use Rattle.dual_model.specs.UnitTerms.{AreSizedTerms};
-ghost use Rattle.dual_model.specs.UnitValue.{IsBestPattern};
+ghost use Rattle.uc_model.specs.Prelude.{IsLawfulInstance, commitment_of, thermal_count, thermal_unit};
+ghost use Rattle.dual_model.specs.Prelude.{IsFixOf, constant_at, HasSizeOf, IsWithinLimits, AreTermsOf, AreSizedTerms, IsBestPattern};
 ghost use Rattle.dual_model.specs.declared.node.Node.{Node};
 ghost use Rattle.dual_value.specs.NodeAnswer.{IsExactPartOf, IsPartFault, MAX_PART};
 ghost use Rattle.dual_value.specs.inside.Parts.{IsSizedPart};

@@ -1,7 +1,7 @@
 //! What a node decides of one unit.
 
 ghost use Rattle.std.specs.Prelude.{ℕ, ◌<◌, MatchOption, IfSome};
-ghost use Rattle.dual_model.specs.Fixings.{IsFixOf};
+ghost use Rattle.dual_model.specs.Prelude.{IsFixOf};
 ghost use Rattle.dual_value.specs.inside.Fixes.{AreBelow, Contradicts, IsFixWith, IsPlain};
 
 use dual_model::{Fix, Fixing, Node};

@@ -1,9 +1,8 @@
 //! The value of a node from its parent's.
 
 ghost use Rattle.std.specs.Prelude.{◌≡◌, ◌+◌, ◌<◌, ◌≤◌, pos, ◌-ℤ◌, IfOk, IfErr, length, slice_index_or, slice_set, unsigned_abs};
-ghost use Rattle.uc_model.specs.Limits.{IsLawfulInstance};
-ghost use Rattle.dual_model.specs.Fixings.{IsNodeOf};
-ghost use Rattle.dual_model.specs.Prices.{HasSizeOf, IsWithinLimits};
+ghost use Rattle.uc_model.specs.Prelude.{IsLawfulInstance};
+ghost use Rattle.dual_model.specs.Prelude.{IsNodeOf, HasSizeOf, IsWithinLimits};
 ghost use Rattle.dual_value.specs.Inheritance.{IsParentOf};
 ghost use Rattle.dual_value.specs.NodeAnswer.{HasSizes, IsFaultOf, IsValued, MAX_PART, MAX_VALUE};
 ghost use Rattle.dual_value.specs.Rooms.{IsRoomOf};

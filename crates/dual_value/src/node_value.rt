@@ -1,9 +1,8 @@
 //! The value of a node at a table.
 
 ghost use Rattle.std.specs.Prelude.{◌≡◌, IfOk, IfErr, length};
-ghost use Rattle.uc_model.specs.Limits.{IsLawfulInstance};
-ghost use Rattle.dual_model.specs.Fixings.{IsNodeOf};
-ghost use Rattle.dual_model.specs.Prices.{HasSizeOf, IsWithinLimits};
+ghost use Rattle.uc_model.specs.Prelude.{IsLawfulInstance};
+ghost use Rattle.dual_model.specs.Prelude.{IsNodeOf, HasSizeOf, IsWithinLimits};
 ghost use Rattle.dual_value.specs.NodeAnswer.{HasSizes, IsExactFaultOf, IsExactValued, IsFaultOf, IsFaultOfKind, IsValued, IsValuedOf};
 ghost use Rattle.dual_value.specs.Rooms.{IsExactRoomOf, IsRoomFor, IsRoomOf, keeps_ramps};
 

@@ -1,8 +1,7 @@
 //! What the evaluations of one instance share, made once.
 
 ghost use Rattle.std.specs.Prelude.{◌≡◌, ◌<◌, ◌≤◌, ℕ, Bool, IfOk, get_or, length};
-ghost use Rattle.uc_model.specs.Limits.{IsLawfulInstance};
-ghost use Rattle.uc_model.specs.Schedule.{no_unit};
+ghost use Rattle.uc_model.specs.Prelude.{IsLawfulInstance, no_unit};
 ghost use Rattle.cost_curves.specs.UnitCurves.{AreCurvesOf};
 ghost use Rattle.dual_value.specs.Rooms.{Instance, IsExactRoomOf, IsRoomFor, IsRoomOf, keeps_ramps};
 

@@ -1,16 +1,8 @@
 //! What one thermal unit adds to a node's value.
 
 ghost use Rattle.std.specs.Prelude.{◌≡◌, ◌<◌, ◌≤◌, IfOk, IfErr, length, unsigned_abs};
-ghost use Rattle.uc_model.specs.Limits.{IsLawfulInstance, IsLawfulThermal};
-ghost use Rattle.uc_model.specs.Schedule.{thermal_count, thermal_unit};
-ghost use Rattle.uc_model.specs.PatternBits.{commitment_of};
-ghost use Rattle.dual_model.specs.Fixings.{IsFixOf, IsNodeOf};
-ghost use Rattle.dual_model.specs.NodeValue.{constant_at};
-ghost use Rattle.dual_model.specs.Prices.{HasSizeOf, IsWithinLimits};
-ghost use Rattle.dual_model.specs.TableValue.{AreTermsOf};
-ghost use Rattle.uc_model.specs.Terms.{period_count};
-ghost use Rattle.dual_model.specs.UnitTerms.{AreSizedTerms};
-ghost use Rattle.dual_model.specs.UnitValue.{IsBestPattern};
+ghost use Rattle.uc_model.specs.Prelude.{IsLawfulInstance, IsLawfulThermal, thermal_count, thermal_unit, commitment_of, period_count};
+ghost use Rattle.dual_model.specs.Prelude.{IsFixOf, IsNodeOf, constant_at, HasSizeOf, IsWithinLimits, AreTermsOf, AreSizedTerms, IsBestPattern};
 ghost use Rattle.dual_model.specs.declared.node.Node.{Node};
 ghost use Rattle.dual_value.specs.NodeAnswer.{Instance, IsPartFault, IsPartOfKind, MAX_PART};
 ghost use Rattle.dual_value.specs.Rooms.{IsPlaceIn, IsRoomFor, keeps_ramps};

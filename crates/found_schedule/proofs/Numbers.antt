@@ -6,16 +6,8 @@ use Rattle.std.proofs.lemmas.Bool.{cases_lt, cond-false, eqb-true}
 use Rattle.std.proofs.lemmas.Int.{ints}
 use Rattle.std.proofs.lemmas.List.{get_or_past}
 use Rattle.std.proofs.lemmas.List.Elements.{All-get_or}
-use Rattle.uc_model.specs.Commitment.{was_on}
-use Rattle.uc_model.specs.Limits.{IsLawfulInstance, IsPower}
-use Rattle.uc_model.specs.PrintedSchedule.{HasShapeOf, cell_at, shed_at, short_at, printed_denominator, printed_schedule}
-use Rattle.uc_model.specs.Rules.{Category, Production}
-use Rattle.uc_model.specs.Schedule.{thermal_unit, thermal_count, demand_at, reserve_at}
-use Rattle.uc_model.specs.StartCategory.{is_category_allowed}
-use Rattle.uc_model.proofs.Obeyed.{rule_at}
-use Rattle.uc_model.proofs.PrintedCosts.{watts-factor}
-use Rattle.uc_model.proofs.Ring.{linear, scale-le-scale}
-use Rattle.uc_model.proofs.Shortages.{printed_shed, printed_short}
+use Rattle.uc_model.specs.Prelude.{was_on, IsLawfulInstance, IsPower, HasShapeOf, cell_at, shed_at, short_at, printed_denominator, printed_schedule, Category, Production, thermal_unit, thermal_count, demand_at, reserve_at, is_category_allowed}
+use Rattle.uc_model.proofs.Common.{rule_at, watts-factor, linear, scale-le-scale, printed_shed, printed_short}
 use Rattle.schedule_check.specs.SizedNumbers.{HasSizedNumbers, IsSized}
 use Rattle.schedule_check.specs.WholeWatts.{over, row_of}
 use Rattle.schedule_check.proofs.Priced.{priced_over}

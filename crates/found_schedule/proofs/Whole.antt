@@ -1,6 +1,6 @@
 -- A schedule that is accepted in whole watts is one that a search lets out.
 use Rattle.std.proofs.Common.{◌≡◌, Bool, false, arith, ℤ, Option, None, Some}
-use Rattle.uc_model.specs.Limits.{IsLimit}
+use Rattle.uc_model.specs.Prelude.{IsLimit}
 use Rattle.schedule_check.specs.Accepted.{IsAccepted, IsAcceptedIfFound}
 use Rattle.schedule_check.specs.SizedNumbers.{IsSized}
 use Rattle.schedule_check.proofs.Plain.{sized}

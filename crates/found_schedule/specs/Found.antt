@@ -1,8 +1,7 @@
 -- What a search lets out: a schedule that obeys, with its cost, in whole watts or, by the exact dispatch, over a denominator; its numbers can be
 -- written in a certificate. This project's own form.
 use Rattle.std.specs.Prelude.{◌≡◌, ℕ, ◌≤◌, Bool, false, ℤ, IfSome, Option, unsigned_abs}
-use Rattle.uc_model.specs.PrintedSchedule.{HasShapeOf, cell_at, shed_at, short_at, printed_denominator, printed_schedule, printed_cost}
-use Rattle.uc_model.specs.Rules.{Obeys}
+use Rattle.uc_model.specs.Prelude.{HasShapeOf, cell_at, shed_at, short_at, printed_denominator, printed_schedule, printed_cost, Obeys}
 pub use Rattle.uc_model.specs.declared.instance.Instance.{Instance}
 use Rattle.uc_model.specs.declared.limits.TheConstants.{COST_MAX, MAX_START_ROWS}
 use Rattle.schedule_check.specs.Accepted.{IsAccepted}

@@ -1,8 +1,7 @@
 //! The door for schedules over a denominator: what the feasibility check accepts goes through.
 
 ghost use Rattle.std.specs.Prelude.{◌≡◌, true, IfSome, Some};
-ghost use Rattle.uc_model.specs.Limits.{IsLawfulInstance};
-ghost use Rattle.uc_model.specs.PrintedSchedule.{HasShapeOf, printed_cost};
+ghost use Rattle.uc_model.specs.Prelude.{IsLawfulInstance, HasShapeOf, printed_cost};
 ghost use Rattle.schedule_check.specs.SizedNumbers.{HasSizedNumbers};
 ghost use Rattle.found_schedule.specs.Found.{IsFound, IsObeying};
 

@@ -5,7 +5,7 @@ use Rattle.std.specs.Int.{◌∣◌}
 use Rattle.std.proofs.Math.Nat.{dvd-mul_left, dvd-mul_right, mul-dvd-mul_left, dvd_of_mul-dvd-mul_left, eq-zero_of_zero-dvd, mul-div_cancel'}
 use Rattle.std.proofs.lemmas.Nat.Gcd.{dvd_refl, dvd_trans, le_of_dvd}
 use Rattle.std.proofs.lemmas.Int.{ints, unsigned_abs-mul}
-use Rattle.uc_model.proofs.Ring.{linear, mul_comm, mul_assoc, mul-zero, neg-mul, mul-lt-mul_left}
+use Rattle.uc_model.proofs.Common.{linear, mul_comm, mul_assoc, mul-zero, neg-mul, mul-lt-mul_left}
 use Rattle.pivot_run.specs.Rows.{divisor_of, entry, total_size}
 use Rattle.pivot_run.proofs.Divisors.{divisor_of-positive, divisor_of-divides, divisor_of-greatest}
 use Rattle.cost_curves.proofs.LowestTerms.{coprime-dvd}

@@ -2,8 +2,8 @@
 use Rattle.std.proofs.Common.{◌≡◌, ℕ, ◌*◌, ◌<◌, ◌≤◌, lit<, ap, subst, sym, ◌∙◌, arith, List, ℤ, pos, ◌-ℤ◌, ◌*ℤ◌, neg_ℤ, ◌≤ℤ◌, to_z, of_z, unsigned_abs, slice_index_or, FitsSigned}
 use Rattle.std.specs.Int.{w64, w128, int_max}
 use Rattle.std.proofs.lemmas.Int.{ints, clamps}
-use Rattle.uc_model.proofs.Sizes.{narrow, scaled-size}
-use Rattle.dual_model.specs.Prices.{pi_at, mu_at}
+use Rattle.uc_model.proofs.Common.{narrow, scaled-size}
+use Rattle.dual_model.specs.Prelude.{pi_at, mu_at}
 use Rattle.unit_runs.specs.CostThrough.{reserve_worth}
 use Rattle.hull_function.specs.Problems.{IsLawfulProblem, Table, Thermal, MAX_POWER, MAX_PRICE}
 

@@ -2,9 +2,8 @@
 use Rattle.std.proofs.Common.{◌≡◌, ℕ, lit<, ◌+◌, ◌*◌, ◌≤◌, sym, ap, subst, ◌∙◌, arith, ℤ, pos, ◌+ℤ◌, ◌-ℤ◌, ◌*ℤ◌, neg_ℤ, ◌≤ℤ◌, to_z, of_z, unsigned_abs}
 use Rattle.std.specs.Int.{w64, w128, int_max, int_min}
 use Rattle.std.proofs.lemmas.Int.{ints, clamps}
-use Rattle.uc_model.specs.Limits.{IsLimit}
-use Rattle.uc_model.proofs.Ring.{linear, mul-sub}
-use Rattle.uc_model.proofs.Sizes.{abs_mul, narrow}
+use Rattle.uc_model.specs.Prelude.{IsLimit}
+use Rattle.uc_model.proofs.Common.{linear, mul-sub, abs_mul, narrow}
 use Rattle.step_functions.specs.Functions.{Steps, IsPlace, IsSmall, last_place, shortfall, value_at}
 use Rattle.hull_function.specs.Hulls.{IsBounded, IsHullFunction}
 use Rattle.hull_function.specs.Hours.{Hour, IsNear, IsSizedHour, MAX_OUTPUT_COST, MAX_RESERVE, MAX_RUN}

@@ -1,10 +1,8 @@
 -- L on the points of a lawful unit begins at 0 and ends at an output.
 use Rattle.std.proofs.Common.{◌-◌, ◌*◌, ◌<◌, ◌≤◌, subst, sym, arith, length, ℤ, pos, ◌-ℤ◌, ◌≤ℤ◌, unsigned_abs}
 use Rattle.std.proofs.lemmas.Int.{ints}
-use Rattle.uc_model.specs.Limits.{IsLawfulThermal}
-use Rattle.uc_model.proofs.HullSegments.{Rises, outputs_rise}
-use Rattle.uc_model.specs.Points.{point_of}
-use Rattle.uc_model.proofs.Ring.{linear}
+use Rattle.uc_model.specs.Prelude.{IsLawfulThermal, point_of}
+use Rattle.uc_model.proofs.Common.{Rises, outputs_rise, linear}
 use Rattle.step_functions.specs.Functions.{Steps}
 use Rattle.uc_model.specs.declared.limits.TheConstants.{MAX_POWER}
 use Rattle.hull_function.specs.Hulls.{IsHull, IsHullFunction}

@@ -1,15 +1,10 @@
 -- The slopes of L rise from step to step, and are those of any segment of the hull that a step lies on.
 -- Cite from a crate above by `use Rattle.hull_function.proofs.HullSlopes.{slope-of}`.
 use Rattle.std.proofs.Common.{◌≡◌, ℕ, suc, ◌≤◌, sym, ap, subst, ◌∙◌, arith, List, ℤ, pos, ◌+ℤ◌, ◌-ℤ◌, ◌*ℤ◌, ◌≤ℤ◌, ◌<ℤ◌, Some}
-use Rattle.uc_model.specs.Division.{IsFloor}
-use Rattle.uc_model.specs.Points.{output_of}
+use Rattle.uc_model.specs.Prelude.{IsFloor, output_of, run, rise, Segment, segment_width}
 use Rattle.uc_model.specs.declared.instance.Point.{Point}
-use Rattle.uc_model.specs.Hull.{run, rise, Segment, segment_width}
-use Rattle.uc_model.proofs.Ring.{linear, mul_comm, mul_assoc, mul_left_comm, mul-add, sub-mul, mul-le-mul_left, mul-le-mul_right, le_from_mul, le_antisymm}
-use Rattle.uc_model.proofs.Quotients.{IsFloor-greatest, IsFloor-int_div_euclid}
-use Rattle.uc_model.proofs.HullPoints.{width_is}
-use Rattle.uc_model.proofs.HullSegments.{IsUnder, Steps}
-use Rattle.dual_model.specs.ExactValue.{floored_slope, slope_from}
+use Rattle.uc_model.proofs.Common.{linear, mul_comm, mul_assoc, mul_left_comm, mul-add, sub-mul, mul-le-mul_left, mul-le-mul_right, le_from_mul, le_antisymm, IsFloor-greatest, IsFloor-int_div_euclid, width_is, IsUnder, Steps}
+use Rattle.dual_model.specs.Prelude.{floored_slope, slope_from}
 
 -- ---- over plain numbers: a line from a, of the width v and the rise m, and one to d, of the width w and the rise n; a lies `back`
 -- right of where the second begins, and no lower than its line there; d lies `ahead` right of a, and no lower than the first

@@ -3,19 +3,12 @@ use Rattle.std.proofs.Common.{◌≡◌, ℕ, suc, ◌+◌, ◌-◌, ◌*◌, �
 use Rattle.std.specs.Int.{w64}
 use Rattle.std.proofs.lemmas.Int.{ints}
 use Rattle.std.proofs.lemmas.Bool.{cases_lt}
-use Rattle.uc_model.specs.Division.{IsFloor}
-use Rattle.uc_model.specs.Sums.{sum_below}
-use Rattle.uc_model.specs.Points.{point_of, output_of}
-use Rattle.uc_model.specs.Hull.{run, rise, hull_cost, Segment, segment_width}
+use Rattle.uc_model.specs.Prelude.{IsFloor, sum_below, point_of, output_of, run, rise, hull_cost, Segment, segment_width}
 use Rattle.uc_model.specs.declared.instance.Point.{Point}
 use Rattle.uc_model.specs.declared.limits.TheConstants.{MAX_COST, MAX_POINTS, MAX_POWER}
-use Rattle.uc_model.proofs.Ring.{linear, one-mul, mul_comm, mul-le-mul_left, mul-le-mul_turned, mul_nonneg, le_or_lt, mul-zero}
-use Rattle.uc_model.proofs.Sizes.{abs_mul}
-use Rattle.uc_model.proofs.Sums.{sum_below-same}
-use Rattle.uc_model.proofs.Quotients.{IsFloor_unique, IsFloor-int_div_euclid}
-use Rattle.uc_model.proofs.HullPoints.{abs_is, width_is}
-use Rattle.uc_model.proofs.HullSegments.{IsUnder, is_held, outputs_rise, step_there}
-use Rattle.dual_model.specs.ExactValue.{floored_cost, floored_slope, greatest_output, slope_from}
+use Rattle.uc_model.proofs.Common.{linear, one-mul, mul_comm, mul-le-mul_left, mul-le-mul_turned, mul_nonneg, le_or_lt, mul-zero, abs_mul, sum_below-same, IsFloor_unique, IsFloor-int_div_euclid, abs_is, width_is, IsUnder, is_held, outputs_rise, step_there}
+use Rattle.dual_model.specs.Prelude.{floored_slope, greatest_output, slope_from}
+use Rattle.dual_model.specs.ExactValue.{floored_cost}
 use Rattle.cost_curves.specs.LeastCost.{IsSegmentAt}
 use Rattle.cost_curves.specs.LowerHull.{AreLawfulPoints, IsLawfulPoint}
 use Rattle.cost_curves.proofs.JoinedCorners.{rises}

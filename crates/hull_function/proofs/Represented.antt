@@ -3,11 +3,9 @@ use Rattle.std.proofs.Common.{◌≡◌, ℕ, ◌≤◌, ◌↔◌, Bool, true, 
 use Rattle.std.specs.Int.{int_max, int_min}
 use Rattle.std.proofs.lemmas.Int.{ints, clamps}
 use Rattle.std.proofs.lemmas.Bool.{cond-true, and_parts, and_from}
-use Rattle.uc_model.proofs.Ring.{linear, le_antisymm}
-use Rattle.uc_model.proofs.Tests.{int_le-true, le-int_le, int_min_left, int_min_right}
-use Rattle.uc_model.proofs.HullPoints.{abs_is}
+use Rattle.uc_model.proofs.Common.{linear, le_antisymm, int_le-true, le-int_le, int_min_left, int_min_right, abs_is}
+use Rattle.dual_model.specs.Prelude.{greatest_output}
 use Rattle.dual_model.specs.CostToGo.{total_of}
-use Rattle.dual_model.specs.ExactValue.{greatest_output}
 use Rattle.dual_model.proofs.Optimum.{AtMost, total_of-parts}
 use Rattle.step_functions.specs.Functions.{Steps, IsLeastBetween, IsPlace, last_place, value_at}
 use Rattle.hull_function.specs.Hulls.{IsBounded, IsHull}

@@ -1,9 +1,8 @@
 -- A unit of a lawful instance at a table of its size within the limits.
 use Rattle.std.proofs.Common.{◌≡◌, ℕ, ◌<◌, arith, List, length, get_or, pos, sym, ap, subst, ◌∙◌}
 use Rattle.std.proofs.lemmas.List.{get_or_read}
-use Rattle.uc_model.specs.Limits.{IsLawfulInstance}
-use Rattle.uc_model.specs.Schedule.{no_unit, thermal_count, thermal_unit}
-use Rattle.dual_model.specs.Prices.{HasSizeOf, IsWithinLimits}
+use Rattle.uc_model.specs.Prelude.{IsLawfulInstance, no_unit, thermal_count, thermal_unit}
+use Rattle.dual_model.specs.Prelude.{HasSizeOf, IsWithinLimits}
 use Rattle.unit_runs.specs.Patterns.{Instance}
 use Rattle.hull_function.specs.Hulls.{IsScale}
 use Rattle.hull_function.specs.Problems.{IsLawfulProblem, Table, Thermal}

@@ -3,7 +3,8 @@
 use Rattle.std.specs.Prelude.{◌≡◌, ℕ, ◌*◌, ◌^◌, ◌≤◌, List, ℤ, pos, ◌≤ℤ◌, unsigned_abs}
 pub use Rattle.uc_model.specs.declared.instance.Point.{Point}
 use Rattle.uc_model.specs.declared.limits.TheConstants.{MAX_POWER}
-use Rattle.dual_model.specs.ExactValue.{greatest_output, floored_cost}
+use Rattle.dual_model.specs.Prelude.{greatest_output}
+use Rattle.dual_model.specs.ExactValue.{floored_cost}
 use Rattle.dual_model.specs.declared.limits.TheConstants.{MAX_SCALE}
 pub use Rattle.step_functions.specs.Functions.{Steps}
 use Rattle.step_functions.specs.Functions.{IsPlace, last_place, value_at}

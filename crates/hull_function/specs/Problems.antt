@@ -1,9 +1,9 @@
 -- The problem of one thermal unit at a price table: how large its numbers are. The limits are this project's.
 use Rattle.std.specs.Prelude.{◌≡◌, ℕ, ◌<◌, ◌≤◌, unsigned_abs, length}
-use Rattle.uc_model.specs.Limits.{IsLawfulThermal}
+use Rattle.uc_model.specs.Prelude.{IsLawfulThermal}
 pub use Rattle.uc_model.specs.declared.limits.TheConstants.{MAX_PERIODS, MAX_POWER}
 pub use Rattle.dual_model.specs.declared.limits.TheConstants.{MAX_PRICE}
-use Rattle.dual_model.specs.Prices.{pi_at, mu_at}
+use Rattle.dual_model.specs.Prelude.{pi_at, mu_at}
 use Rattle.step_functions.specs.Functions.{run_count}
 pub use Rattle.unit_runs.specs.Runs.{Table, Thermal}
 use Rattle.hull_function.specs.Hulls.{Steps, IsHull, IsScale}

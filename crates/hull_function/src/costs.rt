@@ -1,7 +1,7 @@
 //! The steps by which an hour is added to what others cost by an output, as a convex function: its output, the ramp, its reserve.
 
 ghost use Rattle.std.specs.Prelude.{◌≡◌, ℕ, ℤ, pos, ◌+◌, ◌<◌, ◌≤◌, ◌+ℤ◌, ◌-ℤ◌, ◌*ℤ◌, ◌≤ℤ◌, true, Option, Some};
-ghost use Rattle.uc_model.specs.Limits.{IsLawfulThermal, IsLimit};
+ghost use Rattle.uc_model.specs.Prelude.{IsLawfulThermal, IsLimit};
 ghost use Rattle.dual_model.specs.CostToGo.{total_of};
 ghost use Rattle.step_functions.specs.Functions.{IsPlace, last_place, run_count, value_at};
 ghost use Rattle.unit_runs.specs.CostThrough.{least_between, reserve_cost};

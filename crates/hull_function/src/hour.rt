@@ -1,7 +1,7 @@
 //! The prices and the cap of an hour.
 
 ghost use Rattle.std.specs.Prelude.{◌≡◌, ◌<◌};
-ghost use Rattle.uc_model.specs.Commitment.{cell_cap};
+ghost use Rattle.uc_model.specs.Prelude.{cell_cap};
 ghost use Rattle.hull_function.specs.Hours.{IsHourAt, IsSizedHour};
 ghost use Rattle.hull_function.specs.Problems.{IsLawfulProblem};
 

@@ -1,9 +1,9 @@
 //! L, what the output of a unit costs, as a convex function: along the hull, with whole slopes.
 
 ghost use Rattle.std.specs.Prelude.{◌≡◌, pos, ◌+◌, ◌*◌, ◌<◌, ◌≤◌, ◌+ℤ◌, ◌-ℤ◌, ◌*ℤ◌, ◌≤ℤ◌, ◌<ℤ◌, length, unsigned_abs};
-ghost use Rattle.uc_model.specs.Division.{IsFloor};
+ghost use Rattle.uc_model.specs.Prelude.{IsFloor};
 ghost use Rattle.cost_curves.specs.LowerHull.{IsLawfulPoint, IsLowerHull};
-ghost use Rattle.dual_model.specs.ExactValue.{greatest_output};
+ghost use Rattle.dual_model.specs.Prelude.{greatest_output};
 ghost use Rattle.step_functions.specs.Functions.{last_place, run_count};
 ghost use Rattle.hull_function.specs.Hulls.{IsHull, IsScale};
 ghost use Rattle.hull_function.specs.inside.HullParts.{IsHullTo};

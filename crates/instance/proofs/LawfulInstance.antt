@@ -4,15 +4,12 @@ use Rattle.std.specs.List.{All, AllZip}
 use Rattle.std.proofs.lemmas.Int.{ints}
 use Rattle.std.proofs.lemmas.List.Elements.{AllZip-get_or}
 use Rattle.std.proofs.lemmas.Slice.Zip.{AllZip-long}
-use Rattle.uc_model.specs.Limits.{IsPower, IsCost, IsLimit, IsLawfulThermal, IsLawfulRenewable, IsLawfulInstance}
-use Rattle.uc_model.specs.Schedule.{thermal_unit, renewable_unit, no_unit, point, point_count}
-use Rattle.uc_model.specs.StartCategory.{start_row, category_count}
+use Rattle.uc_model.specs.Prelude.{IsPower, IsCost, IsLimit, IsLawfulThermal, IsLawfulRenewable, IsLawfulInstance, thermal_unit, renewable_unit, no_unit, point, point_count, start_row, category_count}
 use Rattle.decimal_json.specs.Value.{Decimal, Value}
 use Rattle.instance.specs.Fields.{Demand, Field, PiecewiseProduction, PiecewiseProductionCost, PiecewiseProductionMw, PowerOutputMaximum, PowerOutputMinimum, PowerOutputT0, RampDownLimit, RampShutdownLimit, RampStartupLimit, RampUpLimit, RenewableGenerators, Reserves, Startup, StartupCost, StartupLag, ThermalGenerators, TimeDownMinimum, TimeDownT0, TimePeriods, TimeUpMinimum, TimeUpT0, key_of, number_in, entries_in, pairs_in, field_of}
 use Rattle.instance.specs.Scaled.{MILLION, scaled, is_rounded}
 use Rattle.instance.specs.InstanceOf.{Instance, MAX_POINTS, MAX_START_ROWS, MAX_TIME, MAX_UNITS, Renewable, Thermal, Pairs, Has, IsObject, IsNumber, IsPowerOf, IsCostOf, IsTimeOf, IsPeriodsOf, IsPowersOf, AreRowsOf, IsStartRowOf, IsPointOf, IsRising, IsLimitOf, IsMinimumTimeOf, IsThermalOf, IsRenewableOf, AreUnitsOf, HasFields, IsInstanceOf}
-use Rattle.uc_model.proofs.Ring.{linear}
-use Rattle.uc_model.proofs.Shortages.{unpriced}
+use Rattle.uc_model.proofs.Common.{linear, unpriced}
 use Rattle.uc_model.specs.declared.instance.Point.{Point}
 use Rattle.instance.proofs.StepLaws.{some_is, some_split}
 use Rattle.instance.proofs.UnitLaws.{Above, written_time, instance_is, instance_again}

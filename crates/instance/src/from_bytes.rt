@@ -1,7 +1,7 @@
 //! From the bytes of a file to the instance.
 
 ghost use Rattle.std.specs.Prelude.{◌≡◌, IsTrue, IfOk, IfErr, MatchResult};
-ghost use Rattle.uc_model.specs.Limits.{IsLawfulInstance};
+ghost use Rattle.uc_model.specs.Prelude.{IsLawfulInstance};
 ghost use Rattle.instance.specs.Bytes.{Instance, StandFor, StandForCounted, HasCause};
 
 use crate::fault::Fault;

@@ -1,7 +1,7 @@
 //! From a JSON value to the instance.
 
 ghost use Rattle.std.specs.Prelude.{◌≡◌, IsTrue, IfOk, Ok};
-ghost use Rattle.uc_model.specs.Limits.{IsLawfulInstance};
+ghost use Rattle.uc_model.specs.Prelude.{IsLawfulInstance};
 ghost use Rattle.decimal_json.specs.View.{view};
 ghost use Rattle.instance.specs.FirstFault.{Instance, instance_at, rounded_instance};
 ghost use Rattle.instance.specs.InstanceOf.{IsInstanceOf};

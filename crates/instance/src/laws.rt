@@ -1,7 +1,7 @@
 //! Laws on what a JSON value stands for.
 
 ghost use Rattle.std.specs.Prelude.{◌≡◌, ℕ, ◌≤◌, Bool, List, ◌++◌, length, Ok};
-ghost use Rattle.uc_model.specs.Limits.{IsLawfulInstance};
+ghost use Rattle.uc_model.specs.Prelude.{IsLawfulInstance};
 ghost use Rattle.decimal_json.specs.Value.{Decimal, Value, decimal_from, held_decimal, written_decimal};
 ghost use Rattle.decimal_json.specs.Reading.{IsText};
 ghost use Rattle.instance.specs.FirstFault.{Instance, instance_at, rounded_instance};

@@ -2,8 +2,7 @@
 
 ghost use Rattle.std.specs.Prelude.{◌≡◌, ◌*◌, ◌^◌, ◌≤◌, true, false, All, length, pos, ◌*ℤ◌, int_le, slice_index_or, unsigned_abs};
 ghost use Rattle.std.specs.Int.{int_max};
-ghost use Rattle.uc_model.specs.Sums.{sum_below};
-ghost use Rattle.uc_model.specs.Limits.{IsLawfulInstance, IsPower, greatest_shortage_cost};
+ghost use Rattle.uc_model.specs.Prelude.{sum_below, IsLawfulInstance, IsPower, greatest_shortage_cost};
 ghost use Rattle.uc_model.specs.declared.limits.TheConstants.{MAX_PERIODS, MAX_PENALTY, MAX_POWER, MAX_SHORTAGE_COST};
 
 use uc_model::limits::MAX_SHORTAGE_COST;

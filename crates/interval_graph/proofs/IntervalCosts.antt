@@ -1,8 +1,8 @@
 -- The cost of an interval whose terms are all there: the plain sum, and how large it is.
 use Rattle.std.proofs.Common.{◌≡◌, ℕ, zero, suc, ◌+◌, ◌-◌, ◌*◌, ◌<◌, ◌≤◌, ⊎_elim, Bool, true, false, ◌==◌, List, sym, ap, subst, ◌∙◌, arith, ℤ, pos, ◌+ℤ◌, Option, Some, None, IfSome, unsigned_abs, unwrap_or, length}
 use Rattle.std.proofs.lemmas.Bool.{cases_lt, eq-eqb, ne_eqb}
-use Rattle.uc_model.specs.Sums.{sum_below}
-use Rattle.uc_model.proofs.Sizes.{abs_add}
+use Rattle.uc_model.specs.Prelude.{sum_below}
+use Rattle.uc_model.proofs.Common.{abs_add}
 use Rattle.interval_graph.specs.Intervals.{interval_cost, interval_term, term_in, AreTermRows, IsThere, MAX_INTERVAL, MAX_TERM}
 use Rattle.interval_graph.specs.RunningSums.{full_value, term_value}
 use Rattle.interval_graph.proofs.PlainSums.{cell, in_parts}

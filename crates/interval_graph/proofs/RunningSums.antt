@@ -4,9 +4,9 @@ use Rattle.std.specs.Int.{w128}
 use Rattle.std.proofs.lemmas.Bool.{cases_lt}
 use Rattle.std.proofs.lemmas.Int.{fits_signed_from_abs}
 use Rattle.std.proofs.lemmas.List.{get_or-replicate, length-replicate}
-use Rattle.uc_model.specs.Sums.{sum_below}
-use Rattle.uc_model.proofs.Sizes.{abs_add, wide}
-use Rattle.uc_model.proofs.Sums.{sum_below-zero}
+use Rattle.uc_model.specs.Prelude.{sum_below}
+use Rattle.uc_model.proofs.Common.{abs_add, sum_below-zero}
+use Rattle.uc_model.proofs.Sizes.{wide}
 use Rattle.interval_graph.specs.Intervals.{MAX_PERIODS, MAX_TERM, term_in}
 use Rattle.interval_graph.specs.RunningSums.{full_value, AreRunningSums}
 use Rattle.interval_graph.proofs.TermRows.{zero-term, zero_row}

@@ -1,7 +1,7 @@
 -- Rows of terms of which each is 0, and what a read of a row gives.
 use Rattle.std.proofs.Common.{◌≡◌, ℕ, ◌<◌, ◌≤◌, Bool, true, false, List, [], length, sym, subst, ◌∙◌, arith, ℤ, pos, Option, Some, None, IfSome, unsigned_abs, slice_index_or, replicate}
 use Rattle.std.proofs.lemmas.List.{get_or-replicate, length-replicate}
-use Rattle.uc_model.specs.Terms.{place}
+use Rattle.uc_model.specs.Prelude.{place}
 use Rattle.interval_graph.specs.Intervals.{MAX_PERIODS, MAX_TERM, term_in, AreTermRows}
 
 place-below : (start stop : Bool) → place start stop < 4

@@ -4,9 +4,8 @@
 --
 -- Periods count from 0 here.
 use Rattle.std.specs.Prelude.{◌≡◌, ℕ, suc, ◌+◌, ◌-◌, ◌*◌, ◌<◌, ◌≤◌, Bool, false, ◌==◌, List, [], ℤ, pos, unsigned_abs, length, slice_index_or, unwrap_or, Option, Some, None, IfSome}
-use Rattle.uc_model.specs.Sums.{sum_below}
+use Rattle.uc_model.specs.Prelude.{sum_below, place}
 pub use Rattle.uc_model.specs.declared.limits.TheConstants.{MAX_PERIODS}
-use Rattle.uc_model.specs.Terms.{place}
 pub use Rattle.uc_model.specs.declared.limits.TheConstants.{MAX_TERM}
 
 -- the term of a cell in period t, by whether it starts its interval and whether it ends it

@@ -3,7 +3,7 @@
 --
 -- Periods count from 0 here.
 use Rattle.std.specs.Prelude.{◌≡◌, ℕ, suc, ◌<◌, ◌≤◌, Bool, true, false, ◌==◌, List, ℤ, pos, ◌+ℤ◌, ◌-ℤ◌, length, slice_index_or, unwrap_or, Option, if◌then◌else◌}
-use Rattle.uc_model.specs.Sums.{sum_below}
+use Rattle.uc_model.specs.Prelude.{sum_below}
 use Rattle.interval_graph.specs.Intervals.{interval_cost, term_in}
 
 -- the term of a cell in period t, and 0 where there is none

@@ -1,7 +1,7 @@
 //! On-intervals: the periods from a start to the last one before a stop.
 
 ghost use Rattle.std.specs.Prelude.{◌≡◌, ◌+◌, ◌-◌, ◌*◌, ◌<◌, ◌≤◌, ℕ, pos, Some, false, IfOk, IfSome, MatchOption, length, replicate, unsigned_abs};
-ghost use Rattle.uc_model.specs.Sums.{sum_below};
+ghost use Rattle.uc_model.specs.Prelude.{sum_below};
 ghost use Rattle.interval_graph.specs.Intervals.{interval_cost, interval_term, term_in, AreTermRows, HasNoTerm, IsThere, MAX_INTERVAL};
 ghost use Rattle.interval_graph.specs.RunningSums.{full_value};
 

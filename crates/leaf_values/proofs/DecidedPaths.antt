@@ -5,13 +5,9 @@ use mathlib.Core.Bool.{and_assoc}
 use Rattle.std.proofs.Math.Seq.{take-suc}
 use Rattle.std.proofs.lemmas.Bool.{eq-eqb, ne_eqb, not-true, not_from_false, or_left}
 use Rattle.std.proofs.lemmas.List.Folds.{list_all-append, list_any-append}
-use Rattle.uc_model.specs.Commitment.{Commitment}
-use Rattle.uc_model.specs.PatternBits.{commitment_of}
-use Rattle.uc_model.specs.Schedule.{thermal_count}
-use Rattle.uc_model.specs.Sums.{all_below}
-use Rattle.uc_model.proofs.Tests.{all_below-from}
-use Rattle.dual_model.specs.Fixings.{IsNodeOf, fix_agrees, keeps, keeps_of, unit_agrees}
-use Rattle.dual_model.specs.Tree.{is_decided}
+use Rattle.uc_model.specs.Prelude.{Commitment, commitment_of, thermal_count, all_below}
+use Rattle.uc_model.proofs.Common.{all_below-from}
+use Rattle.dual_model.specs.Prelude.{IsNodeOf, fix_agrees, keeps, keeps_of, unit_agrees, is_decided}
 use Rattle.leaf_values.specs.Paths.{Fix, Fixing, Instance, AreFixesOf, DecidesOnce, IsUndecided, fix_at, node_of}
 
 -- what the first n decisions of a path decide of unit g, by its bits and by the commitments that agree

@@ -3,16 +3,10 @@ use Rattle.std.proofs.Common.{◌≡◌, ℕ, suc, ◌+◌, ◌-◌, ◌<◌, �
 use Rattle.std.specs.Int.{int_max}
 use Rattle.std.proofs.lemmas.Int.{ints, clamps}
 use Rattle.std.proofs.lemmas.Bool.{cond-true, cond-false, eq-eqb, ne_eqb, cases_lt}
-use Rattle.uc_model.specs.Limits.{IsLawfulInstance}
-use Rattle.uc_model.specs.Sums.{sum_below}
-use Rattle.uc_model.specs.Schedule.{thermal_count}
-use Rattle.uc_model.proofs.Ring.{linear}
-use Rattle.uc_model.proofs.Sums.{sum_below-same, sum_below-split, sum_below-sub, sum_below_nonneg}
-use Rattle.dual_model.specs.ExactValue.{HasNoUnitSchedule, HasUnscheduledUnit, IsExactNodeValue, IsExactUnitValue, exact_part}
-use Rattle.dual_model.specs.Fixings.{HasEmptyUnit, HasNoPattern}
-use Rattle.dual_model.specs.NodeValue.{IsNodeValue, renewables_value, system_value, unit_part}
-use Rattle.dual_model.specs.TableValue.{IsUnitValueOf}
-use Rattle.dual_model.specs.UnitValue.{IsUnitValue}
+use Rattle.uc_model.specs.Prelude.{IsLawfulInstance, sum_below, thermal_count}
+use Rattle.uc_model.proofs.Common.{linear, sum_below-same, sum_below-split, sum_below-sub, sum_below_nonneg}
+use Rattle.dual_model.specs.Prelude.{HasNoUnitSchedule, HasUnscheduledUnit, IsExactNodeValue, IsExactUnitValue, exact_part, HasEmptyUnit, IsNodeValue, renewables_value, system_value, unit_part, IsUnitValueOf, IsUnitValue}
+use Rattle.dual_model.specs.Fixings.{HasNoPattern}
 use Rattle.dual_model.specs.declared.table.Table.{Table}
 use Rattle.dual_model.proofs.ExactValues.{exact_unit_values_are_unique}
 use Rattle.dual_model.proofs.NodeValues.{unit_value_unique}

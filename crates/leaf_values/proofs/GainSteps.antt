@@ -3,12 +3,11 @@ use Rattle.std.proofs.Common.{◌≡◌, ◌≢◌, ℕ, ◌+◌, ◌*◌, ◌<�
 use Rattle.std.specs.Int.{w128}
 use Rattle.std.proofs.lemmas.Bool.{cases_eq}
 use Rattle.std.proofs.lemmas.List.{get_or_default}
-use Rattle.uc_model.specs.Schedule.{thermal_count}
+use Rattle.uc_model.specs.Prelude.{thermal_count}
 use Rattle.uc_model.specs.declared.limits.TheConstants.{MAX_UNITS}
-use Rattle.uc_model.proofs.Sizes.{abs_add, wide}
-use Rattle.dual_model.specs.ExactValue.{HasNoUnitSchedule, HasUnscheduledUnit, IsExactUnitValue}
-use Rattle.dual_model.specs.Fixings.{IsFixOf}
-use Rattle.dual_model.specs.TableValue.{IsUnitValueOf}
+use Rattle.uc_model.proofs.Common.{abs_add}
+use Rattle.uc_model.proofs.Sizes.{wide}
+use Rattle.dual_model.specs.Prelude.{HasNoUnitSchedule, HasUnscheduledUnit, IsExactUnitValue, IsFixOf, IsUnitValueOf}
 use Rattle.dual_model.specs.declared.table.Table.{Table}
 use Rattle.leaf_values.specs.Entries.{ExactEntry, TableEntries, UnitEntry, AreEntriesOf, AreExactEntriesOf, AreUnitsReckoned, IsEntryOf, IsExactByFix, IsExactEntryOf, MAX_NODE_VALUE, MAX_REST, entry_at, entry_in, exact_in, no_entry}
 use Rattle.leaf_values.specs.declared.entries.ExactEntry.TheVariants as known

@@ -1,12 +1,9 @@
 -- What entries that were reckoned for a node's fixes add up to is the node's value.
 use Rattle.std.proofs.Common.{◌≡◌, ℕ, ◌<◌, ◌≤◌, List, Some, None, Option, refl, sym, ap, subst, ◌∙◌, arith, ℤ, ◌+ℤ◌, MatchOption, unsigned_abs}
-use Rattle.uc_model.specs.Schedule.{thermal_count, thermal_unit}
-use Rattle.uc_model.proofs.Ring.{linear}
-use Rattle.uc_model.proofs.Sums.{sum_below-same}
-use Rattle.dual_model.specs.Fixings.{HasEmptyUnit, IsFixOf}
-use Rattle.dual_model.specs.NodeValue.{IsNodeValue, constant_at}
-use Rattle.dual_model.specs.PatternValue.{HasNoPattern, IsLeastValue}
-use Rattle.dual_model.specs.TableValue.{AreTermsOf, IsUnitValueOf}
+use Rattle.uc_model.specs.Prelude.{thermal_count, thermal_unit}
+use Rattle.uc_model.proofs.Common.{linear, sum_below-same}
+use Rattle.dual_model.specs.Prelude.{HasEmptyUnit, IsFixOf, IsNodeValue, constant_at, IsLeastValue, AreTermsOf, IsUnitValueOf}
+use Rattle.dual_model.specs.PatternValue.{HasNoPattern}
 use Rattle.dual_model.proofs.TableValues.{unit_value-of}
 use Rattle.leaf_values.specs.Entries.{TableEntries, UnitEntry, AreEntriesOf, AreExactEntriesOf, AreUnitsReckoned, MAX_REST, IsEntryOf, IsReckoned, entry_at}
 use Rattle.uc_model.specs.declared.instance.Instance.{Instance}

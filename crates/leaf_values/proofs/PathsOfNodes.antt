@@ -3,10 +3,8 @@
 -- Cite from a crate above by `use Rattle.leaf_values.proofs.PathsOfNodes.{placed, decides_once-more}`.
 use Rattle.std.proofs.Common.{◌≡◌, ℕ, ◌+◌, ◌<◌, ◌≤◌, ◌⊎◌, ⊎_elim, not, List, [], ◌∷◌, ◌++◌, length, take, sym, arith, All, IsTrue}
 use Rattle.std.proofs.lemmas.List.{get_or-take, get_or_append_left, get_or_push, length-append, length-take, take-append-le, take-take, take_all}
-use Rattle.uc_model.specs.Limits.{IsLawfulInstance}
-use Rattle.uc_model.specs.Schedule.{thermal_count}
-use Rattle.dual_model.specs.Fixings.{IsNodeOf}
-use Rattle.dual_model.specs.Tree.{is_decided}
+use Rattle.uc_model.specs.Prelude.{IsLawfulInstance, thermal_count}
+use Rattle.dual_model.specs.Prelude.{IsNodeOf, is_decided}
 use Rattle.leaf_values.specs.Paths.{Fixing, Instance, DecidesOnce, IsPlaced, node_of}
 
 pub placed : (instance : Instance) (path : List Fixing) (units : ℕ) → IsLawfulInstance instance → IsNodeOf instance (node_of path)

@@ -1,11 +1,10 @@
 -- Entries one after the other: those that were reckoned so far, and the sum of what they add.
 use Rattle.std.proofs.Common.{◌≡◌, ℕ, suc, ◌+◌, ◌*◌, ◌<◌, ◌≤◌, ◌≢◌, List, length, Some, sym, ap, subst, ◌∙◌, arith, add-one, below_more, get_or-set_other, get_or-set_same, ℤ, ◌+ℤ◌, to_z, of_z, slice_set, unsigned_abs, length-set}
 use Rattle.std.specs.Int.{w128}
-use Rattle.uc_model.specs.Schedule.{thermal_unit}
-use Rattle.uc_model.specs.Sums.{sum_below}
-use Rattle.uc_model.proofs.Ring.{linear}
-use Rattle.uc_model.proofs.Sizes.{abs_add, wide}
-use Rattle.dual_model.specs.CostToGo.{MAX_COST_TO_GO}
+use Rattle.uc_model.specs.Prelude.{thermal_unit, sum_below}
+use Rattle.uc_model.proofs.Common.{linear, abs_add}
+use Rattle.uc_model.proofs.Sizes.{wide}
+use Rattle.dual_model.specs.Prelude.{MAX_COST_TO_GO}
 use Rattle.leaf_values.specs.Entries.{TableEntries, Thermal, UnitEntry, MAX_CONSTANT, MAX_REST, entry_at, entry_in}
 use Rattle.uc_model.specs.declared.instance.Instance.{Instance}
 use Rattle.uc_model.specs.declared.limits.TheConstants.{MAX_UNITS}

@@ -3,21 +3,15 @@
 -- that it was reckoned for, is this project's own.
 pub use Rattle.ramp_duals.specs.Sizes.{MAX_CONSTANT}
 use Rattle.std.specs.Prelude.{◌≡◌, ℕ, ◌+◌, ◌*◌, ◌<◌, ◌≤◌, List, [], pos, ◌+ℤ◌, unsigned_abs, length, slice_index_or, ℤ, Option, None, MatchOption}
-use Rattle.uc_model.specs.Schedule.{thermal_unit, thermal_count}
+use Rattle.uc_model.specs.Prelude.{thermal_unit, thermal_count, period_count}
 use Rattle.uc_model.specs.declared.instance.Instance.{Instance}
 pub use Rattle.uc_model.specs.declared.instance.Thermal.{Thermal}
 use Rattle.uc_model.specs.declared.limits.TheConstants.{MAX_UNITS}
-use Rattle.dual_model.specs.ExactValue.{HasNoUnitSchedule, IsExactUnitValue}
-use Rattle.dual_model.specs.Fixings.{IsFixOf}
-use Rattle.dual_model.specs.NodeValue.{constant_at, renewables_value, system_value}
-use Rattle.dual_model.specs.PatternValue.{HasNoPattern, IsLeastValue}
-use Rattle.dual_model.specs.TableValue.{AreTermsOf}
-use Rattle.uc_model.specs.Terms.{period_count}
-use Rattle.dual_model.specs.UnitTerms.{AreSizedTerms}
+use Rattle.dual_model.specs.Prelude.{HasNoUnitSchedule, IsExactUnitValue, IsFixOf, constant_at, renewables_value, system_value, IsLeastValue, AreTermsOf, AreSizedTerms, IsWithin, MAX_COST_TO_GO}
+use Rattle.dual_model.specs.PatternValue.{HasNoPattern}
 use Rattle.dual_model.specs.declared.node.Fix.{Fix}
 use Rattle.dual_model.specs.declared.node.Node.{Node}
 use Rattle.dual_model.specs.declared.table.Table.{Table}
-use Rattle.dual_model.specs.CostToGo.{IsWithin, MAX_COST_TO_GO}
 use Rattle.system_value.specs.Sizes.{MAX_RENEWABLES, MAX_SYSTEM}
 pub use Rattle.leaf_values.specs.declared.entries.UnitEntry.{UnitEntry}
 pub use Rattle.leaf_values.specs.declared.entries.ExactEntry.{ExactEntry}

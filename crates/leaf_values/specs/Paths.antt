@@ -3,12 +3,10 @@
 --
 -- Units and periods count from 0 here.
 use Rattle.std.specs.Prelude.{◌≡◌, ℕ, ◌<◌, false, not, List, IsTrue, length, take, slice_index_or}
-use Rattle.uc_model.specs.PatternBits.{commitment_of}
-use Rattle.uc_model.specs.Schedule.{thermal_count}
+use Rattle.uc_model.specs.Prelude.{commitment_of, thermal_count}
 use Rattle.uc_model.specs.declared.limits.TheConstants.{MAX_PERIODS}
 pub use Rattle.uc_model.specs.declared.instance.Instance.{Instance}
-use Rattle.dual_model.specs.Fixings.{IsFixOf}
-use Rattle.dual_model.specs.Tree.{is_decided}
+use Rattle.dual_model.specs.Prelude.{IsFixOf, is_decided}
 pub use Rattle.dual_model.specs.declared.node.Fix.{Fix}
 pub use Rattle.dual_model.specs.declared.node.Fixing.{Fixing}
 pub use Rattle.dual_model.specs.declared.node.Node.{Node}

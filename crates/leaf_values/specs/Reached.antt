@@ -1,6 +1,6 @@
 -- That a node's value, of one kind or the other, is a least one or more. This project's own form.
 use Rattle.std.specs.Prelude.{Bool, ℤ, ◌*ℤ◌, ◌≤ℤ◌}
-use Rattle.dual_model.specs.ValueKind.{IsValueOf}
+use Rattle.dual_model.specs.Prelude.{IsValueOf}
 use Rattle.dual_model.specs.declared.table.Table.{Table}
 use Rattle.leaf_values.specs.Paths.{Instance, Node}
 pub use Rattle.leaf_values.specs.declared.least.Least.{Least}

@@ -1,11 +1,9 @@
 //! Whether a unit has a pattern at a node at all.
 
 ghost use Rattle.std.specs.Prelude.{◌≡◌, ℕ, ◌<◌, ◌≤◌, ◌↔◌, IfOk, IsTrue};
-ghost use Rattle.uc_model.specs.Limits.{IsLawfulInstance, IsLawfulThermal};
-ghost use Rattle.uc_model.specs.Schedule.{thermal_count};
-ghost use Rattle.dual_model.specs.Fixings.{HasNoPattern, IsFixOf};
-ghost use Rattle.uc_model.specs.Terms.{period_count};
-ghost use Rattle.dual_model.specs.UnitTerms.{AreSizedTerms};
+ghost use Rattle.uc_model.specs.Prelude.{IsLawfulInstance, IsLawfulThermal, thermal_count, period_count};
+ghost use Rattle.dual_model.specs.Prelude.{IsFixOf, AreSizedTerms};
+ghost use Rattle.dual_model.specs.Fixings.{HasNoPattern};
 ghost use Rattle.dual_model.specs.declared.node.Node.{Node};
 
 use crate::units::unit_of;

@@ -2,13 +2,8 @@
 
 ghost use Rattle.std.specs.Prelude.{◌≡◌, ◌*◌, ◌<◌, ◌≤◌, ◌⊎◌, ◌↔◌, pos, ◌-ℤ◌, ◌<ℤ◌, true, IfOk, IsTrue, MatchOption, length, unsigned_abs};
 ghost use Rattle.std.specs.Int.{int_max};
-ghost use Rattle.uc_model.specs.Limits.{IsLawfulInstance};
-ghost use Rattle.uc_model.specs.Schedule.{thermal_count};
-ghost use Rattle.dual_model.specs.CostToGo.{IsWithin, MAX_COST_TO_GO};
-ghost use Rattle.dual_model.specs.ExactValue.{HasNoUnitSchedule, HasUnscheduledUnit, IsExactUnitValue};
-ghost use Rattle.dual_model.specs.Fixings.{IsFixOf};
-ghost use Rattle.dual_model.specs.NodeValue.{IsNodeValue};
-ghost use Rattle.dual_model.specs.Prices.{HasSizeOf, IsWithinLimits};
+ghost use Rattle.uc_model.specs.Prelude.{IsLawfulInstance, thermal_count};
+ghost use Rattle.dual_model.specs.Prelude.{IsWithin, MAX_COST_TO_GO, HasNoUnitSchedule, HasUnscheduledUnit, IsExactUnitValue, IsFixOf, IsNodeValue, HasSizeOf, IsWithinLimits};
 ghost use Rattle.leaf_values.specs.Entries.{AreEntriesOf, IsExactByFix, IsExactEntryOf, MAX_NODE_VALUE};
 ghost use Rattle.leaf_values.specs.ExactRooms.{IsRoomOf};
 ghost use Rattle.leaf_values.specs.Paths.{Node, AreFixesOf};

@@ -1,9 +1,8 @@
 //! What the path to a node decides of each unit.
 
 ghost use Rattle.std.specs.Prelude.{◌≡◌, ℕ, ◌<◌, false, ◌||◌, ◌&&◌, ◌==◌, All, length};
-ghost use Rattle.uc_model.specs.PatternBits.{commitment_of};
-ghost use Rattle.uc_model.specs.Schedule.{thermal_count};
-ghost use Rattle.dual_model.specs.Fixings.{IsNodeOf};
+ghost use Rattle.uc_model.specs.Prelude.{commitment_of, thermal_count};
+ghost use Rattle.dual_model.specs.Prelude.{IsNodeOf};
 ghost use Rattle.leaf_values.specs.Paths.{Instance, AreFixesOf, DecidesOnce, IsPlaced, IsUndecided, fix_at, node_of};
 
 use dual_model::{Fix, Fixing};

@@ -1,13 +1,8 @@
 //! The entries of a table, made anew.
 
 ghost use Rattle.std.specs.Prelude.{◌≡◌, ℕ, ◌<◌, ◌≤◌, ◌+ℤ◌, IfOk, length, unsigned_abs};
-ghost use Rattle.uc_model.specs.Limits.{IsLawfulInstance};
-ghost use Rattle.uc_model.specs.Schedule.{thermal_count, thermal_unit};
-ghost use Rattle.dual_model.specs.NodeValue.{constant_at, renewables_value as renewables_of, system_value as system_of};
-ghost use Rattle.dual_model.specs.Prices.{HasSizeOf, IsWithinLimits};
-ghost use Rattle.dual_model.specs.TableValue.{AreTermsOf};
-ghost use Rattle.uc_model.specs.Terms.{period_count};
-ghost use Rattle.dual_model.specs.UnitTerms.{AreSizedTerms};
+ghost use Rattle.uc_model.specs.Prelude.{IsLawfulInstance, thermal_count, thermal_unit, period_count};
+ghost use Rattle.dual_model.specs.Prelude.{constant_at, renewables_value as renewables_of, system_value as system_of, HasSizeOf, IsWithinLimits, AreTermsOf, AreSizedTerms};
 ghost use Rattle.leaf_values.specs.Entries.{AreEntriesOf, IsEntryOf, IsReckoned, MAX_CONSTANT, MAX_REST};
 
 use crate::entries::{ExactEntry, TableEntries, UnitEntry};

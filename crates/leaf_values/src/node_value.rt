@@ -1,11 +1,8 @@
 //! The value of a node at the table that was loaded last.
 
 ghost use Rattle.std.specs.Prelude.{◌≡◌, ◌+◌, ◌≤◌, MatchOption, length, unsigned_abs};
-ghost use Rattle.uc_model.specs.Limits.{IsLawfulInstance, IsLawfulThermal};
-ghost use Rattle.uc_model.specs.Schedule.{thermal_count};
-ghost use Rattle.dual_model.specs.Fixings.{HasEmptyUnit};
-ghost use Rattle.dual_model.specs.NodeValue.{IsNodeValue};
-ghost use Rattle.dual_model.specs.CostToGo.{IsWithin, MAX_COST_TO_GO};
+ghost use Rattle.uc_model.specs.Prelude.{IsLawfulInstance, IsLawfulThermal, thermal_count};
+ghost use Rattle.dual_model.specs.Prelude.{HasEmptyUnit, IsNodeValue, IsWithin, MAX_COST_TO_GO};
 ghost use Rattle.leaf_values.specs.Entries.{AreEntriesOf, AreReckoned, AreUnitsReckoned, IsReckoned, MAX_CONSTANT, MAX_NODE_VALUE};
 ghost use Rattle.dual_model.specs.declared.table.Table.{Table};
 ghost use Rattle.leaf_values.specs.Paths.{Node, AreFixesOf};

@@ -1,7 +1,7 @@
 //! The thermal units of an instance by their numbers.
 
 ghost use Rattle.std.specs.Prelude.{◌≡◌, ◌<◌};
-ghost use Rattle.uc_model.specs.Schedule.{thermal_count, thermal_unit};
+ghost use Rattle.uc_model.specs.Prelude.{thermal_count, thermal_unit};
 
 use uc_model::{Instance, Thermal};
 

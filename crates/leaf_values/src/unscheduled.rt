@@ -1,12 +1,8 @@
 //! Whether a unit has a schedule of its own at a node at all.
 
 ghost use Rattle.std.specs.Prelude.{◌≡◌, ℕ, ◌<◌, ◌↔◌, pos, IfOk, IsTrue};
-ghost use Rattle.uc_model.specs.Limits.{IsLawfulInstance};
-ghost use Rattle.uc_model.specs.Schedule.{thermal_count};
-ghost use Rattle.dual_model.specs.ExactValue.{HasNoUnitSchedule};
-ghost use Rattle.dual_model.specs.Fixings.{IsFixOf};
-ghost use Rattle.dual_model.specs.Opening.{unpriced_table};
-ghost use Rattle.dual_model.specs.Prices.{IsLawfulTable};
+ghost use Rattle.uc_model.specs.Prelude.{IsLawfulInstance, thermal_count};
+ghost use Rattle.dual_model.specs.Prelude.{HasNoUnitSchedule, IsFixOf, unpriced_table, IsLawfulTable};
 ghost use Rattle.dual_model.specs.declared.node.Node.{Node};
 ghost use Rattle.leaf_values.specs.ExactRooms.{IsRoomOf};
 

@@ -1,8 +1,8 @@
 //! Small units with prices and decisions, drawn.
 
 ghost use Rattle.std.specs.Prelude.{◌≤◌, All, IfOk, length};
-ghost use Rattle.uc_model.specs.Limits.{IsLawfulThermal};
-ghost use Rattle.dual_model.specs.TableValue.{IsLawfulRow};
+ghost use Rattle.uc_model.specs.Prelude.{IsLawfulThermal};
+ghost use Rattle.dual_model.specs.Prelude.{IsLawfulRow};
 ghost use Rattle.model_tests.specs.SmallRows.{IsSmallRow};
 
 use crate::draws::Draws;

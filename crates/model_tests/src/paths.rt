@@ -2,10 +2,8 @@
 //! beside all patterns.
 
 ghost use Rattle.std.specs.Prelude.{◌≡◌, ◌≤◌, All, IfOk, length};
-ghost use Rattle.uc_model.specs.Limits.{IsLawfulThermal};
-ghost use Rattle.dual_model.specs.TableValue.{IsLawfulRow};
-ghost use Rattle.uc_model.specs.Terms.{period_count};
-ghost use Rattle.dual_model.specs.UnitTerms.{AreSizedTerms};
+ghost use Rattle.uc_model.specs.Prelude.{IsLawfulThermal, period_count};
+ghost use Rattle.dual_model.specs.Prelude.{IsLawfulRow, AreSizedTerms};
 
 use crate::drawn::{fix, prices, unit};
 use crate::draws::Draws;

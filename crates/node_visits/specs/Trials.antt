@@ -1,14 +1,14 @@
 -- What a claim is evaluated at.
 use Rattle.std.specs.Prelude.{◌≡◌, ℕ, ◌+◌, ◌≤◌, Bool, true, pos, IfSome, Option, None, Some}
 use Rattle.uc_model.specs.declared.instance.Instance.{Instance}
-use Rattle.dual_model.specs.Prices.{IsLawfulTable}
+use Rattle.dual_model.specs.Prelude.{IsLawfulTable}
 use Rattle.dual_model.specs.declared.table.Table.{Table}
 use Rattle.prices.specs.declared.ascent.Ascent.{Ascent}
 use Rattle.decided_nodes.specs.Decided.{DecidesEach}
 use Rattle.decided_nodes.specs.Pivoting.{uses_exact_dispatch}
 use Rattle.decided_nodes.specs.declared.pivoting.Pivoting.{Pivoting}
 use Rattle.decided_nodes.specs.declared.pivoting.Pivoting.TheVariants.{Exhaustive}
-use Rattle.search_machine.specs.Runs.{IsTrueOutcome}
+use Rattle.search_machine.specs.Prelude.{IsTrueOutcome}
 use Rattle.opening.specs.Outcomes.{IsSized}
 use Rattle.search_desk.specs.declared.desk.Claim.{Claim}
 use Rattle.search_desk.specs.declared.desk.Evaluated.{Evaluated}

@@ -1,7 +1,7 @@
 //! Which ascents are repaired and how far, and at which bound a node is pruned.
 
 ghost use Rattle.std.specs.Prelude.{◌≤◌};
-ghost use Rattle.uc_model.specs.Limits.{IsLawfulInstance};
+ghost use Rattle.uc_model.specs.Prelude.{IsLawfulInstance};
 ghost use Rattle.uc_model.specs.declared.tolerance.TheConstants.{WHOLE_GAP};
 
 use uc_model::tolerance::{WHOLE_GAP, tolerance};

@@ -1,7 +1,7 @@
 //! What the claims of the root begin with.
 
 ghost use Rattle.std.specs.Prelude.{IfOk};
-ghost use Rattle.uc_model.specs.Limits.{IsLawfulInstance};
+ghost use Rattle.uc_model.specs.Prelude.{IsLawfulInstance};
 ghost use Rattle.node_visits.specs.Trials.{IsAscentFor};
 
 use dual_model::{Node, Table};

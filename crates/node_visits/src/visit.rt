@@ -1,9 +1,9 @@
 //! The evaluation of a node that is held: at which table, and what came out.
 
 ghost use Rattle.std.specs.Prelude.{◌≡◌, ◌≤◌, pos, IfOk, IfSome, MatchOption};
-ghost use Rattle.uc_model.specs.Limits.{IsLawfulInstance};
+ghost use Rattle.uc_model.specs.Prelude.{IsLawfulInstance};
 ghost use Rattle.uc_model.specs.declared.tolerance.TheConstants.{WHOLE_GAP};
-ghost use Rattle.dual_model.specs.Prices.{IsLawfulTable};
+ghost use Rattle.dual_model.specs.Prelude.{IsLawfulTable};
 ghost use Rattle.decided_nodes.specs.Pivoting.{uses_exact_dispatch};
 ghost use Rattle.decided_nodes.specs.declared.pivoting.Pivoting.TheVariants.{Exhaustive};
 ghost use Rattle.found_schedule.specs.Found.{IsFoundIfAny};

@@ -1,10 +1,8 @@
 //! A worker: what it keeps from claim to claim.
 
 ghost use Rattle.std.specs.Prelude.{◌≡◌, IfOk, MatchOption};
-ghost use Rattle.uc_model.specs.Limits.{IsLawfulInstance};
-ghost use Rattle.dual_model.specs.Fixings.{IsFirstEmpty};
-ghost use Rattle.dual_model.specs.Tree.{HasEachPattern, root};
-ghost use Rattle.dual_model.specs.ValueKind.{IsFirstBlocked};
+ghost use Rattle.uc_model.specs.Prelude.{IsLawfulInstance};
+ghost use Rattle.dual_model.specs.Prelude.{IsFirstEmpty, HasEachPattern, root, IsFirstBlocked};
 ghost use Rattle.schedule_check.specs.Accepted.{IsAcceptedIfFound};
 ghost use Rattle.opening.specs.Blocked.{HasNoBlockedUnit};
 ghost use Rattle.opening.specs.Rays.{HasNoRay, IsFirstRay};

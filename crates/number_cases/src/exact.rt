@@ -1,10 +1,9 @@
 //! The exact value of the first unit of a system, the solver's way and the checker's.
 
 ghost use Rattle.std.specs.Prelude.{◌<◌, IfOk};
-ghost use Rattle.uc_model.specs.Limits.{IsLawfulInstance};
-ghost use Rattle.uc_model.specs.Schedule.{thermal_count, thermal_unit};
+ghost use Rattle.uc_model.specs.Prelude.{IsLawfulInstance, thermal_count, thermal_unit};
 ghost use Rattle.cost_curves.specs.LowerHull.{IsLowerHull};
-ghost use Rattle.dual_model.specs.Prices.{IsLawfulTable};
+ghost use Rattle.dual_model.specs.Prelude.{IsLawfulTable};
 
 use crate::Answer;
 use crate::commitment::pattern;

@@ -1,10 +1,8 @@
 //! What intervals of on hours cost the first unit of a system, where nothing has a price.
 
 ghost use Rattle.std.specs.Prelude.{◌≡◌, ◌<◌, ◌≤◌, ℕ, IfOk, length};
-ghost use Rattle.uc_model.specs.Limits.{IsLawfulInstance, IsLawfulThermal};
-ghost use Rattle.uc_model.specs.Terms.{period_count};
-ghost use Rattle.dual_model.specs.TableValue.{IsLawfulRow, row_at};
-ghost use Rattle.dual_model.specs.UnitTerms.{AreSizedTerms};
+ghost use Rattle.uc_model.specs.Prelude.{IsLawfulInstance, IsLawfulThermal, period_count};
+ghost use Rattle.dual_model.specs.Prelude.{IsLawfulRow, row_at, AreSizedTerms};
 
 use crate::Answer;
 use crate::text::{first, large_line, told};

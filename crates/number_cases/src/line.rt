@@ -1,6 +1,6 @@
 //! The lines of the cases.
 
-ghost use Rattle.uc_model.specs.Limits.{IsLawfulInstance};
+ghost use Rattle.uc_model.specs.Prelude.{IsLawfulInstance};
 
 use crate::Answer;
 use crate::demo::tell_demo;

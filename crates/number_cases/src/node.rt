@@ -2,10 +2,8 @@
 
 ghost use Rattle.std.specs.Prelude.{◌≡◌, ◌↔◌, IfOk, IsTrue};
 ghost use Rattle.uc_model.specs.declared.instance.Instance.{Instance};
-ghost use Rattle.uc_model.specs.Limits.{IsLawfulInstance};
-ghost use Rattle.dual_model.specs.Fixings.{IsCell, IsNodeOf};
-ghost use Rattle.dual_model.specs.Prices.{HasSizeOf, IsLawfulTable, IsWithinLimits};
-ghost use Rattle.dual_model.specs.Tree.{child as child_of};
+ghost use Rattle.uc_model.specs.Prelude.{IsLawfulInstance};
+ghost use Rattle.dual_model.specs.Prelude.{IsCell, IsNodeOf, HasSizeOf, IsLawfulTable, IsWithinLimits, child as child_of};
 ghost use Rattle.dual_value.specs.NodeAnswer.{HasSizes, IsValued};
 
 use crate::Answer;

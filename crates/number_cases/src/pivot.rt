@@ -1,8 +1,8 @@
 //! The exact dispatch of commitments.
 
-ghost use Rattle.uc_model.specs.Limits.{IsLawfulInstance};
-ghost use Rattle.dispatch_rules.specs.CommitmentTask.{AreAllowed};
-ghost use Rattle.dual_model.specs.Fixings.{IsNodeOf};
+ghost use Rattle.uc_model.specs.Prelude.{IsLawfulInstance};
+ghost use Rattle.dispatch_rules.specs.Prelude.{AreAllowed};
+ghost use Rattle.dual_model.specs.Prelude.{IsNodeOf};
 
 use crate::Answer;
 use crate::commitment::patterns;

@@ -1,6 +1,6 @@
 //! Reports of dispatches, whose powers are taken as numerators.
 
-ghost use Rattle.uc_model.specs.Limits.{IsLawfulInstance};
+ghost use Rattle.uc_model.specs.Prelude.{IsLawfulInstance};
 
 use crate::Answer;
 use crate::dispatch::{dispatched, no_dispatch};

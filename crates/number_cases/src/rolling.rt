@@ -1,8 +1,7 @@
 //! Windows one behind another, each with the dispatch of its part of a commitment.
 
 ghost use Rattle.std.specs.Prelude.{◌≡◌, ℕ, ◌+◌, ◌≤◌, IfOk, length};
-ghost use Rattle.uc_model.specs.Limits.{IsLawfulInstance};
-ghost use Rattle.uc_model.specs.Schedule.{thermal_count};
+ghost use Rattle.uc_model.specs.Prelude.{IsLawfulInstance, thermal_count};
 ghost use Rattle.roll.specs.Kept.{IsKept};
 ghost use Rattle.roll.specs.Stitched.{IsContinuation};
 

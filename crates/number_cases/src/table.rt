@@ -1,11 +1,8 @@
 //! Tables of prices: their numbers, and the values of roots at them.
 
 ghost use Rattle.std.specs.Prelude.{◌≡◌, ◌<◌, ◌≤◌};
-ghost use Rattle.uc_model.specs.Limits.{IsLawfulInstance};
-ghost use Rattle.uc_model.specs.PrintedSchedule.{HasShapeOf, printed_denominator, printed_schedule};
-ghost use Rattle.uc_model.specs.Rules.{Obeys};
-ghost use Rattle.dual_model.specs.Opening.{ray_count};
-ghost use Rattle.dual_model.specs.Prices.{IsLawfulTable};
+ghost use Rattle.uc_model.specs.Prelude.{IsLawfulInstance, HasShapeOf, printed_denominator, printed_schedule, Obeys};
+ghost use Rattle.dual_model.specs.Prelude.{ray_count, IsLawfulTable};
 
 use crate::Answer;
 use crate::node::root_total;

@@ -1,7 +1,7 @@
 //! The first unit of a system: its curve, terms of its cells, and what starts cost.
 
 ghost use Rattle.std.specs.Prelude.{IfSome};
-ghost use Rattle.uc_model.specs.Limits.{IsLawfulInstance, IsLawfulThermal};
+ghost use Rattle.uc_model.specs.Prelude.{IsLawfulInstance, IsLawfulThermal};
 
 use crate::Answer;
 use crate::commitment::pattern;

@@ -1,12 +1,8 @@
 //! The uplifts of dispatches.
 
 ghost use Rattle.std.specs.Prelude.{◌≡◌, IfOk, IfSome, All, length};
-ghost use Rattle.uc_model.specs.Limits.{IsLawfulInstance};
-ghost use Rattle.uc_model.specs.PrintedSchedule.{HasShapeOf, printed_denominator, printed_schedule};
-ghost use Rattle.uc_model.specs.Rules.{Obeys};
-ghost use Rattle.uc_model.specs.Schedule.{thermal_count};
-ghost use Rattle.dual_model.specs.Fixings.{IsCell};
-ghost use Rattle.dual_model.specs.Prices.{AreRising, HasLawfulSigns, HasSizeOf, IsPrice, IsRowPriced, IsRowSigned, IsRowWithin, IsWithinLimits};
+ghost use Rattle.uc_model.specs.Prelude.{IsLawfulInstance, HasShapeOf, printed_denominator, printed_schedule, Obeys, thermal_count};
+ghost use Rattle.dual_model.specs.Prelude.{IsCell, AreRising, HasLawfulSigns, HasSizeOf, IsPrice, IsRowPriced, IsRowSigned, IsRowWithin, IsWithinLimits};
 ghost use Rattle.schedule_check.specs.PlainNumbers.{HasPlainNumbers};
 
 use crate::Answer;

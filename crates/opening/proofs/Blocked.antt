@@ -1,9 +1,8 @@
 -- Where a node has a value of a kind no unit is blocked, and where none is none is told to be the first.
 use Rattle.std.proofs.Common.{ℕ, ◌<◌, Bool, true, false, ℤ}
-use Rattle.uc_model.specs.Schedule.{thermal_count}
+use Rattle.uc_model.specs.Prelude.{thermal_count}
 use Rattle.uc_model.specs.declared.instance.Instance.{Instance}
-use Rattle.dual_model.specs.Tree.{root}
-use Rattle.dual_model.specs.ValueKind.{IsBlocked, IsFirstBlocked, IsValueOf}
+use Rattle.dual_model.specs.Prelude.{root, IsBlocked, IsFirstBlocked, IsValueOf}
 use Rattle.dual_model.specs.declared.node.Node.{Node}
 use Rattle.dual_model.specs.declared.table.Table.{Table}
 use Rattle.opening.specs.Blocked.{HasNoBlockedUnit}

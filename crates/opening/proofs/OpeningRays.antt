@@ -1,13 +1,10 @@
 -- Rays: one more that leaves a schedule, none where there is one, and what is told of the first that leaves none.
 use Rattle.std.proofs.Common.{◌≡◌, ◌⊎◌, ⊎_elim, ℕ, ◌+◌, ◌<◌, Bool, refl, subst, sym, arith, pos, ◌<ℤ◌}
 use Rattle.std.proofs.lemmas.Bool.{cases_order}
-use Rattle.uc_model.specs.Limits.{IsLawfulInstance}
-use Rattle.uc_model.specs.Rules.{Obeys}
-use Rattle.uc_model.specs.Schedule.{Schedule}
-use Rattle.dual_model.specs.Opening.{ray_table}
-use Rattle.dual_model.specs.Tree.{root}
+use Rattle.uc_model.specs.Prelude.{IsLawfulInstance, Obeys, Schedule}
+use Rattle.dual_model.specs.Prelude.{ray_table, root}
 use Rattle.dual_model.proofs.ValueKinds.{rays_exclude, values_are_unique}
-use Rattle.branch_tree.specs.TrueFound.{IsOutcome}
+use Rattle.branch_tree.specs.Prelude.{IsOutcome}
 use Rattle.branch_tree.specs.declared.found.Outcome.{Outcome}
 use Rattle.branch_tree.specs.declared.found.Outcome.TheVariants as outcome
 use Rattle.opening_tables.proofs.RayTables.{ray_lawful}

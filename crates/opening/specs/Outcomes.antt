@@ -1,10 +1,10 @@
 -- What an evaluation comes to: the outcome of a node at a table, by V or, where `exact`, by VE, and its size.
 use Rattle.std.specs.Prelude.{◌≤◌, Bool, pos, ◌<ℤ◌, unsigned_abs}
 use Rattle.uc_model.specs.declared.instance.Instance.{Instance}
-use Rattle.dual_model.specs.NodeAnswer.{MAX_VALUE}
+use Rattle.dual_model.specs.Prelude.{MAX_VALUE}
 use Rattle.dual_model.specs.declared.node.Node.{Node}
 use Rattle.dual_model.specs.declared.table.Table.{Table}
-use Rattle.branch_tree.specs.TrueFound.{IsOutcome}
+use Rattle.branch_tree.specs.Prelude.{IsOutcome}
 use Rattle.branch_tree.specs.declared.found.Outcome.{Outcome}
 use Rattle.branch_tree.specs.declared.found.Outcome.TheVariants as outcome
 

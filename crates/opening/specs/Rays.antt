@@ -3,9 +3,7 @@
 -- Rays count from 0 here.
 use Rattle.std.specs.Prelude.{ℕ, ◌<◌, Bool}
 pub use Rattle.uc_model.specs.declared.instance.Instance.{Instance}
-use Rattle.dual_model.specs.Cover.{HasPositiveValue}
-use Rattle.dual_model.specs.Opening.{ray_count, ray_table}
-use Rattle.dual_model.specs.Tree.{root}
+use Rattle.dual_model.specs.Prelude.{HasPositiveValue, ray_count, ray_table, root}
 
 -- ray n leaves no schedule
 abbrev pub IsRayPositive : Bool → Instance → ℕ → Type 0

@@ -2,11 +2,7 @@
 use Rattle.std.specs.Prelude.{◌≡◌, ◌⊎◌, ◌≤◌, ℤ, ◌<ℤ◌, ◌≤ℤ◌, unsigned_abs}
 use Rattle.uc_model.specs.declared.instance.Instance.{Instance}
 use Rattle.uc_model.specs.declared.schedule.Printed.{Printed}
-use Rattle.dual_model.specs.NodeAnswer.{MAX_VALUE}
-use Rattle.dual_model.specs.NodeValue.{IsNodeValue}
-use Rattle.dual_model.specs.Opening.{ZERO_SCALE, zero_table}
-use Rattle.dual_model.specs.Prices.{IsLawfulTable}
-use Rattle.dual_model.specs.Tree.{root}
+use Rattle.dual_model.specs.Prelude.{MAX_VALUE, IsNodeValue, ZERO_SCALE, zero_table, IsLawfulTable, root}
 use Rattle.dual_model.specs.declared.table.Table.{Table}
 use Rattle.opening_tables.specs.Marginal.{IsMarginalTable}
 use Rattle.opening.specs.declared.root_tables.Priced.{Priced}

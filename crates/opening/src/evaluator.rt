@@ -1,15 +1,8 @@
 //! The values of an instance's nodes, with what their evaluations share.
 
 ghost use Rattle.std.specs.Prelude.{◌≡◌, ◌≤◌, unsigned_abs, IfErr, IfOk, MatchOption};
-ghost use Rattle.uc_model.specs.Limits.{IsLawfulInstance};
-ghost use Rattle.uc_model.specs.PrintedSchedule.{HasShapeOf, printed_denominator, printed_schedule};
-ghost use Rattle.uc_model.specs.Rules.{Obeys};
-ghost use Rattle.dual_model.specs.Fixings.{IsNodeOf};
-ghost use Rattle.dual_model.specs.NodeAnswer.{IsValued, MAX_VALUE};
-ghost use Rattle.dual_model.specs.NodeValue.{IsNodeValue};
-ghost use Rattle.dual_model.specs.Prices.{IsLawfulTable};
-ghost use Rattle.dual_model.specs.Tree.{HasEachPattern, root};
-ghost use Rattle.dual_model.specs.ValueKind.{IsFirstBlocked, IsValueOf};
+ghost use Rattle.uc_model.specs.Prelude.{IsLawfulInstance, HasShapeOf, printed_denominator, printed_schedule, Obeys};
+ghost use Rattle.dual_model.specs.Prelude.{IsNodeOf, IsValued, MAX_VALUE, IsNodeValue, IsLawfulTable, HasEachPattern, root, IsFirstBlocked, IsValueOf};
 ghost use Rattle.dual_value.specs.Rooms.{IsExactRoomOf};
 ghost use Rattle.dual_value.specs.NodeAnswer.{HasSizes, IsExactFaultOf, IsExactValued, IsFaultOf, IsFaultOfKind};
 ghost use Rattle.opening_tables.specs.Marginal.{IsMarginalTable};

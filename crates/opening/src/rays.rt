@@ -1,9 +1,8 @@
 //! The rays of the opening: whether one of them shows that a node has no schedule.
 
 ghost use Rattle.std.specs.Prelude.{◌≡◌, ◌↔◌, pos, IfOk, IfSome, IsTrue, MatchOption};
-ghost use Rattle.uc_model.specs.Limits.{IsLawfulInstance};
-ghost use Rattle.dual_model.specs.Fixings.{IsNodeOf};
-ghost use Rattle.dual_model.specs.Prices.{IsLawfulTable};
+ghost use Rattle.uc_model.specs.Prelude.{IsLawfulInstance};
+ghost use Rattle.dual_model.specs.Prelude.{IsNodeOf, IsLawfulTable};
 ghost use Rattle.schedule_check.specs.Accepted.{IsAcceptedIfFound};
 ghost use Rattle.opening.specs.Outcomes.{IsPositive};
 ghost use Rattle.opening.specs.Rays.{HasNoRay, IsFirstRay};

@@ -1,11 +1,8 @@
 //! The table that the root has before any claim.
 
 ghost use Rattle.std.specs.Prelude.{◌≡◌, int_lt, if◌then◌else◌, IfOk};
-ghost use Rattle.uc_model.specs.PrintedSchedule.{HasShapeOf, printed_denominator, printed_schedule};
-ghost use Rattle.uc_model.specs.Rules.{Obeys};
-ghost use Rattle.dual_model.specs.Tree.{HasEachPattern};
-ghost use Rattle.dual_model.specs.Opening.{ZERO_SCALE, zero_table};
-ghost use Rattle.dual_model.specs.Prices.{IsLawfulTable};
+ghost use Rattle.uc_model.specs.Prelude.{HasShapeOf, printed_denominator, printed_schedule, Obeys};
+ghost use Rattle.dual_model.specs.Prelude.{HasEachPattern, ZERO_SCALE, zero_table, IsLawfulTable};
 ghost use Rattle.opening.specs.RootTables.{IsGreaterTable, IsPricedOf};
 
 use crate::evaluator::Evaluator;

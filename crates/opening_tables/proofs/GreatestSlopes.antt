@@ -2,10 +2,8 @@
 use Rattle.std.proofs.Common.{◌≡◌, ℕ, ◌+◌, ◌<◌, Bool, true, false, [], get_or, refl, subst, sym, arith, ℤ, pos, ◌*ℤ◌, ◌≤ℤ◌, ◌<ℤ◌, below_more, Option, Some, None, MatchOption, int_lt, List, if◌then◌else◌}
 use Rattle.std.proofs.lemmas.Int.{ints}
 use Rattle.std.proofs.lemmas.List.{get_or_read}
-use Rattle.uc_model.specs.PrintedSchedule.{cell_at}
-use Rattle.uc_model.specs.Schedule.{thermal_count, thermal_unit}
-use Rattle.uc_model.proofs.Ring.{linear}
-use Rattle.uc_model.proofs.Tests.{int_lt-true}
+use Rattle.uc_model.specs.Prelude.{cell_at, thermal_count, thermal_unit}
+use Rattle.uc_model.proofs.Common.{linear, int_lt-true}
 use Rattle.cost_curves.specs.LowerHull.{IsLowerHull}
 use Rattle.cost_curves.specs.UnitCurves.{AreCurvesOf}
 use Rattle.cost_curves.specs.LeastCost.{IsLeftSlope}

@@ -1,13 +1,8 @@
 -- An on cell of a printed schedule that obeys has an output on its unit's curve.
 use Rattle.std.proofs.Common.{◌≡◌, ℕ, ◌<◌, ◌≤◌, Bool, true, false, true≢false, refl, sym, subst, arith, length, ℤ, pos, ◌≤ℤ◌, List, Option, Some, None, IsTrue, if◌then◌else◌}
 use Rattle.std.specs.Ordering.{int_eq}
-use Rattle.uc_model.specs.Hull.{Segment, segment_at}
-use Rattle.uc_model.specs.Limits.{IsLawfulInstance}
-use Rattle.uc_model.specs.PrintedSchedule.{cell_at, printed_denominator, printed_schedule, refused_weight, segment_weight}
-use Rattle.uc_model.specs.Rules.{Obeys, Production}
-use Rattle.uc_model.specs.Schedule.{thermal_unit}
-use Rattle.uc_model.proofs.Ring.{one-mul}
-use Rattle.uc_model.proofs.Obeyed.{production_parts, rule_at}
+use Rattle.uc_model.specs.Prelude.{Segment, segment_at, IsLawfulInstance, cell_at, printed_denominator, printed_schedule, refused_weight, segment_weight, Obeys, Production, thermal_unit}
+use Rattle.uc_model.proofs.Common.{one-mul, production_parts, rule_at}
 use Rattle.cost_curves.specs.LowerHull.{AreLawfulPoints, width_of}
 use Rattle.cost_curves.proofs.HullExists.{segment-within}
 use Rattle.cost_curves.proofs.UnitPoints.{lawful_points}

@@ -3,10 +3,9 @@ use Rattle.std.proofs.Common.{◌≡◌, ◌≢◌, ℕ, ◌+◌, ◌<◌, arith
 use Rattle.std.proofs.lemmas.Int.{ints}
 use Rattle.std.proofs.lemmas.List.{length-replicate}
 use Rattle.std.proofs.lemmas.List.Elements.{All-from_get_or, All-replicate}
-use Rattle.uc_model.specs.Schedule.{thermal_count}
-use Rattle.uc_model.proofs.Ring.{linear}
-use Rattle.dual_model.specs.Opening.{ZERO_SCALE}
-use Rattle.dual_model.specs.Prices.{IsLawfulTable, IsPrice}
+use Rattle.uc_model.specs.Prelude.{thermal_count}
+use Rattle.uc_model.proofs.Common.{linear}
+use Rattle.dual_model.specs.Prelude.{ZERO_SCALE, IsLawfulTable, IsPrice}
 use Rattle.dual_model.specs.declared.table.Table.{Table}
 use Rattle.opening_tables.specs.inside.Slopes.{Instance, Printed, ArePriced, IsPriced}
 

@@ -3,13 +3,10 @@ use Rattle.std.proofs.Common.{◌≡◌, ◌≢◌, ℕ, zero, suc, ◌*◌, ◌
 use Rattle.std.proofs.lemmas.Bool.{cases_lt, true≢false, eq-eqb, eqb-true, ltb-true, ne_eqb}
 use Rattle.std.proofs.lemmas.List.{get_or-replicate, length-replicate}
 use Rattle.std.proofs.lemmas.List.Elements.{All-head, All-tail, All-weaker}
-use Rattle.uc_model.specs.Sums.{bit}
-use Rattle.uc_model.specs.Limits.{IsLawfulInstance}
-use Rattle.uc_model.specs.Schedule.{thermal_count, thermal_unit}
+use Rattle.uc_model.specs.Prelude.{bit, IsLawfulInstance, thermal_count, thermal_unit}
 use Rattle.uc_model.specs.declared.instance.Instance.{Instance}
 use Rattle.uc_model.specs.declared.instance.Thermal.{Thermal}
-use Rattle.dual_model.specs.Opening.{HasRayNumbers, first_row, first_rows, price_in, ray_at, ray_period, ray_table}
-use Rattle.dual_model.specs.Prices.{row_of}
+use Rattle.dual_model.specs.Prelude.{HasRayNumbers, first_row, first_rows, price_in, ray_at, ray_period, ray_table, row_of}
 use Rattle.dual_model.specs.declared.table.RampRow.{RampRow}
 use Rattle.opening_tables.proofs.RayTables.{IsFirstRow, rows_within}
 

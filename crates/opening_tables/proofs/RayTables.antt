@@ -4,12 +4,10 @@ use Rattle.std.proofs.lemmas.Bool.{cases_lt}
 use Rattle.std.proofs.lemmas.Int.{ints}
 use Rattle.std.proofs.lemmas.List.{append-nil, get_or_append_left, get_or_push, length-append, length-replicate, length-set}
 use Rattle.std.proofs.lemmas.List.Elements.{All-append, All-cons, All-from_recursion, All-get_or, All-nil, All-replicate, All-set, All-weaker}
-use Rattle.uc_model.specs.Limits.{IsLawfulInstance}
-use Rattle.uc_model.specs.Schedule.{thermal_count, thermal_unit}
+use Rattle.uc_model.specs.Prelude.{IsLawfulInstance, thermal_count, thermal_unit}
 use Rattle.uc_model.specs.declared.instance.Instance.{Instance}
-use Rattle.uc_model.proofs.Ring.{linear}
-use Rattle.dual_model.specs.Opening.{OpeningRay, falls_short, first_row, first_rows, no_ray, nowhere, period_rays, price_in, ramp_rays, ray_at, ray_count, ray_period, ray_prices, ray_table, rises_short, stays_below}
-use Rattle.dual_model.specs.Prices.{IsLawfulTable, IsPrice, IsRowBefore, IsRowPriced, IsRowSigned, IsRowWithin}
+use Rattle.uc_model.proofs.Common.{linear}
+use Rattle.dual_model.specs.Prelude.{OpeningRay, falls_short, first_row, first_rows, no_ray, nowhere, period_rays, price_in, ramp_rays, ray_at, ray_count, ray_period, ray_prices, ray_table, rises_short, stays_below, IsLawfulTable, IsPrice, IsRowBefore, IsRowPriced, IsRowSigned, IsRowWithin}
 use Rattle.dual_model.specs.declared.table.RampRow.{RampRow}
 use Rattle.dual_model.specs.declared.table.Table.{Table}
 use Rattle.opening_tables.specs.inside.Rays.{Ray, Thermal, down_of, named_by, up_of}

@@ -5,16 +5,13 @@
 -- Units and periods count from 0 here.
 use Rattle.std.specs.Prelude.{◌≡◌, ℕ, ◌<◌, ◌⊎◌, IsTrue, [], ℤ, pos, neg_ℤ, ◌*ℤ◌, ◌≤ℤ◌, ◌<ℤ◌, replicate}
 use Rattle.std.specs.Int.{int_min, int_max}
-use Rattle.uc_model.specs.Division.{IsFloor}
-use Rattle.uc_model.specs.PrintedSchedule.{cell_at}
-use Rattle.uc_model.specs.Schedule.{thermal_count, thermal_unit}
+use Rattle.uc_model.specs.Prelude.{IsFloor, cell_at, thermal_count, thermal_unit}
 pub use Rattle.uc_model.specs.declared.instance.Instance.{Instance}
 pub use Rattle.uc_model.specs.declared.schedule.Cell.{Cell}
 pub use Rattle.uc_model.specs.declared.schedule.Printed.{Printed}
 use Rattle.cost_curves.specs.LeastCost.{IsLeftSlope}
 pub use Rattle.cost_curves.specs.declared.slope.Slope.{Slope}
-use Rattle.dual_model.specs.Opening.{ZERO_SCALE}
-use Rattle.dual_model.specs.Prices.{HasSizeOf, pi_at}
+use Rattle.dual_model.specs.Prelude.{ZERO_SCALE, HasSizeOf, pi_at}
 use Rattle.dual_model.specs.declared.limits.TheConstants.{MAX_PRICE}
 use Rattle.dual_model.specs.declared.table.Table.{Table}
 

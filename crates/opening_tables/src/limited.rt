@@ -1,7 +1,7 @@
 //! Prices within their limit.
 
 ghost use Rattle.std.specs.Prelude.{◌≡◌};
-ghost use Rattle.dual_model.specs.Prices.{IsPrice};
+ghost use Rattle.dual_model.specs.Prelude.{IsPrice};
 ghost use Rattle.opening_tables.specs.Marginal.{kept_within};
 
 use dual_model::limits::MAX_PRICE;

@@ -1,12 +1,9 @@
 //! The prices of a dispatch: in each period what the last watt costs of the steepest unit that runs.
 
 ghost use Rattle.std.specs.Prelude.{◌≡◌, ◌<◌, pos, ◌<ℤ◌, ◌≤ℤ◌, IfOk, MatchOption, length, slice_index_or, [], IsTrue};
-ghost use Rattle.uc_model.specs.Limits.{IsLawfulInstance};
-ghost use Rattle.uc_model.specs.PrintedSchedule.{HasShapeOf, cell_at, printed_denominator, printed_schedule};
-ghost use Rattle.uc_model.specs.Rules.{Obeys};
-ghost use Rattle.uc_model.specs.Schedule.{thermal_count};
+ghost use Rattle.uc_model.specs.Prelude.{IsLawfulInstance, HasShapeOf, cell_at, printed_denominator, printed_schedule, Obeys, thermal_count};
 ghost use Rattle.cost_curves.specs.LowerHull.{width_of};
-ghost use Rattle.dual_model.specs.Prices.{IsLawfulTable, IsPrice};
+ghost use Rattle.dual_model.specs.Prelude.{IsLawfulTable, IsPrice};
 ghost use Rattle.cost_curves.specs.UnitCurves.{AreCurvesOf};
 ghost use Rattle.opening_tables.specs.Marginal.{IsMarginalPrice, IsMarginalTable, IsPriceAt, IsRunning};
 ghost use Rattle.opening_tables.specs.inside.Slopes.{AreOutputsWithin, ArePriced, IsCellSlope, IsGreatestOf, steeper_of, steeper_slope as steeper_slope_of};

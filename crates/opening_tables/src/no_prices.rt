@@ -1,10 +1,8 @@
 //! Tables at which every price is 0.
 
 ghost use Rattle.std.specs.Prelude.{◌≡◌, pos, IfOk, replicate};
-ghost use Rattle.uc_model.specs.Limits.{IsLawfulInstance};
-ghost use Rattle.dual_model.specs.Opening.{unpriced_table, zero_table};
-ghost use Rattle.dual_model.specs.Prices.{IsLawfulTable};
-ghost use Rattle.dual_model.specs.TableValue.{IsLawfulScale};
+ghost use Rattle.uc_model.specs.Prelude.{IsLawfulInstance};
+ghost use Rattle.dual_model.specs.Prelude.{unpriced_table, zero_table, IsLawfulTable, IsLawfulScale};
 
 use dual_model::Table;
 use std::alloc::Global;

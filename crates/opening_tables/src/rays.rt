@@ -1,12 +1,8 @@
 //! The rays with which a search begins.
 
 ghost use Rattle.std.specs.Prelude.{◌≡◌, ◌++◌, ◌*◌, ◌<◌, ◌≤◌, ◌+ℤ◌, IfOk, slice_index_or};
-ghost use Rattle.uc_model.specs.Sums.{bit};
-ghost use Rattle.uc_model.specs.Commitment.{initial_p};
-ghost use Rattle.uc_model.specs.Limits.{IsLawfulInstance, IsLawfulThermal};
-ghost use Rattle.uc_model.specs.Schedule.{thermal_count};
-ghost use Rattle.dual_model.specs.Opening.{HasRayNumbers, falls_short as falls_short_at, first_row, first_rows, no_ray, period_rays, price_in, ramp_rays, ray_at, ray_count, ray_period, ray_table, rises_short as rises_short_at, stays_below as stays_below_at};
-ghost use Rattle.dual_model.specs.Prices.{IsLawfulTable};
+ghost use Rattle.uc_model.specs.Prelude.{bit, initial_p, IsLawfulInstance, IsLawfulThermal, thermal_count};
+ghost use Rattle.dual_model.specs.Prelude.{HasRayNumbers, falls_short as falls_short_at, first_row, first_rows, no_ray, period_rays, price_in, ramp_rays, ray_at, ray_count, ray_period, ray_table, rises_short as rises_short_at, stays_below as stays_below_at, IsLawfulTable};
 ghost use Rattle.opening_tables.specs.inside.Rays.{down_of, named_by, up_of};
 
 use crate::no_prices::zeros;

@@ -2,13 +2,11 @@
 use Rattle.std.proofs.Common.{◌≡◌, ℕ, ◌+◌, ◌*◌, ◌<◌, ◌≤◌, ◌^◌, List, length, sym, ap, subst, ◌∙◌, arith, lit<, to_z, of_z, ℤ, pos, ◌+ℤ◌, ◌-ℤ◌, ◌*ℤ◌, neg_ℤ, ◌≤ℤ◌, ◌<ℤ◌, unsigned_abs}
 use Rattle.std.specs.Int.{w64, w128}
 use Rattle.std.proofs.lemmas.Int.{ints}
-use Rattle.uc_model.specs.Division.{IsFloor, IsCeiling}
-use Rattle.uc_model.specs.Points.{point_of}
+use Rattle.uc_model.specs.Prelude.{IsFloor, IsCeiling, point_of}
 use Rattle.uc_model.specs.declared.limits.TheConstants.{MAX_POWER, MAX_COST}
-use Rattle.uc_model.proofs.Ring.{linear, spread, mul_comm, mul_assoc, neg-mul}
-use Rattle.uc_model.proofs.Quotients.{IsFloor-add, IsCeiling-neg}
-use Rattle.uc_model.proofs.Sizes.{abs_narrow, narrow, wide, wide-size, scaled-size, sum-size, sum-is, product-size, product-is}
-use Rattle.dual_model.specs.TableValue.{IsLawfulScale}
+use Rattle.uc_model.proofs.Common.{linear, spread, mul_comm, mul_assoc, neg-mul, IsFloor-add, IsCeiling-neg, abs_narrow, narrow, wide-size, scaled-size, sum-size, sum-is, product-size, product-is}
+use Rattle.uc_model.proofs.Sizes.{wide}
+use Rattle.dual_model.specs.Prelude.{IsLawfulScale}
 use Rattle.dual_model.specs.declared.limits.TheConstants.{MAX_UNIT_PRICE}
 use Rattle.cost_curves.specs.LowerHull.{AreLawfulCorners}
 use Rattle.cost_curves.proofs.CornerSizes.{ceiling-size}

@@ -3,9 +3,8 @@ use Rattle.std.proofs.Common.{◌≡◌, ℕ, zero, suc, ◌<◌, ⊎_elim, refl
 use Rattle.std.specs.Int.{int_min, w64, w128}
 use Rattle.std.proofs.lemmas.Int.{ints, to_z-of_z}
 use Rattle.uc_model.specs.declared.instance.Point.{Point}
-use Rattle.uc_model.proofs.Ring.{linear, le_or_lt, mul_left_comm, mul-zero, zero-mul, mul-add, mul-sub, add-mul, mul-le-mul_right, mul-le-mul_turned}
-use Rattle.dual_model.specs.Term.{IsTerm, weighted_output, weighted_cost}
-use Rattle.dual_model.specs.TableValue.{IsCellTerm}
+use Rattle.uc_model.proofs.Common.{linear, le_or_lt, mul_left_comm, mul-zero, zero-mul, mul-add, mul-sub, add-mul, mul-le-mul_right, mul-le-mul_turned}
+use Rattle.dual_model.specs.Prelude.{IsTerm, weighted_output, weighted_cost, IsCellTerm}
 use Rattle.period_term.specs.inside.Freed.{AreFreed}
 
 -- the costs of weights, of cost `cost` and output `p`

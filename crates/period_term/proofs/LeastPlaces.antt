@@ -1,12 +1,9 @@
 -- The least reduced cost without reserve, at a corner or on the segment that holds the cap.
 use Rattle.std.proofs.Common.{◌≡◌, ℕ, zero, suc, ◌<◌, ◌≤◌, ⊎_elim, true, false, refl, sym, ap, subst, arith, List, length, ℤ, pos, ◌+ℤ◌, ◌-ℤ◌, ◌*ℤ◌, neg_ℤ, ◌≤ℤ◌, ◌<ℤ◌, int_le, int_lt}
 use Rattle.std.proofs.lemmas.Int.{ints}
-use Rattle.uc_model.specs.Division.{IsFloor}
-use Rattle.uc_model.specs.Points.{point_of, output_of}
-use Rattle.uc_model.proofs.Ring.{linear, sub_nonneg, spread, le_or_lt, le_antisymm, mul_comm, mul_assoc, mul_left_comm, mul-zero, zero-mul, one-mul, mul_nonneg, mul-le-mul_left, mul-le-mul_right, mul-le-mul_turned, le_from_mul}
-use Rattle.uc_model.proofs.Quotients.{IsFloor-greatest}
-use Rattle.uc_model.proofs.Tests.{int_lt-true}
-use Rattle.dual_model.specs.Term.{IsCellBound, IsTerm}
+use Rattle.uc_model.specs.Prelude.{IsFloor, point_of, output_of}
+use Rattle.uc_model.proofs.Common.{linear, sub_nonneg, spread, le_or_lt, le_antisymm, mul_comm, mul_assoc, mul_left_comm, mul-zero, zero-mul, one-mul, mul_nonneg, mul-le-mul_left, mul-le-mul_right, mul-le-mul_turned, le_from_mul, IsFloor-greatest, int_lt-true}
+use Rattle.dual_model.specs.Prelude.{IsCellBound, IsTerm}
 use Rattle.dual_model.proofs.Terms.{cell_bound-corners, corners-cell_bound}
 use Rattle.cost_curves.specs.LowerHull.{IsAbove, IsLowerHull}
 use Rattle.cost_curves.proofs.HullValues.{starts}

@@ -1,10 +1,8 @@
 //! The term of a cell, found on the lower hull of the unit's points.
 
 ghost use Rattle.std.specs.Prelude.{◌≡◌, ℕ, suc, ◌*◌, ◌^◌, ◌<◌, ◌≤◌, ℤ, pos, ◌-ℤ◌, ◌*ℤ◌, ◌≤ℤ◌, ◌<ℤ◌, List, int_le, int_lt, length, unsigned_abs, slice_index_or, None, IfSome};
-ghost use Rattle.uc_model.specs.Division.{IsFloor};
-ghost use Rattle.uc_model.specs.Points.{output_of, point_of};
-ghost use Rattle.dual_model.specs.Term.{IsTerm};
-ghost use Rattle.dual_model.specs.TableValue.{IsCellTerm, IsLawfulScale};
+ghost use Rattle.uc_model.specs.Prelude.{IsFloor, output_of, point_of};
+ghost use Rattle.dual_model.specs.Prelude.{IsTerm, IsCellTerm, IsLawfulScale};
 ghost use Rattle.cost_curves.specs.LowerHull.{AreLawfulCorners, IsLowerHull};
 ghost use Rattle.period_term.specs.inside.Freed.{AreFreed, AreLawfulPrices};
 ghost use Rattle.period_term.specs.inside.Places.{Point, corner_cost as corner_cost_of, over_of, rise_of, run_of, IsLeastPlace, HoldsCap, LiesOnSegment, MAX_CORNER_COST, MAX_RISE, MAX_OVER, MAX_LEAST};

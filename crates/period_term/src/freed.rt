@@ -1,7 +1,7 @@
 //! A cell's prices where all the room that output leaves is reserve, or none of it.
 
 ghost use Rattle.std.specs.Prelude.{◌*◌, ◌≤◌, unsigned_abs};
-ghost use Rattle.dual_model.specs.TableValue.{IsLawfulScale};
+ghost use Rattle.dual_model.specs.Prelude.{IsLawfulScale};
 ghost use Rattle.period_term.specs.inside.Freed.{AreFreed, AreLawfulPrices};
 
 use dual_model::limits::MAX_UNIT_PRICE;

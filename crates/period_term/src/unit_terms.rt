@@ -1,15 +1,11 @@
 //! The terms of a unit: a cell's term for each period and each of its four caps.
 
 ghost use Rattle.std.specs.Prelude.{◌≡◌, ℕ, pos, ◌<◌, ◌≤◌, Bool, None, IfOk, length, slice_index_or, unsigned_abs};
-ghost use Rattle.uc_model.specs.Commitment.{cell_cap as cap_of};
-ghost use Rattle.uc_model.specs.Limits.{IsLawfulThermal};
-ghost use Rattle.uc_model.specs.Schedule.{thermal_unit};
+ghost use Rattle.uc_model.specs.Prelude.{cell_cap as cap_of, IsLawfulThermal, thermal_unit, place};
 ghost use Rattle.uc_model.specs.declared.instance.Instance.{Instance};
 ghost use Rattle.dual_model.specs.declared.table.Table.{Table};
 ghost use Rattle.cost_curves.specs.LowerHull.{IsLowerHull};
-ghost use Rattle.uc_model.specs.Terms.{place};
-ghost use Rattle.dual_model.specs.UnitTerms.{AreSizedTerms};
-ghost use Rattle.dual_model.specs.TableValue.{ArePricesOf, AreRowsOf, AreTermsFor, AreTermsOf, AreTermsOfRows, IsLawfulRow, IsLawfulScale, IsTermOfRow, row_at};
+ghost use Rattle.dual_model.specs.Prelude.{AreSizedTerms, ArePricesOf, AreRowsOf, AreTermsFor, AreTermsOf, AreTermsOfRows, IsLawfulRow, IsLawfulScale, IsTermOfRow, row_at};
 
 use crate::cell::row_terms;
 use cost_curves::Curve;

@@ -4,23 +4,18 @@ use Rattle.std.proofs.Common.{◌≡◌, ℕ, ◌<◌, ◌≤◌, ◌==◌, ◌�
 use Rattle.std.proofs.lemmas.Bool.{eqb-true, cond-true, true≢false}
 use Rattle.std.proofs.lemmas.Option.{same_Some}
 use Rattle.std.proofs.lemmas.List.Elements.{All-head, All-tail, All-cons, All-nil, All-filter, filter_passes}
-use Rattle.uc_model.specs.Limits.{IsLawfulInstance}
+use Rattle.uc_model.specs.Prelude.{IsLawfulInstance}
 use Rattle.uc_model.specs.declared.instance.Instance.{Instance}
 use Rattle.uc_model.specs.declared.schedule.Printed.{Printed}
-use Rattle.dual_model.specs.Tree.{IsCover}
-use Rattle.dual_model.specs.ValueKind.{IsValueOf}
+use Rattle.dual_model.specs.Prelude.{IsCover, IsValueOf}
 use Rattle.dual_model.specs.declared.node.Node.{Node}
 use Rattle.dual_model.specs.declared.table.Table.{Table}
-use Rattle.branch_tree.specs.Closing.{is_within_gap, is_schedule_within}
-use Rattle.branch_tree.specs.NumberedTree.{unnumbered}
-use Rattle.branch_tree.specs.StoredTree.{IsNodeAt, tree_bound}
-use Rattle.branch_tree.specs.TreeView.{TreeView, IsSizeOf, IsWhole, HasFreeCell}
-use Rattle.branch_tree.specs.TrueFound.{IsOutcome, IsTrueEntry, IsTrueLog}
+use Rattle.branch_tree.specs.Prelude.{is_within_gap, is_schedule_within, unnumbered, IsNodeAt, tree_bound, TreeView, IsSizeOf, IsWhole, HasFreeCell, IsOutcome, IsTrueEntry, IsTrueLog}
 use Rattle.branch_tree.specs.declared.found.Entry.{Entry}
 use Rattle.branch_tree.specs.declared.found.Outcome.{Outcome}
 use Rattle.branch_tree.specs.declared.found.Outcome.TheVariants.{Value, Empty}
-use Rattle.search_machine.specs.Machine.{entries_of}
-use Rattle.dispatch_rules.specs.CommitmentTask.{Pattern, AreAllowed}
+use Rattle.search_machine.specs.Prelude.{entries_of}
+use Rattle.dispatch_rules.specs.Prelude.{Pattern, AreAllowed}
 use Rattle.pivot_dispatch.specs.Answers.{IsAnswer}
 use Rattle.pivot_dispatch.specs.declared.pivot.Pivot.{Pivot}
 use Rattle.pivot_dispatch.specs.Commitments.{IsDecidedAt}

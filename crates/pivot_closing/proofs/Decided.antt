@@ -4,19 +4,15 @@ use Rattle.std.proofs.Common.{◌≡◌, ℕ, ◌<◌, ◌⊎◌, ⊎_elim, Bool
 use Rattle.std.specs.List.{list_all, list_any}
 use Rattle.std.proofs.lemmas.Bool.{cases_Bool, and_parts, and_from, or_cases, eqb-true, eq-eqb, not-true, not_from_false, true≢false}
 use Rattle.std.proofs.lemmas.List.Elements.{All-head, All-tail, All-cons, All-nil, All-append}
-use Rattle.uc_model.specs.Commitment.{Commitment}
-use Rattle.uc_model.specs.Schedule.{thermal_count}
+use Rattle.uc_model.specs.Prelude.{Commitment, thermal_count}
 use Rattle.uc_model.specs.declared.instance.Instance.{Instance}
-use Rattle.dual_model.specs.Fixings.{IsCell, IsNodeOf, keeps, keeps_of}
-use Rattle.dual_model.specs.Tree.{root, child, is_decided, IsCover, IsCoverBelow}
+use Rattle.dual_model.specs.Prelude.{IsCell, IsNodeOf, keeps, keeps_of, root, child, is_decided, IsCover, IsCoverBelow}
 use Rattle.dual_model.specs.declared.node.Fixing.{Fixing}
 use Rattle.dual_model.specs.declared.node.Node.{Node}
-use Rattle.branch_tree.specs.NumberedTree.{NumberedTree, EndAt, SplitAt, Subtree, unnumbered, node_at, subtree_at, subtree_below}
-use Rattle.branch_tree.specs.TreeView.{TreeView, IsSizeOf, HasFreeCell}
-use Rattle.branch_tree.specs.StoredTree.{IsNodeAt}
+use Rattle.branch_tree.specs.Prelude.{NumberedTree, EndAt, SplitAt, Subtree, unnumbered, node_at, subtree_at, subtree_below, TreeView, IsSizeOf, HasFreeCell, IsNodeAt}
 use Rattle.branch_tree.proofs.Changes.{from_some}
 use Rattle.branch_tree.proofs.Subtrees.{IsHere, leaf_case, subtree_cases}
-use Rattle.dispatch_rules.specs.CommitmentTask.{Pattern, AreAllowed, commitment_at}
+use Rattle.dispatch_rules.specs.Prelude.{Pattern, AreAllowed, commitment_at}
 use Rattle.pivot_dispatch.specs.Commitments.{IsDecidedAt}
 use Rattle.decided_nodes.specs.Decided.{ArePatternsAt}
 

@@ -3,26 +3,12 @@
 use Rattle.std.proofs.Common.{◌≡◌, ℕ, ◌+◌, ◌*◌, ◌/◌, ◌<◌, ◌≤◌, ◌≢◌, ⊎_elim, Bool, true, false, refl, sym, ap, subst, ◌∙◌, arith, List, length, ℤ, pos, ◌+ℤ◌, ◌-ℤ◌, ◌*ℤ◌, ◌≤ℤ◌, IsTrue, Option, Some, None, unsigned_abs, ◌==◌, if◌then◌else◌}
 use Rattle.std.specs.Ordering.{int_eq}
 use Rattle.std.proofs.lemmas.Bool.{cases_Bool, cond-true, cond-false, eqb-true, eqb-false, eq-eqb, ne_eqb}
-use Rattle.uc_model.specs.Sums.{sum_below}
-use Rattle.uc_model.specs.Points.{point_of, output_of, weighted_cost}
+use Rattle.uc_model.specs.Prelude.{sum_below, point_of, output_of, weighted_cost, category_cost, thermal_unit, thermal_count, Production, Obeys, cell_cost, shortage_cost, cost, quotient_up, Segment, segment_at, segment_width, segment_cost, hull_cost, rise, from_left, to_right, watt_denominator, cell_at, shed_at, short_at, width_on, printed_denominator, refused_weight, segment_weight, printed_schedule, printed_cell_cost, printed_shortage_cost, printed_cost, IsLawfulInstance}
 use Rattle.uc_model.specs.declared.instance.Point.{Point}
-use Rattle.uc_model.specs.StartCategory.{category_cost}
-use Rattle.uc_model.specs.Schedule.{thermal_unit, thermal_count}
-use Rattle.uc_model.specs.Rules.{Production, Obeys}
-use Rattle.uc_model.specs.Cost.{cell_cost, shortage_cost, cost}
-use Rattle.uc_model.specs.Division.{quotient_up}
-use Rattle.uc_model.specs.Hull.{Segment, segment_at, segment_width, segment_cost, hull_cost, rise, from_left, to_right}
-use Rattle.uc_model.specs.PrintedSchedule.{watt_denominator, cell_at, shed_at, short_at, width_on, printed_denominator, refused_weight, segment_weight, printed_schedule, printed_cell_cost, printed_shortage_cost, printed_cost}
 use Rattle.uc_model.specs.declared.instance.Instance.{Instance}
 use Rattle.uc_model.specs.declared.schedule.Printed.{Printed}
-use Rattle.uc_model.specs.Limits.{IsLawfulInstance}
-use Rattle.uc_model.proofs.Ring.{linear, mul-add, mul-sub, mul-zero, zero-mul, mul_comm, mul_assoc, mul_left_comm, pos-mul, scale-le-scale, pos_nonneg, mul-one}
-use Rattle.uc_model.proofs.Sums.{sum_below-le, sum_below-single, sum_below-pair, sum_below-mul_left, sum_below-add, sum_below-const, sum_below-zero}
-use Rattle.uc_model.proofs.Obeyed.{rule_at, production_parts}
-use Rattle.uc_model.proofs.HullPoints.{Holds, LiesOn, segment_at-holds, lies_on, abs_is, wide}
-use Rattle.uc_model.proofs.PrintedCosts.{denominator-factor, watts-factor, watts_positive}
-use Rattle.uc_model.proofs.Quotients.{IsCeiling-least, quotient_up-is}
-use Rattle.uc_model.proofs.Shortages.{share_is}
+use Rattle.uc_model.proofs.Common.{linear, mul-add, mul-sub, mul-zero, zero-mul, mul_comm, mul_assoc, mul_left_comm, pos-mul, scale-le-scale, pos_nonneg, mul-one, sum_below-le, sum_below-single, sum_below-pair, sum_below-mul_left, sum_below-add, sum_below-const, sum_below-zero, rule_at, production_parts, Holds, LiesOn, segment_at-holds, lies_on, abs_is, denominator-factor, watts-factor, watts_positive, IsCeiling-least, quotient_up-is, share_is}
+use Rattle.uc_model.proofs.HullPoints.{wide}
 
 -- ---- the cost of the weights on a segment's ends
 -- the costs x and y by the parts a and b of a width, and the cost x and the quotient n rounded up

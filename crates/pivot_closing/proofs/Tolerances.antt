@@ -3,25 +3,12 @@
 -- Cite by `use Rattle.pivot_closing.proofs.Tolerances.{best_within, ray_positive}`.
 use Rattle.std.proofs.Common.{◌≡◌, ℕ, zero, suc, ◌+◌, ◌*◌, ◌<◌, ◌≤◌, ⊎_elim, Bool, true, false, refl, sym, ap, subst, ◌∙◌, arith, List, ℤ, pos, ◌+ℤ◌, ◌-ℤ◌, ◌*ℤ◌, ◌≤ℤ◌, ◌<ℤ◌, IsTrue, Some, if◌then◌else◌}
 use Rattle.std.proofs.lemmas.Bool.{cases_Bool, cond-true, cond-false, true≢false}
-use Rattle.uc_model.specs.Sums.{sum_below}
-use Rattle.uc_model.specs.Commitment.{Commitment, starts, is_allowed}
-use Rattle.uc_model.specs.Cost.{production_cost, cell_cost, shortage_cost, cost}
-use Rattle.uc_model.specs.Division.{IsFloor}
-use Rattle.uc_model.specs.Limits.{IsLawfulThermal, IsLawfulInstance}
-use Rattle.uc_model.specs.PrintedSchedule.{cell_at, printed_cost}
-use Rattle.uc_model.specs.Schedule.{Schedule, thermal_unit, thermal_count}
-use Rattle.uc_model.specs.StartCategory.{category_cost, is_category_allowed, last_stop, sigma}
-use Rattle.uc_model.specs.Tolerance.{tolerance_of}
+use Rattle.uc_model.specs.Prelude.{sum_below, Commitment, starts, is_allowed, production_cost, cell_cost, shortage_cost, cost, IsFloor, IsLawfulThermal, IsLawfulInstance, cell_at, printed_cost, Schedule, thermal_unit, thermal_count, category_cost, is_category_allowed, last_stop, sigma, tolerance_of}
 use Rattle.uc_model.specs.declared.instance.Thermal.{Thermal}
 use Rattle.uc_model.specs.declared.instance.Instance.{Instance}
 use Rattle.uc_model.specs.declared.schedule.Printed.{Printed}
-use Rattle.uc_model.proofs.Quotients.{IsFloor-greatest, IsFloor-int_div_euclid}
-use Rattle.uc_model.proofs.Ring.{linear, le_refl, le_antisymm, mul_comm, mul_left_comm, mul-sub, mul-le-mul_left, le_from_mul, pos_nonneg}
-use Rattle.uc_model.proofs.Sums.{sum_below-same}
-use Rattle.uc_model.proofs.Tests.{le-int_le}
-use Rattle.dual_model.specs.LeastStarts.{least_start_cost, cell_cost_by_least_starts, cost_by_least_starts}
-use Rattle.dual_model.specs.NodeValue.{IsNodeValue, node_total}
-use Rattle.dual_model.specs.ValueKind.{IsValueOf}
+use Rattle.uc_model.proofs.Common.{IsFloor-greatest, IsFloor-int_div_euclid, linear, le_refl, le_antisymm, mul_comm, mul_left_comm, mul-sub, mul-le-mul_left, le_from_mul, pos_nonneg, sum_below-same, le-int_le}
+use Rattle.dual_model.specs.Prelude.{least_start_cost, cell_cost_by_least_starts, cost_by_least_starts, IsNodeValue, node_total, IsValueOf}
 use Rattle.dual_model.specs.declared.node.Node.{Node}
 use Rattle.dual_model.specs.declared.table.Table.{Table}
 use Rattle.dual_model.proofs.ExactValues.{exact_values_reach}
@@ -29,9 +16,9 @@ use Rattle.dual_model.proofs.Locality.{SameBelow, starts-same, sigma-same}
 use Rattle.start_costs.specs.Cheapest.{HasLeastCategory}
 use Rattle.start_costs.specs.Regular.{AreStartsRegular}
 use Rattle.start_costs.proofs.RegularStarts.{regular}
-use Rattle.branch_tree.specs.Closing.{is_within_gap}
-use Rattle.search_machine.specs.Moves.{bound_of}
-use Rattle.dispatch_rules.specs.CommitmentTask.{Pattern, AreAllowed, commitment_at}
+use Rattle.branch_tree.specs.Prelude.{is_within_gap}
+use Rattle.search_machine.specs.Prelude.{bound_of}
+use Rattle.dispatch_rules.specs.Prelude.{Pattern, AreAllowed, commitment_at}
 use Rattle.pivot_dispatch.specs.Commitments.{IsBestOf, IsRayOf, IsDecidedAt, denominator_of, shown}
 use Rattle.pivot_closing.specs.Pivoted.{rounding_limit}
 use Rattle.pivot_closing.proofs.Rounding.{printed-le-cost}

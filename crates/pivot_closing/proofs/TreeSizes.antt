@@ -6,12 +6,11 @@ use Rattle.std.proofs.lemmas.Bool.{cases_Bool, cases_lt, and_parts, not-true, eq
 use Rattle.std.proofs.lemmas.List.Elements.{All-head, All-tail, All-cons, All-nil, All-append, All-filter, filter-append}
 use Rattle.std.proofs.lemmas.Grind.{pow_more}
 use Rattle.std.proofs.lemmas.Nat.{pow_pos}
-use Rattle.uc_model.specs.Schedule.{thermal_count}
-use Rattle.dual_model.specs.Fixings.{IsCell, IsNodeOf}
-use Rattle.dual_model.specs.Tree.{root, child, is_decided, IsCoverBelow}
+use Rattle.uc_model.specs.Prelude.{thermal_count}
+use Rattle.dual_model.specs.Prelude.{IsCell, IsNodeOf, root, child, is_decided, IsCoverBelow}
 use Rattle.dual_model.specs.declared.node.Fixing.{Fixing}
 use Rattle.dual_model.specs.declared.node.Node.{Node}
-use Rattle.branch_tree.specs.NumberedTree.{NumberedTree, EndAt, SplitAt, Subtree, IsNumbered, unnumbered, node_count, node_at, subtree_at}
+use Rattle.branch_tree.specs.Prelude.{NumberedTree, EndAt, SplitAt, Subtree, IsNumbered, unnumbered, node_count, node_at, subtree_at}
 use Rattle.branch_tree.specs.declared.found.Entry.{Entry}
 use Rattle.branch_tree.proofs.Changes.{from_some}
 use Rattle.branch_tree.proofs.Subtrees.{part_counted}

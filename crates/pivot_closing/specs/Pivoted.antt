@@ -2,24 +2,17 @@
 -- search closes. Source: branch and bound on the commitment variables of the reference model by Knueven, Ostrowski and Watson, with each
 -- commitment's dispatch as a linear program, whose dual values are the prices. This project's own form.
 use Rattle.std.specs.Prelude.{◌≡◌, ◌≢◌, ℕ, ◌+◌, ◌*◌, ◌<◌, ◌≤◌, ◌⊎◌, true, false, List, ◌∷◌, ℤ, pos, ◌<ℤ◌, Option, Some, None, length, slice_get}
-use Rattle.uc_model.specs.Limits.{IsLawfulInstance}
-use Rattle.uc_model.specs.PrintedSchedule.{printed_cost}
-use Rattle.uc_model.specs.Schedule.{thermal_unit, thermal_count}
-use Rattle.uc_model.specs.Tolerance.{tolerance_of}
+use Rattle.uc_model.specs.Prelude.{IsLawfulInstance, printed_cost, thermal_unit, thermal_count, tolerance_of}
 use Rattle.uc_model.specs.declared.schedule.Printed.{Printed}
 use Rattle.dual_model.specs.declared.node.Node.{Node}
 use Rattle.dual_model.specs.declared.table.Table.{Table}
 use Rattle.start_costs.specs.Regular.{AreStartsRegular}
-use Rattle.branch_tree.specs.Closing.{is_within_gap, is_schedule_within, status_by}
-use Rattle.branch_tree.specs.StoredTree.{IsNodeAt, tree_bound}
-use Rattle.branch_tree.specs.TreeView.{TreeView, IsSizeOf, IsWhole, IsOpenAt, HasFreeCell}
-use Rattle.branch_tree.specs.TrueFound.{IsTrueLog}
+use Rattle.branch_tree.specs.Prelude.{is_within_gap, is_schedule_within, status_by, IsNodeAt, tree_bound, TreeView, IsSizeOf, IsWhole, IsOpenAt, HasFreeCell, IsTrueLog}
 use Rattle.branch_tree.specs.declared.found.Entry.{Entry}
 use Rattle.branch_tree.specs.declared.found.Outcome.{Outcome}
 use Rattle.branch_tree.specs.declared.found.Outcome.TheVariants.{Value, Empty}
-use Rattle.search_machine.specs.Machine.{entries_of}
-use Rattle.search_machine.specs.Moves.{bound_of}
-use Rattle.dispatch_rules.specs.CommitmentTask.{Pattern}
+use Rattle.search_machine.specs.Prelude.{entries_of, bound_of}
+use Rattle.dispatch_rules.specs.Prelude.{Pattern}
 use Rattle.decided_nodes.specs.Decided.{ArePatternsAt}
 use Rattle.pivot_dispatch.specs.Answers.{IsAnswer}
 use Rattle.pivot_dispatch.specs.declared.pivot.Pivot.{Pivot}

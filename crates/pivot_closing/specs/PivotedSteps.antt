@@ -3,14 +3,10 @@
 use Rattle.std.specs.Prelude.{◌≡◌, ℕ, ◌≤◌, Bool, List, []}
 use Rattle.dual_model.specs.declared.node.Node.{Node}
 use Rattle.dual_model.specs.declared.table.Table.{Table}
-use Rattle.branch_tree.specs.StoredTree.{IsNodeAt}
-use Rattle.branch_tree.specs.TreeView.{TreeView, HasFreeCell}
+use Rattle.branch_tree.specs.Prelude.{IsNodeAt, TreeView, HasFreeCell}
 use Rattle.branch_tree.specs.declared.found.Entry.{Entry}
 use Rattle.branch_tree.specs.declared.found.Outcome.{Outcome}
-use Rattle.search_machine.specs.Machine.{Machine, IsHolding, entries_of}
-use Rattle.search_machine.specs.Moves.{IsFreeFor}
-use Rattle.search_machine.specs.Orderly.{IsOrderly}
-use Rattle.search_machine.specs.Steps.{committed}
+use Rattle.search_machine.specs.Prelude.{Machine, IsHolding, entries_of, IsFreeFor, IsOrderly, committed}
 use Rattle.search_machine.specs.declared.event.Move.{Move}
 use Rattle.search_machine.specs.declared.event.Move.TheVariants.{Again}
 use Rattle.pivot_closing.specs.Pivoted.{Instance, IsExactFirst, IsPivoted}

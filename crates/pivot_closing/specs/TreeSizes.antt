@@ -2,8 +2,8 @@
 -- Graham, Knuth and Patashnik, Concrete Mathematics, chapter 2.
 use Rattle.std.specs.Prelude.{◌<◌}
 pub use Rattle.uc_model.specs.declared.instance.Instance.{Instance}
-use Rattle.dual_model.specs.Tree.{IsCover}
-use Rattle.branch_tree.specs.NumberedTree.{NumberedTree, unnumbered, node_count}
+use Rattle.dual_model.specs.Prelude.{IsCover}
+use Rattle.branch_tree.specs.Prelude.{NumberedTree, unnumbered, node_count}
 use Rattle.decided_nodes.specs.Pivoting.{node_limit}
 
 abbrev pub TreesAreSmall : Type 0

@@ -1,17 +1,15 @@
 -- The answers at the end of a run.
 -- Cite by `use Rattle.pivot_dispatch.proofs.Answering.{unpriced_sum, unpriced_cost, ray_is, cheapest_end, schedule_is, fine_is, wide_is, large_scale}`.
 use Rattle.std.proofs.Common.{◌≡◌, ◌<◌, ◌⊎◌, ⊎_elim, inl, inr, refl, sym, ap, subst, ◌∙◌, arith, List, ℤ, pos, ◌<ℤ◌, unsigned_abs}
-use Rattle.uc_model.specs.Limits.{IsLawfulInstance}
-use Rattle.uc_model.proofs.Ring.{linear}
+use Rattle.uc_model.specs.Prelude.{IsLawfulInstance}
+use Rattle.uc_model.proofs.Common.{linear}
 use Rattle.dual_model.specs.declared.table.Table.{Table}
 use Rattle.pivot_run.specs.Pivots.{IsNarrow, IsWide}
 use Rattle.pivot_run.specs.Tables as tables
 use Rattle.dispatch_program.specs.ProgramRuns.{IsCheapest, SumIsLeft}
 use Rattle.dispatch_program.proofs.BasicValues.{shares_exist}
-use Rattle.dispatch_rules.specs.CommitmentTask.{AreAllowed}
+use Rattle.dispatch_rules.specs.Prelude.{AreAllowed, Task, program, scale_of}
 use Rattle.dispatch_rules.specs.declared.amount.Amount.{Amount}
-use Rattle.dispatch_rules.specs.Dispatch.{Task, program}
-use Rattle.dispatch_rules.specs.Duals.{scale_of}
 use Rattle.dispatch_prices.specs.ReadOff.{HasSmallMultipliers, IsLargeMultiplier, ReadingForms, is_priced}
 use Rattle.dispatch_prices.specs.Readings.{IsPriceTable, IsUnfit}
 use Rattle.dispatch_prices.specs.declared.unfit.Unfit.{Unfit}

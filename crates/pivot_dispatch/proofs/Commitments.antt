@@ -2,13 +2,9 @@
 -- Cite by `use Rattle.pivot_dispatch.proofs.Commitments.{ray_of, best_of}`.
 use Rattle.std.proofs.Common.{◌≡◌, ℕ, sym, subst, ◌∙◌, List, pos, ◌≤ℤ◌, ◌<ℤ◌, IsTrue, false}
 use Rattle.std.specs.List.{list_all}
-use Rattle.uc_model.specs.Commitment.{Commitment}
-use Rattle.uc_model.specs.Limits.{IsLawfulInstance}
-use Rattle.uc_model.specs.Rules.{Obeys}
-use Rattle.uc_model.specs.PrintedSchedule.{cell_at, printed_denominator, printed_schedule}
-use Rattle.uc_model.specs.Schedule.{Schedule, thermal_unit}
-use Rattle.uc_model.proofs.Ring.{pos_nonneg}
-use Rattle.dual_model.specs.Fixings.{keeps}
+use Rattle.uc_model.specs.Prelude.{Commitment, IsLawfulInstance, Obeys, cell_at, printed_denominator, printed_schedule, Schedule, thermal_unit}
+use Rattle.uc_model.proofs.Common.{pos_nonneg}
+use Rattle.dual_model.specs.Prelude.{keeps}
 use Rattle.dual_model.specs.declared.node.Node.{Node}
 use Rattle.dual_model.specs.declared.table.Table.{Table}
 use Rattle.dual_model.proofs.ValueKinds.{values_exist_at_schedules}
@@ -18,10 +14,7 @@ use Rattle.pivot_run.specs.Tables as tables
 use Rattle.dispatch_program.specs.LastTables.{IsReached, basis_values}
 use Rattle.dispatch_program.specs.ProgramRuns.{IsCheapest, SumIsLeft}
 use Rattle.dispatch_program.proofs.LastTables.{bases_give_values}
-use Rattle.dispatch_rules.specs.CommitmentTask.{Pattern, commitment_at}
-use Rattle.dispatch_rules.specs.Dispatch.{Task, program}
-use Rattle.dispatch_rules.specs.Duals.{IsTask, scale_of}
-use Rattle.dispatch_rules.specs.Prints.{Printed}
+use Rattle.dispatch_rules.specs.Prelude.{Pattern, commitment_at, Task, program, IsTask, scale_of, Printed}
 use Rattle.dispatch_rules.proofs.Primals.{values_dispatch_is}
 use Rattle.dispatch_rules.proofs.RunEnds.{runs_give_rays}
 use Rattle.dispatch_prices.specs.Dispatched as dispatched

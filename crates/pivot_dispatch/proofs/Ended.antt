@@ -4,11 +4,8 @@ use Rattle.std.proofs.Common.{◌≡◌, ℕ, suc, ◌+◌, ◌-◌, ◌<◌, �
 use Rattle.std.specs.Int.{int_min}
 use Rattle.std.proofs.lemmas.Bool.{cond_both}
 use Rattle.std.proofs.lemmas.List.{length-map}
-use Rattle.uc_model.specs.Commitment.{is_allowed, start_cap, stop_cap}
-use Rattle.uc_model.specs.Limits.{IsLawfulInstance}
-use Rattle.uc_model.specs.Schedule.{thermal_unit, thermal_count}
-use Rattle.uc_model.proofs.Ring.{linear}
-use Rattle.uc_model.proofs.Tests.{int_min_left}
+use Rattle.uc_model.specs.Prelude.{is_allowed, start_cap, stop_cap, IsLawfulInstance, thermal_unit, thermal_count}
+use Rattle.uc_model.proofs.Common.{linear, int_min_left}
 use Rattle.dual_model.proofs.UnitValues.{cap-allowed}
 use Rattle.pivot_run.specs.Tables.{Table, number, right_side}
 use Rattle.pivot_run.proofs.Orders.{int_lt-true, int_lt-false}
@@ -17,10 +14,7 @@ use Rattle.dispatch_program.specs.Programs.{CostValue, RightSide, place}
 use Rattle.dispatch_program.specs.ProgramRuns.{IsCheapest, SumIsLeft}
 use Rattle.dispatch_program.proofs.ProgramRuns.{runs_come}
 use Rattle.dispatch_program.proofs.Starts.{rows_long}
-use Rattle.dispatch_rules.specs.CommitmentTask.{AreAllowed, commitment_at, limit_of}
-use Rattle.dispatch_rules.specs.Dispatch.{Task, limits, program}
-use Rattle.dispatch_rules.specs.Duals.{cost_times}
-use Rattle.dispatch_rules.specs.Rays.{HasRoom}
+use Rattle.dispatch_rules.specs.Prelude.{AreAllowed, commitment_at, limit_of, Task, limits, program, cost_times, HasRoom}
 use Rattle.dispatch_rules.proofs.Going.{runs_end_last}
 use Rattle.dispatch_prices.specs.Dispatched.{IsAllowedTask}
 use Rattle.dispatch_prices.specs.declared.multipliers.End.{End}

@@ -8,7 +8,7 @@ use Rattle.pivot_run.specs.declared.stop.What.TheVariants.{Product as ProductSto
 use Rattle.pivot_run.specs.declared.wide.Wide.{Wide as Factors}
 use Rattle.dispatch_program.specs.Programs.{free_columns, start_table}
 use Rattle.dispatch_program.specs.ProgramRuns.{state_at}
-use Rattle.dispatch_rules.specs.Dispatch.{Task, program}
+use Rattle.dispatch_rules.specs.Prelude.{Task, program}
 use Rattle.dispatch_table.specs.Start.{IsMade}
 use Rattle.dispatch_table.specs.declared.made.Made.TheVariants.{Start as StartOf, Wide as WideOf}
 use Rattle.dispatch_table.specs.declared.made.Start.{Start}

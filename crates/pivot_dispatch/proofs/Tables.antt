@@ -1,8 +1,8 @@
 -- The prices at the end of a run make a lawful table.
 -- Cite by `use Rattle.pivot_dispatch.proofs.Tables.{lawful_table, sum_last, cost_last, sum_scale, cost_positive}`.
 use Rattle.std.proofs.Common.{◌≡◌, ◌+◌, sym, ap, subst, ◌∙◌, arith, List, ℤ, pos, ◌*ℤ◌, ◌≤ℤ◌, ◌<ℤ◌}
-use Rattle.uc_model.proofs.Ring.{zero-mul, mul-zero, mul-lt-mul_left}
-use Rattle.dual_model.specs.Prices.{IsLawfulTable}
+use Rattle.uc_model.proofs.Common.{zero-mul, mul-zero, mul-lt-mul_left}
+use Rattle.dual_model.specs.Prelude.{IsLawfulTable}
 use Rattle.dual_model.specs.declared.table.Table.{Table}
 use Rattle.pivot_run.specs.Tables as tables
 use Rattle.dispatch_program.specs.LastRows.{IsLastRow}
@@ -10,8 +10,7 @@ use Rattle.dispatch_program.specs.LastTables.{IsReached}
 use Rattle.dispatch_program.specs.Programs.{CostValue, place}
 use Rattle.dispatch_program.specs.ProgramRuns.{IsCheapest, SumIsLeft}
 use Rattle.dispatch_program.proofs.LastTables.{count, cost_column, ends_are_last}
-use Rattle.dispatch_rules.specs.Dispatch.{Task, program}
-use Rattle.dispatch_rules.specs.Duals.{IsTask, scale_of}
+use Rattle.dispatch_rules.specs.Prelude.{Task, program, IsTask, scale_of}
 use Rattle.dispatch_prices.specs.Readings.{IsPriceTable}
 use Rattle.dispatch_prices.proofs.Signs.{lawful_signs}
 use Rattle.pivot_dispatch.specs.Answers.{cost_row, sum_row}

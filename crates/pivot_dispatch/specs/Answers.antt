@@ -6,9 +6,7 @@ use Rattle.pivot_run.specs.Stages.{EndsAfter, IsRun, StepForms, plan_at, state_o
 use Rattle.pivot_run.specs.Tables as tables
 use Rattle.dispatch_program.specs.ProgramRuns.{IsCheapest, SumIsLeft, state_at}
 use Rattle.dispatch_program.specs.Programs.{free_columns, start_table, multiplier}
-use Rattle.dispatch_rules.specs.CommitmentTask.{IsTaskOf, MakingForms}
-use Rattle.dispatch_rules.specs.Dispatch.{Task, limit_at, program}
-use Rattle.dispatch_rules.specs.Duals.{IsReadOff, cost_times, scale_of}
+use Rattle.dispatch_rules.specs.Prelude.{IsTaskOf, MakingForms, Task, limit_at, program, IsReadOff, cost_times, scale_of}
 use Rattle.dispatch_prices.specs.ReadOff.{ReadingForms, is_priced}
 use Rattle.dispatch_schedule.specs.ColumnValues.{DenominatorForms, schedule_denominator}
 use Rattle.pivot_dispatch.specs.Commitments.{Instance, Pattern, IsBestOf, IsRayOf}

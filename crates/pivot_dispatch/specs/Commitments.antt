@@ -3,20 +3,13 @@
 -- Watson.
 use Rattle.std.specs.Prelude.{◌≡◌, ℕ, ◌<◌, List, ℤ, pos, ◌<ℤ◌, ◌≤ℤ◌, ◌*ℤ◌, IsTrue}
 use Rattle.std.specs.List.{list_all}
-use Rattle.uc_model.specs.Commitment.{Commitment}
-use Rattle.uc_model.specs.Cost.{cost}
-use Rattle.uc_model.specs.PrintedSchedule.{HasShapeOf, cell_at, printed_denominator, printed_schedule}
-use Rattle.uc_model.specs.Rules.{Obeys}
-use Rattle.uc_model.specs.Schedule.{Schedule, thermal_unit, thermal_count}
-use Rattle.dual_model.specs.Fixings.{IsPatternAt, keeps, IsNodeOf}
-use Rattle.dual_model.specs.LeastStarts.{cost_by_least_starts}
-use Rattle.dual_model.specs.NodeValue.{IsNodeValue}
-use Rattle.dual_model.specs.Prices.{IsLawfulTable}
+use Rattle.uc_model.specs.Prelude.{Commitment, cost, HasShapeOf, cell_at, printed_denominator, printed_schedule, Obeys, Schedule, thermal_unit, thermal_count}
+use Rattle.dual_model.specs.Prelude.{IsPatternAt, keeps, IsNodeOf, cost_by_least_starts, IsNodeValue, IsLawfulTable}
 use Rattle.dual_model.specs.declared.node.Node.{Node}
 use Rattle.dual_model.specs.declared.table.Table.{Table}
 use Rattle.schedule_check.specs.SizedNumbers.{HasSizedNumbers}
 use Rattle.start_costs.specs.Cheapest.{HasLeastCategory}
-use Rattle.dispatch_rules.specs.CommitmentTask.{commitment_at}
+use Rattle.dispatch_rules.specs.Prelude.{commitment_at}
 pub use Rattle.uc_model.specs.declared.instance.Instance.{Instance}
 pub use Rattle.uc_model.specs.declared.pattern.Pattern.{Pattern}
 pub use Rattle.uc_model.specs.declared.schedule.Printed.{Printed}

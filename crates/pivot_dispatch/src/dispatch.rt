@@ -1,7 +1,7 @@
 //! The exact dispatch of a commitment: the run of its table, and what its end gives.
 ghost use Rattle.std.specs.Prelude.{IfOk};
-ghost use Rattle.uc_model.specs.Limits.{IsLawfulInstance};
-ghost use Rattle.dispatch_rules.specs.CommitmentTask.{AreAllowed};
+ghost use Rattle.uc_model.specs.Prelude.{IsLawfulInstance};
+ghost use Rattle.dispatch_rules.specs.Prelude.{AreAllowed};
 ghost use Rattle.dispatch_table.specs.Start.{IsMade};
 ghost use Rattle.dispatch_table.specs.declared.made.Made.TheVariants.{Start as StartOf};
 ghost use Rattle.pivot_dispatch.specs.Answers.{IsAnswer};

@@ -9,7 +9,7 @@ use Rattle.pivot_run.specs.Rows.{IsSmall, entry}
 use Rattle.pivot_run.specs.inside.Entries.{AreBelow, AreEntries, AreEntriesOf, CombiningForms, IsCombined, IsNext, IsSplit, Rise, column, number_at, with_column, with_number}
 use Rattle.pivot_run.proofs.EntryLists.{number_cases, number_of_entry, number_of_none}
 use Rattle.uc_model.proofs.Ring as ring
-use Rattle.uc_model.proofs.Ring.{linear}
+use Rattle.uc_model.proofs.Common.{linear}
 
 int_eq-true : (a b : ℤ) → int_eq a b ≡ true → a ≡ b
 int_eq-true a b h = grind (arith, ints)

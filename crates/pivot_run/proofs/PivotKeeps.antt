@@ -10,7 +10,7 @@ use Rattle.pivot_run.specs.Rows.{entry, cleared, divisor_of}
 use Rattle.pivot_run.specs.Pivots.{AreAsLong, pivot_row, pivoted, row_at}
 use Rattle.pivot_run.specs.Tables.{IsBasic, IsTable, Table, entering, leaving, number, pivoted_table, right_side}
 use Rattle.pivot_run.specs.Runs.{Keeps}
-use Rattle.uc_model.proofs.Ring.{linear}
+use Rattle.uc_model.proofs.Common.{linear}
 use Rattle.pivot_run.proofs.Clearing.{length-combined}
 use Rattle.pivot_run.proofs.Solutions.{by_eliminated, length-upright, length-pivoted, row-pivoted_at, row-pivoted_other, pivoted_solves, pivoted_solved}
 use Rattle.pivot_run.proofs.Ratios.{IsLeast, IsLeaving, leaving_is}

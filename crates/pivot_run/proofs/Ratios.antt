@@ -3,7 +3,7 @@
 use Rattle.std.proofs.Common.{◌≡◌, ℕ, zero, suc, ◌<◌, ◌≤◌, ⊎_elim, true, false, Option, None, Some, sym, ap, subst, ◌∙◌, arith, ℤ, pos, ◌*ℤ◌, ◌≤ℤ◌, ◌<ℤ◌, int_lt}
 use Rattle.std.proofs.lemmas.Bool.{cond_both, cases_Bool, cases_lt}
 use Rattle.pivot_run.specs.Tables.{Table, number, right_side, basic, leaves_before, comes_before, foremost, leaving}
-use Rattle.uc_model.proofs.Ring.{linear, mul_comm, mul_assoc, mul_left_comm, mul-le-mul_left, mul-le-mul_right, le_from_mul}
+use Rattle.uc_model.proofs.Common.{linear, mul_comm, mul_assoc, mul_left_comm, mul-le-mul_left, mul-le-mul_right, le_from_mul}
 use Rattle.pivot_run.proofs.Orders.{int_lt-true, int_lt-false}
 
 -- with three ratios b over a, of positive numbers a: the least of the first two, which is at most the third

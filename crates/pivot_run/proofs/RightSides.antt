@@ -7,7 +7,7 @@ use Rattle.std.proofs.lemmas.List.{get_or-map}
 use Rattle.pivot_run.specs.Rows.{entry, reduced, upright, cleared, divisor_of}
 use Rattle.pivot_run.specs.Pivots.{pivot_row, row_at}
 use Rattle.pivot_run.specs.Tables.{IsTable, Table, number, right_side, leaving, pivoted_table}
-use Rattle.uc_model.proofs.Ring.{linear, mul-zero, mul_comm, mul_nonneg, mul-le-mul_turned, le_from_mul}
+use Rattle.uc_model.proofs.Common.{linear, mul-zero, mul_comm, mul_nonneg, mul-le-mul_turned, le_from_mul}
 use Rattle.pivot_run.proofs.Orders.{lt-int_lt_false}
 use Rattle.pivot_run.proofs.Clearing.{entry-combined, length-combined}
 use Rattle.pivot_run.proofs.Divisors.{divisor_of-positive, divisor_of-divides}

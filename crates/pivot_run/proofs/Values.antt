@@ -7,7 +7,7 @@ use Rattle.pivot_run.specs.Pivots.{row_at}
 use Rattle.pivot_run.specs.Solutions.{dot}
 use Rattle.pivot_run.specs.Tables.{IsBasic, Table, basic, number}
 use Rattle.pivot_run.specs.Values.{at_column, values_of}
-use Rattle.uc_model.proofs.Ring.{le_refl, linear, mul-add, mul-zero, zero-mul, mul-neg, mul_assoc, mul_comm}
+use Rattle.uc_model.proofs.Common.{le_refl, linear, mul-add, mul-zero, zero-mul, mul-neg, mul_assoc, mul_comm}
 
 pub dot-add : (row : List ℤ) (v w : ℕ → ℤ) → dot row (λ c. v c +ℤ w c) ≡ dot row v +ℤ dot row w
 dot-add [] v w = refl

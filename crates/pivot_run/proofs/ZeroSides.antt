@@ -5,7 +5,7 @@ use Rattle.std.proofs.lemmas.Bool.{cases_eq}
 use Rattle.pivot_run.specs.Rows.{entry, cleared}
 use Rattle.pivot_run.specs.Pivots.{pivot_row, row_at}
 use Rattle.pivot_run.specs.Tables.{IsBasic, IsTable, Table, number, pivoted_table, right_side}
-use Rattle.uc_model.proofs.Ring.{linear, le_refl, mul_nonneg}
+use Rattle.uc_model.proofs.Common.{linear, le_refl, mul_nonneg}
 use Rattle.pivot_run.proofs.Solutions.{by_eliminated, row-pivoted_at, row-pivoted_other}
 use Rattle.pivot_run.proofs.RightSides.{reduced_nonneg}
 use Rattle.pivot_run.proofs.Basis.{IsPivot, cleared_at, equal, inside, long, positive, size, upright_zero}

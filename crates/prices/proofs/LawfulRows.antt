@@ -3,7 +3,7 @@ use Rattle.std.proofs.Common.{◌≡◌, ℕ, suc, ◌+◌, ◌<◌, ◌≤◌, 
 use Rattle.std.proofs.lemmas.Bool.{cases_lt}
 use Rattle.std.proofs.lemmas.List.{get_or_append_left, get_or_push, length_push}
 use Rattle.std.proofs.lemmas.List.Elements.{All-push}
-use Rattle.dual_model.specs.Prices.{IsRowBefore, IsRowPriced, IsRowSigned, IsRowWithin}
+use Rattle.dual_model.specs.Prelude.{IsRowBefore, IsRowPriced, IsRowSigned, IsRowWithin}
 use Rattle.prices.specs.inside.Moves.{RampRow, AreLawfulRows, IsBehind, IsMultiplier}
 
 rising_more : (rows : List RampRow) (row : RampRow) (i : ℕ) (d : RampRow)

@@ -1,7 +1,7 @@
 -- The tables that a search steps to. Which table is tried next at a node is free; that it can be told from each that was tried there
 -- before, by the number of those, is this project's own choice.
 use Rattle.std.specs.Prelude.{◌≡◌, ℕ, ◌+◌, ◌^◌, ◌≤◌, ◌⊎◌, pos, unsigned_abs}
-use Rattle.dual_model.specs.Prices.{pi_at, mu_at, up_at, down_at}
+use Rattle.dual_model.specs.Prelude.{pi_at, mu_at, up_at, down_at}
 pub use Rattle.dual_model.specs.declared.table.Table.{Table}
 
 -- m is the size of a multiplier of the table

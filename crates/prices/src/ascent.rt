@@ -1,10 +1,8 @@
 //! The ascent: prices at which the Lagrangian bound of a node is high.
 
 ghost use Rattle.std.specs.Prelude.{◌≡◌, pos, IfOk, IfSome, OnOk};
-ghost use Rattle.uc_model.specs.Limits.{IsLawfulInstance};
-ghost use Rattle.dual_model.specs.Fixings.{IsNodeOf};
-ghost use Rattle.dual_model.specs.Prices.{IsLawfulTable};
-ghost use Rattle.dual_model.specs.TableValue.{IsLawfulScale};
+ghost use Rattle.uc_model.specs.Prelude.{IsLawfulInstance};
+ghost use Rattle.dual_model.specs.Prelude.{IsNodeOf, IsLawfulTable, IsLawfulScale};
 
 use crate::merit::merit_prices;
 use crate::pool::CutPool;

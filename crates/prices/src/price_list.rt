@@ -2,9 +2,8 @@
 //! bind those of its ramp up and then of its ramp down in each period. And the table that they make.
 
 ghost use Rattle.std.specs.Prelude.{◌≡◌, true, All, IfOk, length};
-ghost use Rattle.uc_model.specs.Limits.{IsLawfulInstance};
-ghost use Rattle.dual_model.specs.Prices.{IsLawfulTable, IsPrice, IsRowWithin};
-ghost use Rattle.dual_model.specs.TableValue.{IsLawfulScale};
+ghost use Rattle.uc_model.specs.Prelude.{IsLawfulInstance};
+ghost use Rattle.dual_model.specs.Prelude.{IsLawfulTable, IsPrice, IsRowWithin, IsLawfulScale};
 ghost use Rattle.prices.specs.inside.Moves.{AreLawfulRows, IsBehind, IsMultiplier};
 
 use bundle::at;

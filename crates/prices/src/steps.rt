@@ -1,10 +1,8 @@
 //! The table to try next at a node.
 
 ghost use Rattle.std.specs.Prelude.{◌≡◌, ◌+◌, ◌≤◌, pos, IfOk, IfSome};
-ghost use Rattle.uc_model.specs.Limits.{IsLawfulInstance};
-ghost use Rattle.dual_model.specs.Fixings.{IsNodeOf};
-ghost use Rattle.dual_model.specs.Prices.{IsLawfulTable};
-ghost use Rattle.dual_model.specs.NodeAnswer.{IsValued};
+ghost use Rattle.uc_model.specs.Prelude.{IsLawfulInstance};
+ghost use Rattle.dual_model.specs.Prelude.{IsNodeOf, IsLawfulTable, IsValued};
 ghost use Rattle.prices.specs.Steps.{IsStepFor};
 
 use crate::ascent::{Ascent, Effort, Plan, Values, ascend};

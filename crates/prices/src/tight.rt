@@ -5,8 +5,8 @@
 //! are a ray. So the held price at which the node has the least to spare tells which watts matter, and a decision is worth what it takes of them.
 
 ghost use Rattle.std.specs.Prelude.{◌≡◌, pos, IfOk, IfSome, None, OnOk};
-ghost use Rattle.uc_model.specs.Limits.{IsLawfulInstance};
-ghost use Rattle.dual_model.specs.Prices.{IsLawfulTable};
+ghost use Rattle.uc_model.specs.Prelude.{IsLawfulInstance};
+ghost use Rattle.dual_model.specs.Prelude.{IsLawfulTable};
 
 use crate::ascent::{
     Ascent, Effort, Hill, Sizes, Start, Top, Values, hill_of, no_prices, ray, top_from,

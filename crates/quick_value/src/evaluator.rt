@@ -1,6 +1,6 @@
 //! The evaluator of an instance.
 
-ghost use Rattle.uc_model.specs.Limits.{IsLawfulInstance};
+ghost use Rattle.uc_model.specs.Prelude.{IsLawfulInstance};
 
 use crate::amounts::PART;
 use crate::caps::Caps;

@@ -1,6 +1,6 @@
 //! What a start costs, period by period.
 
-ghost use Rattle.uc_model.specs.Limits.{IsLawfulThermal};
+ghost use Rattle.uc_model.specs.Prelude.{IsLawfulThermal};
 
 use crate::amounts::{SCALE, amount_of, times};
 use start_costs::is_barred;

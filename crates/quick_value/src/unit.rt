@@ -1,7 +1,7 @@
 //! A thermal unit as evaluations take it.
 
 ghost use Rattle.std.specs.Prelude.{IfSome};
-ghost use Rattle.uc_model.specs.Limits.{IsLawfulInstance, IsLawfulThermal};
+ghost use Rattle.uc_model.specs.Prelude.{IsLawfulInstance, IsLawfulThermal};
 
 use crate::amounts::{NEVER, SCALE, amount_of, times, word};
 use crate::starts::Starts;

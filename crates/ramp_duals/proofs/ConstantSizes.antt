@@ -1,14 +1,11 @@
 -- How large a unit's constant is.
 use Rattle.std.proofs.Common.{ℕ, zero, suc, ◌+◌, ◌*◌, ◌<◌, ◌≤◌, arith, Bool, true, false, ℤ, ◌-ℤ◌, ◌*ℤ◌, unsigned_abs, neg_ℤ}
 use Rattle.std.proofs.lemmas.Int.{ints}
-use Rattle.uc_model.specs.Commitment.{initial_p}
-use Rattle.uc_model.specs.Limits.{IsLawfulThermal}
-use Rattle.uc_model.specs.Sums.{bit, sum_below}
+use Rattle.uc_model.specs.Prelude.{initial_p, IsLawfulThermal, bit, sum_below}
 use Rattle.uc_model.specs.declared.limits.TheConstants.{MAX_PERIODS, MAX_POWER}
 use Rattle.uc_model.specs.declared.instance.Thermal.{Thermal}
-use Rattle.uc_model.proofs.Sizes.{abs_add, abs_mul, abs_sub}
-use Rattle.dual_model.specs.NodeValue.{unit_constant}
-use Rattle.dual_model.specs.Prices.{IsWithinLimits, down_at, up_at}
+use Rattle.uc_model.proofs.Common.{abs_add, abs_mul, abs_sub}
+use Rattle.dual_model.specs.Prelude.{unit_constant, IsWithinLimits, down_at, up_at}
 use Rattle.dual_model.specs.declared.limits.TheConstants.{MAX_PRICE}
 use Rattle.dual_model.specs.declared.table.Table.{Table}
 use Rattle.ramp_duals.specs.Sizes.{MAX_CONSTANT}

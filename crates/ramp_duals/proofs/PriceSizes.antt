@@ -1,9 +1,7 @@
 -- How large the prices of a unit are where the table's numbers are within the limits.
 use Rattle.std.proofs.Common.{ℕ, suc, ◌≤◌, sym, subst, arith, ℤ, pos, unsigned_abs}
 use Rattle.std.proofs.lemmas.Int.{ints}
-use Rattle.dual_model.specs.Prices.{row_of, IsPrice, IsRowPriced, IsWithinLimits}
-use Rattle.dual_model.specs.TableValue.{IsLawfulRow}
-use Rattle.dual_model.specs.Term.{output_price, reserve_price}
+use Rattle.dual_model.specs.Prelude.{row_of, IsPrice, IsRowPriced, IsWithinLimits, IsLawfulRow, output_price, reserve_price}
 use Rattle.dual_model.specs.declared.limits.TheConstants.{MAX_UNIT_PRICE}
 use Rattle.dual_model.proofs.Multipliers.{look_up, row_of_each}
 use Rattle.ramp_duals.specs.RampRows.{Table, IsRowOf}

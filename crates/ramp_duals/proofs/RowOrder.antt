@@ -1,10 +1,10 @@
 -- Rows that rise by unit and then by period: what stands before a cell, and which row is the cell's.
 use Rattle.std.proofs.Common.{◌≡◌, ℕ, zero, suc, ◌<◌, ◌≤◌, ◌⊎◌, ⊎_elim, inl, inr, Bool, true, false, ◌&&◌, List, [], ◌∷◌, length, refl, sym, ap, subst, ◌∙◌, arith, pos, IsTrue, ◌==◌}
 use Rattle.std.proofs.lemmas.Bool.{and_parts, and_from, eqb-true, eq-eqb, cond-true, cond-false}
-use Rattle.dual_model.specs.Prices.{row_of, IsRowBefore}
+use Rattle.dual_model.specs.Prelude.{row_of, IsRowBefore}
 use Rattle.ramp_duals.specs.RampRows.{RampRow, Table, AreRising, row_in, IsBefore, IsPlace, AreOf, AreOfTable}
 use Rattle.ramp_duals.specs.declared.multipliers.Multipliers.{Multipliers}
-use Rattle.uc_model.proofs.Sums.{below_or_last}
+use Rattle.uc_model.proofs.Common.{below_or_last}
 
 -- a row before another one that stands before a cell stands before it too
 before-before : (first second : RampRow) (g t : ℕ) → IsRowBefore first second → IsBefore second g t → IsBefore first g t

@@ -1,9 +1,8 @@
 -- Where a cell stands among ramp rows that rise by unit and then by period, as those of one unit do: how its multipliers are
 -- found without a walk. This project's own form of a table.
 use Rattle.std.specs.Prelude.{◌≡◌, ℕ, suc, ◌<◌, ◌≤◌, ◌⊎◌, List, ℤ, pos, length, slice_index_or}
-use Rattle.dual_model.specs.Prices.{pi_at, up_at, down_at, row_of}
-pub use Rattle.dual_model.specs.Prices.{AreRising}
-use Rattle.dual_model.specs.Term.{output_price, reserve_price}
+use Rattle.dual_model.specs.Prelude.{pi_at, up_at, down_at, row_of, output_price, reserve_price}
+pub use Rattle.dual_model.specs.Prelude.{AreRising}
 pub use Rattle.dual_model.specs.declared.table.Table.{Table}
 pub use Rattle.dual_model.specs.declared.table.RampRow.{RampRow}
 use Rattle.ramp_duals.specs.declared.multipliers.Multipliers.{Multipliers}

@@ -2,9 +2,7 @@
 
 ghost use Rattle.std.specs.Prelude.{◌≡◌, ℕ, suc, ◌<◌, ◌≤◌, pos, ◌+ℤ◌, ◌-ℤ◌, length, slice_index_or, unsigned_abs};
 ghost use Rattle.uc_model.specs.declared.instance.Instance.{Instance};
-ghost use Rattle.dual_model.specs.Prices.{IsWithinLimits};
-ghost use Rattle.dual_model.specs.TableValue.{AreRowsOf, IsLawfulRow, row_at};
-ghost use Rattle.dual_model.specs.Term.{output_price, reserve_price};
+ghost use Rattle.dual_model.specs.Prelude.{IsWithinLimits, AreRowsOf, IsLawfulRow, row_at, output_price, reserve_price};
 ghost use Rattle.ramp_duals.specs.RampRows.{AreOfTable, IsRowOf};
 
 use crate::multipliers::{Multipliers, following, multipliers_of};

@@ -1,10 +1,8 @@
 //! What the ramp rules of a unit add to a node's value, whatever its pattern.
 
 ghost use Rattle.std.specs.Prelude.{◌≡◌, ◌^◌, ◌≤◌, ◌-ℤ◌, ◌*ℤ◌, neg_ℤ, length, unsigned_abs};
-ghost use Rattle.uc_model.specs.Commitment.{initial_p};
-ghost use Rattle.uc_model.specs.Limits.{IsLawfulThermal};
-ghost use Rattle.dual_model.specs.NodeValue.{unit_constant};
-ghost use Rattle.dual_model.specs.Prices.{IsWithinLimits};
+ghost use Rattle.uc_model.specs.Prelude.{initial_p, IsLawfulThermal};
+ghost use Rattle.dual_model.specs.Prelude.{unit_constant, IsWithinLimits};
 ghost use Rattle.ramp_duals.specs.Sizes.{MAX_CONSTANT};
 
 use crate::multipliers::{Multipliers, following, multipliers_of};

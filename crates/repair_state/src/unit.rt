@@ -1,7 +1,7 @@
 //! What repairs have to know of a thermal unit.
 
 ghost use Rattle.std.specs.Prelude.{IfSome};
-ghost use Rattle.uc_model.specs.Limits.{IsLawfulInstance, IsLawfulThermal};
+ghost use Rattle.uc_model.specs.Prelude.{IsLawfulInstance, IsLawfulThermal};
 
 use crate::lists::put;
 use crate::merit::{PART, Segment, cost_of, push_segments, rate_within};

@@ -2,7 +2,7 @@
 -- of the cost. This project's own form.
 use Rattle.std.specs.Prelude.{ℕ, List, [], ◌∷◌, ℤ, Option, Some, None, codes}
 use Rattle.uc_model.specs.Decimal.{whole_text}
-use Rattle.branch_tree.specs.StoredTree.{tree_bound}
+use Rattle.branch_tree.specs.Prelude.{tree_bound}
 use Rattle.outside.specs.Lines.{joined, line}
 use Rattle.report.specs.FoundReport.{Found, Printed, schedule_summary, no_schedule_summary}
 

@@ -2,9 +2,9 @@
 -- periods count from 1 here, and from 0 in the types. Where a schedule has a denominator, its powers are told as numerators.
 use Rattle.std.specs.Prelude.{ℕ, zero, suc, nat_lt, Bool, List, [], ◌∷◌, ◌++◌, ℤ, pos, ◌+ℤ◌, ◌*ℤ◌, Option, Some, None, length, flat_map, codes, if◌then◌else◌}
 use Rattle.std.specs.List.{zip}
+use Rattle.uc_model.specs.Prelude.{thermal_unit, thermal_count, renewable_count}
 use Rattle.uc_model.specs.Decimal.{whole_text}
 use Rattle.uc_model.specs.Money.{money_text}
-use Rattle.uc_model.specs.Schedule.{thermal_unit, thermal_count, renewable_count}
 use Rattle.uc_model.specs.declared.instance.Thermal.{Thermal}
 use Rattle.uc_model.specs.declared.instance.Renewable.{Renewable}
 use Rattle.uc_model.specs.declared.instance.Instance.{Instance}
@@ -14,8 +14,7 @@ use Rattle.uc_model.specs.declared.stuck.Why.{Why}
 use Rattle.uc_model.specs.declared.stuck.Why.TheVariants.{Rule, Box, Over, Under, Reserve}
 use Rattle.uc_model.specs.declared.stuck.Stuck.{Stuck}
 pub use Rattle.branch_tree.specs.declared.found.Found.{Found}
-use Rattle.branch_tree.specs.StoredTree.{tree_bound}
-use Rattle.branch_tree.specs.Closing.{is_within_gap}
+use Rattle.branch_tree.specs.Prelude.{tree_bound, is_within_gap}
 use Rattle.outside.specs.Lines.{joined, line, list_line}
 use Rattle.report.specs.Names.{unit_words}
 

@@ -2,7 +2,7 @@
 use Rattle.std.specs.Prelude.{ℕ, List, [], ◌∷◌, ℤ, Option, Some, None, codes}
 use Rattle.uc_model.specs.Decimal.{whole_text}
 use Rattle.uc_model.specs.declared.instance.Instance.{Instance}
-use Rattle.branch_tree.specs.StoredTree.{tree_bound}
+use Rattle.branch_tree.specs.Prelude.{tree_bound}
 use Rattle.outside.specs.Lines.{joined, line}
 use Rattle.report.specs.FoundReport.{Found, Printed, cost_line, schedule_lines, size_line}
 pub use Rattle.roll.specs.declared.rolled.Rolled.{Rolled}

@@ -1,8 +1,8 @@
 //! The line on a commitment that could not be dispatched.
 
 ghost use Rattle.std.specs.Prelude.{◌≡◌, ◌∷◌, [], codes};
+ghost use Rattle.uc_model.specs.Prelude.{thermal_unit};
 ghost use Rattle.uc_model.specs.Money.{money_text};
-ghost use Rattle.uc_model.specs.Schedule.{thermal_unit};
 ghost use Rattle.outside.specs.Lines.{line};
 ghost use Rattle.report.specs.FoundReport.{thermal_words, why_line, stuck_line};
 

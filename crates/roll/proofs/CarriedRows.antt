@@ -5,13 +5,9 @@ use Rattle.std.proofs.lemmas.Int.{ints}
 use Rattle.std.proofs.lemmas.Bool.{cases_lt, cases_Bool}
 use Rattle.std.proofs.lemmas.List.{get_or_append_left, get_or_push, length_push}
 use Rattle.std.proofs.lemmas.List.Elements.{All-get_or}
-use Rattle.uc_model.specs.Sums.{bit}
-use Rattle.uc_model.specs.Commitment.{start_reduction, starts, start_cap}
+use Rattle.uc_model.specs.Prelude.{bit, start_reduction, starts, start_cap, thermal_unit, IsLawfulInstance, IsLawfulThermal}
 use Rattle.uc_model.specs.Rules as model
-use Rattle.uc_model.specs.Schedule.{thermal_unit}
-use Rattle.uc_model.specs.Limits.{IsLawfulInstance, IsLawfulThermal}
-use Rattle.uc_model.proofs.Ring.{linear, le_trans, mul-one, mul-zero}
-use Rattle.uc_model.proofs.Tests.{int_le-true}
+use Rattle.uc_model.proofs.Common.{linear, le_trans, mul-one, mul-zero, int_le-true}
 use Rattle.schedule_check.specs.WholeWatts as watts
 use Rattle.schedule_check.proofs.Produced.{Holds, holds_from}
 use Rattle.roll.specs.FirstPeriods.{first_periods}

@@ -2,8 +2,7 @@
 -- another row of the unit with another initial state.
 use Rattle.std.proofs.Common.{◌≡◌, ℕ, suc, not, ◌&&◌, ◌||◌, List, ap, pos, ◌+ℤ◌, ◌-ℤ◌, ◌*ℤ◌, int_le, if◌then◌else◌}
 use Rattle.std.specs.Ordering.{int_eq}
-use Rattle.uc_model.specs.Sums.{bit}
-use Rattle.uc_model.specs.Commitment.{must_run_at, was_on, start_reduction, stop_reduction, stop_cap}
+use Rattle.uc_model.specs.Prelude.{bit, must_run_at, was_on, start_reduction, stop_reduction, stop_cap}
 use Rattle.schedule_check.specs.WholeWatts as watts
 use Rattle.roll.specs.Left.{Thermal, Cell, CarriedUnit}
 use Rattle.roll.specs.NextWindow.{continued}

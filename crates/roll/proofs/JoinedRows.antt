@@ -3,12 +3,8 @@
 use Rattle.std.proofs.Common.{◌≡◌, ℕ, zero, suc, ◌+◌, ◌-◌, ◌<◌, ◌≤◌, ⊎_elim, min, Bool, true, false, not, ◌&&◌, ◌||◌, ◌==◌, List, refl, sym, ap, subst, ◌∙◌, arith, ℤ, pos, ◌+ℤ◌, ◌-ℤ◌, ◌*ℤ◌, ◌≤ℤ◌, IsTrue, int_le, nat_lt, if◌then◌else◌}
 use Rattle.std.proofs.lemmas.Int.{ints}
 use Rattle.std.proofs.lemmas.Bool.{or_cases, or_left, or_right, cases_Bool, cases_lt, true≢false, not-true, not_from_true, not_from_false, ltb-true, lt-ltb, le-ltb, eq-eqb, cond-true, cond-false, cond_both}
-use Rattle.uc_model.specs.Sums.{bit}
-use Rattle.uc_model.specs.Commitment.{Commitment, state_before, was_on, starts, stops, initial_p, initial_down_at, initial_stop_holds, initial_up_at, minimum_down_at, minimum_up_at, must_run_at, start_reduction, stop_reduction, stop_cap}
-use Rattle.uc_model.specs.StartCategory.{is_category_allowed}
-use Rattle.uc_model.specs.Limits.{IsLawfulThermal}
-use Rattle.uc_model.proofs.Ring.{linear, le_trans, mul-one, one-mul, mul-zero, zero-mul}
-use Rattle.uc_model.proofs.Tests.{int_le-true, le-int_le}
+use Rattle.uc_model.specs.Prelude.{bit, Commitment, state_before, was_on, starts, stops, initial_p, initial_down_at, initial_stop_holds, initial_up_at, minimum_down_at, minimum_up_at, must_run_at, start_reduction, stop_reduction, stop_cap, is_category_allowed, IsLawfulThermal}
+use Rattle.uc_model.proofs.Common.{linear, le_trans, mul-one, one-mul, mul-zero, zero-mul, int_le-true, le-int_le}
 use Rattle.schedule_check.specs.WholeWatts as watts
 use Rattle.schedule_check.proofs.Produced.{holds_from}
 use Rattle.roll.specs.Left.{Thermal, Cell, CarriedUnit, HasLasted, IsLeft, initial_state, is_too_high_to_stop, time_off_so_far, time_on_left, time_on_so_far}

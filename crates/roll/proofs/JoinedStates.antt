@@ -5,7 +5,7 @@
 -- The state is that of being on, or that of being off.
 use Rattle.std.proofs.Common.{◌≡◌, ℕ, zero, suc, ◌+◌, ◌-◌, ◌<◌, ◌≤◌, ⊎_elim, Bool, true, false, not, ◌&&◌, ◌==◌, refl, sym, ap, ◌∙◌, arith, IsTrue, if◌then◌else◌}
 use Rattle.std.proofs.lemmas.Bool.{and_parts, cases_Bool, cases_lt, true≢false, not-true, eqb-true, cond-false}
-use Rattle.uc_model.specs.Commitment.{Commitment, state_before}
+use Rattle.uc_model.specs.Prelude.{Commitment, state_before}
 use Rattle.roll.specs.Left.{HasLasted}
 use Rattle.roll.proofs.LastingChanges.{EachLasts}
 

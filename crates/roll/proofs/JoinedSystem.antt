@@ -2,10 +2,8 @@
 use Rattle.std.proofs.Common.{◌≡◌, ℕ, ◌<◌, ◌&&◌, ◌||◌, ap, ◌∙◌, ℤ, pos, ◌+ℤ◌, ◌*ℤ◌, int_le, nat_lt}
 use Rattle.std.specs.Int.{int_max}
 use Rattle.std.specs.Ordering.{int_eq}
-use Rattle.uc_model.specs.Sums.{sum_below, bit}
-use Rattle.uc_model.specs.Schedule.{thermal_unit, thermal_count, renewable_count, renewable_minimum, renewable_maximum, demand_at, reserve_at}
-use Rattle.uc_model.specs.PrintedSchedule.{cell_at, shed_at, short_at}
-use Rattle.uc_model.proofs.Sums.{sum_below-same}
+use Rattle.uc_model.specs.Prelude.{sum_below, bit, thermal_unit, thermal_count, renewable_count, renewable_minimum, renewable_maximum, demand_at, reserve_at, cell_at, shed_at, short_at}
+use Rattle.uc_model.proofs.Common.{sum_below-same}
 use Rattle.schedule_check.specs.SizedNumbers.{output_at}
 use Rattle.schedule_check.specs.WholeWatts as watts
 use Rattle.roll.specs.Left.{Instance, Printed}

@@ -1,10 +1,8 @@
 -- The rules on the numbers of a schedule in whole watts that obeys, each as its test in watts.
 use Rattle.std.proofs.Common.{◌≡◌, ℕ, ◌<◌, ◌≤◌, sym, subst, ◌∙◌, arith, ℤ, IsTrue}
-use Rattle.uc_model.specs.Schedule.{thermal_count}
+use Rattle.uc_model.specs.Prelude.{thermal_count, printed_denominator, printed_schedule, IsLawfulInstance}
 use Rattle.uc_model.specs.Rules as model
-use Rattle.uc_model.specs.PrintedSchedule.{printed_denominator, printed_schedule}
-use Rattle.uc_model.specs.Limits.{IsLawfulInstance}
-use Rattle.uc_model.proofs.Obeyed.{rule_at}
+use Rattle.uc_model.proofs.Common.{rule_at}
 use Rattle.schedule_check.specs.WholeWatts as watts
 use Rattle.schedule_check.proofs.Measures.{over_one}
 use Rattle.schedule_check.proofs.SameRules.{IsPlace, production-is, same_rule}

@@ -1,9 +1,7 @@
 -- What is kept of the windows stays as it is when more is stitched behind it.
 use Rattle.std.proofs.Common.{◌≡◌, ℕ, ◌+◌, ◌-◌, ◌<◌, ◌≤◌, ◌++◌, List, length, get_or, take, sym, ap, ◌∙◌, arith, min, ℤ, pos, ◌+ℤ◌, ◌-ℤ◌, int_lt, if◌then◌else◌}
 use Rattle.std.proofs.lemmas.List.{get_or_append_left, get_or-append-add, get_or-take}
-use Rattle.uc_model.specs.Commitment.{stop_reduction}
-use Rattle.uc_model.specs.Schedule.{thermal_unit, thermal_count, renewable_count}
-use Rattle.uc_model.specs.PrintedSchedule.{cell_at, shed_at, short_at}
+use Rattle.uc_model.specs.Prelude.{stop_reduction, thermal_unit, thermal_count, renewable_count, cell_at, shed_at, short_at}
 use Rattle.schedule_check.specs.SizedNumbers.{output_at}
 use Rattle.schedule_check.specs.WholeWatts.{cell, row_of}
 use Rattle.roll.specs.Left.{Instance, Thermal, Cell, Printed, CarriedUnit, IsLeftBy, time_on_so_far}

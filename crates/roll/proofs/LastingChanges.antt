@@ -2,12 +2,8 @@
 -- last period. So a rule over windows is told change by change, and a cut of the periods weakens it.
 use Rattle.std.proofs.Common.{◌≡◌, ℕ, zero, suc, ◌+◌, ◌-◌, ◌<◌, ◌≤◌, ⊎_elim, min, max, Bool, true, false, not, ◌&&◌, refl, sym, ap, ◌∙◌, arith, pos, ◌≤ℤ◌, IsTrue, nat_lt}
 use Rattle.std.proofs.lemmas.Bool.{and_parts, and_from, or_left, or_right, cases_Bool, cases_lt, true≢false, not-true, not-false, not_from_true, not_from_false, false_from_ne_true, lt-ltb}
-use Rattle.uc_model.specs.Sums.{sum_below, bit}
-use Rattle.uc_model.specs.Commitment.{Commitment, state_before, keeps_minimum_at}
-use Rattle.uc_model.proofs.Ring.{linear}
-use Rattle.uc_model.proofs.Sums.{sum_below-zero}
-use Rattle.uc_model.proofs.Tests.{le-int_le}
-use Rattle.uc_model.proofs.MinimumTimes.{OneChange, fall, one_change}
+use Rattle.uc_model.specs.Prelude.{sum_below, bit, Commitment, state_before, keeps_minimum_at}
+use Rattle.uc_model.proofs.Common.{linear, sum_below-zero, le-int_le, OneChange, fall, one_change}
 
 -- the changes are those from another state to the state, in each of the periods
 abbrev pub AreRises : ℕ → Bool → Commitment → Commitment → Type 0

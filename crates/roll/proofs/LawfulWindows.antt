@@ -1,7 +1,6 @@
 -- A window of a lawful instance is lawful, where its units' states are.
 use Rattle.std.proofs.Common.{ℕ, ◌+◌, ◌≤◌, sym, subst}
-use Rattle.uc_model.specs.Schedule.{thermal_unit}
-use Rattle.uc_model.specs.Limits.{IsLawfulInstance, IsLawfulThermal}
+use Rattle.uc_model.specs.Prelude.{thermal_unit, IsLawfulInstance, IsLawfulThermal}
 use Rattle.roll.specs.Left.{Instance, Thermal, Carried, CarriedUnit, HasStates, IsLawfulState, state_of}
 use Rattle.roll.specs.NextWindow.{IsWindow, continued}
 use Rattle.roll.proofs.Parts.{part_lawful, window_is_part}

@@ -5,13 +5,10 @@ use Rattle.std.specs.Int.{int_max}
 use Rattle.std.proofs.lemmas.Int.{ints}
 use Rattle.std.proofs.lemmas.List.{ext_get_or, length-take-le, length-drop, length-map, get_or-take, get_or-drop, get_or-map, take_all}
 use Rattle.std.proofs.lemmas.List.Elements.{All-get_or, All-from_get_or}
-use Rattle.uc_model.specs.Sums.{sum_below}
-use Rattle.uc_model.specs.Schedule.{thermal_unit, thermal_count, renewable_unit, renewable_count, renewable_minimum, renewable_maximum, demand_at, reserve_at}
-use Rattle.uc_model.specs.Limits.{IsLawfulInstance, IsLawfulThermal, IsLawfulRenewable, IsPower, greatest_shortage_cost}
+use Rattle.uc_model.specs.Prelude.{sum_below, thermal_unit, thermal_count, renewable_unit, renewable_count, renewable_minimum, renewable_maximum, demand_at, reserve_at, IsLawfulInstance, IsLawfulThermal, IsLawfulRenewable, IsPower, greatest_shortage_cost}
 use Rattle.uc_model.specs.declared.limits.TheConstants.{MAX_SHORTAGE_COST}
 use Rattle.uc_model.specs.declared.instance.Renewable.{Renewable}
-use Rattle.uc_model.proofs.Ring.{linear, le_trans, add-le-add, scale-le-scale}
-use Rattle.uc_model.proofs.Sums.{sum_below-same, sum_below-split, sum_below_nonneg}
+use Rattle.uc_model.proofs.Common.{linear, le_trans, add-le-add, scale-le-scale, sum_below-same, sum_below-split, sum_below_nonneg}
 use Rattle.roll.specs.FirstPeriods.{first_periods, first_limits}
 use Rattle.roll.specs.Left.{Instance, Carried}
 use Rattle.roll.specs.NextWindow.{IsWindow}

@@ -1,7 +1,7 @@
 -- How a roll goes on: from what is rolled so far, by the place of the next window and what its search finds.
 use Rattle.std.proofs.Common.{◌≡◌, ℕ, suc, ◌+◌, ◌-◌, ◌<◌, ◌≤◌, ⊎_elim, refl, sym, subst, ◌∙◌, arith, ℤ, Some, None}
 use Rattle.std.proofs.lemmas.Bool.{cases_lt}
-use Rattle.uc_model.specs.Limits.{IsLawfulInstance}
+use Rattle.uc_model.specs.Prelude.{IsLawfulInstance}
 use Rattle.schedule_check.specs.Accepted.{IsAccepted}
 use Rattle.roll.specs.Kept.{IsKept}
 use Rattle.roll.specs.NextWindow.{IsNextWindow}

@@ -3,10 +3,7 @@ use Rattle.std.proofs.Common.{◌≡◌, ℕ, ◌+◌, ◌-◌, ◌<◌, ◌≤�
 use Rattle.std.proofs.lemmas.Bool.{and_right, cases_Bool, cases_lt}
 use Rattle.std.proofs.lemmas.List.{get_or_append_left, get_or-append-add, get_or-take, length-append, length-map, length-take-le, length_push}
 use Rattle.std.proofs.lemmas.List.Elements.{All-get_or, All-from_get_or}
-use Rattle.uc_model.specs.Commitment.{Commitment, starts, was_on}
-use Rattle.uc_model.specs.Schedule.{thermal_unit, thermal_count, renewable_count}
-use Rattle.uc_model.specs.PrintedSchedule.{HasShapeOf, cell_at}
-use Rattle.uc_model.specs.Limits.{IsLawfulInstance, IsLawfulThermal, IsLimit, IsPower}
+use Rattle.uc_model.specs.Prelude.{Commitment, starts, was_on, thermal_unit, thermal_count, renewable_count, HasShapeOf, cell_at, IsLawfulInstance, IsLawfulThermal, IsLimit, IsPower}
 use Rattle.uc_model.specs.declared.limits.TheConstants.{MAX_START_ROWS}
 use Rattle.schedule_check.specs.PlainNumbers.{HasPlainNumbers, IsPlainCell}
 use Rattle.schedule_check.specs.SizedNumbers.{output_at}

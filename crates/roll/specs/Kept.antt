@@ -1,7 +1,6 @@
 -- A schedule of an instance's first periods that obeys every rule of these. This project's own statement.
 use Rattle.std.specs.Prelude.{◌≡◌, ℕ, ◌≤◌}
-use Rattle.uc_model.specs.PrintedSchedule.{HasShapeOf, printed_denominator, printed_schedule}
-use Rattle.uc_model.specs.Rules.{Obeys}
+use Rattle.uc_model.specs.Prelude.{HasShapeOf, printed_denominator, printed_schedule, Obeys}
 pub use Rattle.uc_model.specs.declared.schedule.Printed.{Printed}
 use Rattle.schedule_check.specs.PlainNumbers.{HasPlainNumbers}
 use Rattle.roll.specs.FirstPeriods.{Instance, first_periods}

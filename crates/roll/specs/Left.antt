@@ -4,9 +4,7 @@
 --
 -- Periods count from 0; `end` is the first one behind the schedule.
 use Rattle.std.specs.Prelude.{◌≡◌, ◌≢◌, ℕ, ◌+◌, ◌-◌, ◌<◌, ◌≤◌, ◌==◌, min, Bool, false, not, ◌&&◌, List, ℤ, pos, ◌+ℤ◌, ◌-ℤ◌, int_lt, length, slice_index_or, if◌then◌else◌}
-use Rattle.uc_model.specs.Commitment.{Commitment, stop_reduction}
-use Rattle.uc_model.specs.Schedule.{thermal_unit, thermal_count}
-use Rattle.uc_model.specs.Limits.{IsPower}
+use Rattle.uc_model.specs.Prelude.{Commitment, stop_reduction, thermal_unit, thermal_count, IsPower}
 use Rattle.uc_model.specs.declared.limits.TheConstants.{MAX_TIME}
 pub use Rattle.uc_model.specs.declared.instance.Instance.{Instance}
 pub use Rattle.uc_model.specs.declared.instance.Thermal.{Thermal}

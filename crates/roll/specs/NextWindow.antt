@@ -3,7 +3,7 @@
 --
 -- Periods count from 0; `start` is the first one of the window, and `len` how many it has.
 use Rattle.std.specs.Prelude.{◌≡◌, ℕ, ◌<◌, take, drop}
-use Rattle.uc_model.specs.Schedule.{thermal_unit, thermal_count, renewable_unit, renewable_count}
+use Rattle.uc_model.specs.Prelude.{thermal_unit, thermal_count, renewable_unit, renewable_count}
 use Rattle.uc_model.specs.declared.instance.Renewable.{Renewable}
 use Rattle.roll.specs.Left.{Instance, Thermal, Printed, Carried, CarriedUnit, state_of, IsCarried}
 

@@ -4,9 +4,7 @@
 -- What the search of a window may find is left open here: it is a relation of an instance and what was found. Periods count from 0, but
 -- for those of a place and of an outcome.
 use Rattle.std.specs.Prelude.{◌≡◌, ℕ, suc, ◌+◌, ◌-◌, ◌*◌, ◌<◌, ◌≤◌, min, ℤ, Some, None}
-use Rattle.uc_model.specs.Limits.{IsLawfulInstance}
-use Rattle.uc_model.specs.PrintedSchedule.{cell_at, shed_at, short_at}
-use Rattle.uc_model.specs.Schedule.{thermal_unit, thermal_count, renewable_count}
+use Rattle.uc_model.specs.Prelude.{IsLawfulInstance, cell_at, shed_at, short_at, thermal_unit, thermal_count, renewable_count}
 pub use Rattle.branch_tree.specs.declared.found.Found.{Found}
 use Rattle.schedule_check.specs.Accepted.{IsAccepted}
 use Rattle.schedule_check.specs.SizedNumbers.{output_at}

@@ -1,7 +1,7 @@
 //! The states in which a schedule of the first periods leaves the thermal units.
 
 ghost use Rattle.std.specs.Prelude.{◌≡◌, ◌-◌, ◌<◌, ◌≤◌, ◌+ℤ◌, if◌then◌else◌, IfOk, length};
-ghost use Rattle.uc_model.specs.Limits.{IsLawfulInstance, IsLawfulThermal, IsPower};
+ghost use Rattle.uc_model.specs.Prelude.{IsLawfulInstance, IsLawfulThermal, IsPower};
 ghost use Rattle.uc_model.specs.declared.limits.TheConstants.{MAX_PERIODS, MAX_TIME};
 ghost use Rattle.schedule_check.specs.WholeWatts.{cell, commitment};
 ghost use Rattle.roll.specs.Kept.{ObeysFirst};

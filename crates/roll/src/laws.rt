@@ -1,7 +1,7 @@
 //! Laws of rolling windows, each the contract of a function with an empty body.
 
 ghost use Rattle.std.specs.Prelude.{◌≡◌, ℕ, ◌+◌};
-ghost use Rattle.uc_model.specs.Limits.{IsLawfulInstance};
+ghost use Rattle.uc_model.specs.Prelude.{IsLawfulInstance};
 ghost use Rattle.roll.specs.FirstPeriods.{Instance, first_periods};
 ghost use Rattle.roll.specs.Kept.{IsKept, Printed, PrintedObeys};
 ghost use Rattle.roll.specs.Stitched.{IsContinuation, IsStitched};

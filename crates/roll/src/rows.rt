@@ -1,8 +1,7 @@
 //! Rows of a stitched schedule.
 
 ghost use Rattle.std.specs.Prelude.{◌≡◌, ◌≢◌, ℕ, ◌+◌, ◌++◌, ◌<◌, ◌≤◌, IfOk, OnOk, false, length, take};
-ghost use Rattle.uc_model.specs.Limits.{IsLawfulThermal};
-ghost use Rattle.uc_model.specs.PatternBits.{commitment_of};
+ghost use Rattle.uc_model.specs.Prelude.{IsLawfulThermal, commitment_of};
 ghost use Rattle.uc_model.specs.declared.limits.TheConstants.{MAX_PERIODS};
 ghost use Rattle.schedule_check.specs.WholeWatts.{category, cell, commitment};
 ghost use Rattle.roll.specs.Stitched.{SameDispatch};

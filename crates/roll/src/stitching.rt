@@ -1,7 +1,7 @@
 //! A schedule of more periods, from what is kept and a window's schedule.
 
 ghost use Rattle.std.specs.Prelude.{◌≡◌, ℕ, ◌+◌, ◌<◌, ◌≤◌, IfOk, length};
-ghost use Rattle.uc_model.specs.Limits.{IsLawfulInstance};
+ghost use Rattle.uc_model.specs.Prelude.{IsLawfulInstance};
 ghost use Rattle.uc_model.specs.declared.limits.TheConstants.{MAX_PERIODS};
 ghost use Rattle.schedule_check.specs.Accepted.{IsAccepted};
 ghost use Rattle.roll.specs.Kept.{IsKept};

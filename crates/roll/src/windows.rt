@@ -1,7 +1,7 @@
 //! The instance of a window.
 
 ghost use Rattle.std.specs.Prelude.{◌≡◌, ◌+◌, ◌-◌, ◌≤◌, IfOk, drop, length, take};
-ghost use Rattle.uc_model.specs.Limits.{IsLawfulInstance};
+ghost use Rattle.uc_model.specs.Prelude.{IsLawfulInstance};
 ghost use Rattle.roll.specs.Left.{HasStates};
 ghost use Rattle.roll.specs.NextWindow.{IsWindow, continued, limits_within};
 ghost use Rattle.roll.specs.inside.Units.{AreContinued, AreWithin, HaveLimits};

@@ -1,8 +1,9 @@
 -- A sum over the indexes so far with the next term.
 use Rattle.std.proofs.Common.{◌≡◌, ℕ, suc, ◌+◌, ◌*◌, ◌<◌, ◌≤◌, ◌^◌, sym, ap, subst, ◌∙◌, arith, ℤ, ◌+ℤ◌, to_z, of_z, unsigned_abs}
 use Rattle.std.specs.Int.{w128}
-use Rattle.uc_model.specs.Sums.{sum_below}
-use Rattle.uc_model.proofs.Sizes.{abs_add, wide}
+use Rattle.uc_model.specs.Prelude.{sum_below}
+use Rattle.uc_model.proofs.Common.{abs_add}
+use Rattle.uc_model.proofs.Sizes.{wide}
 
 -- the sum with the next term, and its size
 pub record Added (n : ℕ) (f : ℕ → ℤ) (m : ℕ) (result : ℤ) : Type 0 where

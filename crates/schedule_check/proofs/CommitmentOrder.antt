@@ -1,6 +1,6 @@
 -- The rules on commitments are M1 to M5 and M7, in the order in which they are tried.
 use Rattle.std.proofs.Common.{◌≡◌, ℕ, zero, suc, ◌<◌, ◌≤◌, ◌⊎◌, inl, inr, ⊎_elim, List, length, refl, sym, subst, ◌∙◌, arith, get_or, true≢false, ℤ, IsTrue}
-use Rattle.uc_model.specs.Rules.{rule_number}
+use Rattle.uc_model.specs.Prelude.{rule_number}
 use Rattle.schedule_check.specs.CommitmentRules.{Cell, Thermal, IsOnCommitments, RowKeeps, BreaksFirst}
 use Rattle.schedule_check.specs.inside.Failures.{FailsFirstAt}
 use Rattle.schedule_check.specs.WholeWatts.{InitialDown, InitialStop, InitialUp, MinimumDown, MinimumUp, MustRun, UnitRule, over, rule_of, unit_holds, unit_holds_by, unit_periods}

@@ -3,11 +3,8 @@
 use Rattle.std.proofs.Common.{◌≡◌, ℕ, zero, suc, ◌+◌, ◌-◌, ◌<◌, ◌≤◌, ⊎_elim, Bool, true, false, ◌&&◌, ◌||◌, refl, sym, ap, subst, ◌∙◌, arith, List, length, get_or, pos, IsTrue, nat_le, nat_lt, slice_set, int_le, get_or-set_same, get_or-set_other, if◌then◌else◌}
 use mir.Val.{bool_byte}
 use Rattle.std.proofs.lemmas.Bool.{cases_lt, cases_Bool, and_parts, and_from, leb-true, le-leb, ltb-true, lt-ltb, le-ltb, true≢false}
-use Rattle.uc_model.specs.Sums.{sum_below, any_below, bit}
-use Rattle.uc_model.proofs.Ring.{linear}
-use Rattle.uc_model.proofs.Tests.{any_below-at, any_below-from}
-use Rattle.uc_model.proofs.Sums.{sum_below-split}
-use Rattle.uc_model.specs.Commitment.{keeps_minimum_at}
+use Rattle.uc_model.specs.Prelude.{sum_below, any_below, bit, keeps_minimum_at}
+use Rattle.uc_model.proofs.Common.{linear, any_below-at, any_below-from, sum_below-split}
 use Rattle.schedule_check.specs.inside.Changes.{count_below}
 
 -- ---- single counts

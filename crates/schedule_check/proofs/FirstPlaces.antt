@@ -1,11 +1,8 @@
 -- From the first place of one rule to the first of all, in their order; and from numerators to what they stand for.
 use Rattle.std.proofs.Common.{◌≡◌, ℕ, ◌-◌, ◌<◌, ◌≤◌, Bool, refl, sym, subst, ◌∙◌, arith, IsTrue, ℤ}
 use Rattle.uc_model.specs.Rules as model
-use Rattle.uc_model.specs.Rules.{Obeys}
-use Rattle.uc_model.specs.Schedule.{thermal_unit, thermal_count}
-use Rattle.uc_model.specs.PrintedSchedule.{printed_denominator, printed_schedule}
-use Rattle.uc_model.specs.Limits.{IsLawfulInstance}
-use Rattle.uc_model.proofs.Tests.{all_below-from}
+use Rattle.uc_model.specs.Prelude.{Obeys, thermal_unit, thermal_count, printed_denominator, printed_schedule, IsLawfulInstance}
+use Rattle.uc_model.proofs.Common.{all_below-from}
 use Rattle.schedule_check.specs.FirstBroken.{Broken, Instance, HoldsThroughout, FailsFirst, IsFirstBroken}
 use Rattle.schedule_check.specs.inside.Failures.{Place, FailsFirstAt, FailsFirstIn}
 use Rattle.schedule_check.specs.WholeWatts.{MustRun, Printed, UnitRule, holds_at, holds_by, numerators_hold, over, rule_of, row_of, unit_holds_by, unit_periods}

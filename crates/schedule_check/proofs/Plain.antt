@@ -3,11 +3,9 @@
 use Rattle.std.proofs.Common.{ℕ, ◌<◌, ◌≤◌, ⊎_elim, List, [], length, get_or, sym, subst, refl, ℤ, pos, ◌+ℤ◌, ◌≤ℤ◌, arith, false}
 use Rattle.std.proofs.lemmas.Bool.{cases_lt}
 use Rattle.std.proofs.lemmas.List.{get_or_past}
-use Rattle.uc_model.specs.PrintedSchedule.{cell_at}
-use Rattle.uc_model.specs.Limits.{IsLimit, IsPower}
+use Rattle.uc_model.specs.Prelude.{cell_at, IsLimit, IsPower}
 use Rattle.uc_model.specs.declared.limits.TheConstants.{MAX_POWER}
-use Rattle.uc_model.proofs.Ring.{linear}
-use Rattle.uc_model.proofs.CostBound.{within_of_abs, abs_of_within}
+use Rattle.uc_model.proofs.Common.{linear, within_of_abs, abs_of_within}
 use Rattle.schedule_check.specs.SizedNumbers.{Cell, Printed, HasSizedNumbers}
 use Rattle.schedule_check.specs.PlainNumbers.{HasPlainNumbers, IsPlainCell}
 

@@ -2,13 +2,8 @@
 -- unit's.
 use Rattle.std.proofs.Common.{◌≡◌, ℕ, zero, suc, ◌<◌, ◌≤◌, ⊎_elim, false, ◌∙◌, sym, subst, arith, ℤ, IsTrue, nat_lt, ◌==◌}
 use Rattle.std.proofs.lemmas.Bool.{and_parts, or_cases, cases_Bool, cond-true, cond-false, eqb-true, ltb-true}
-use Rattle.uc_model.specs.Commitment.{Commitment, starts}
-use Rattle.uc_model.specs.StartCategory.{category_count, is_category_allowed, category_holds_at}
-use Rattle.uc_model.specs.Schedule.{thermal_unit, thermal_count}
-use Rattle.uc_model.specs.Rules.{Category, Production, Obeys}
-use Rattle.uc_model.specs.PrintedSchedule.{cell_at, printed_denominator, printed_schedule}
-use Rattle.uc_model.specs.Limits.{IsLawfulInstance}
-use Rattle.uc_model.proofs.Obeyed.{rule_at}
+use Rattle.uc_model.specs.Prelude.{Commitment, starts, category_count, is_category_allowed, category_holds_at, thermal_unit, thermal_count, Category, Production, Obeys, cell_at, printed_denominator, printed_schedule, IsLawfulInstance}
+use Rattle.uc_model.proofs.Common.{rule_at}
 use Rattle.schedule_check.specs.WholeWatts.{Printed, Thermal, HasPrice, HasPriceBy, over, row_of}
 use Rattle.uc_model.specs.declared.instance.Instance.{Instance}
 use Rattle.schedule_check.proofs.Produced.{holds_from}

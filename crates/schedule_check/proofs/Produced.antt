@@ -4,24 +4,13 @@ use Rattle.std.proofs.Common.{◌≡◌, ℕ, zero, suc, ◌*◌, ◌/◌, ◌<�
 use Rattle.std.specs.Ordering.{int_eq}
 use Rattle.std.proofs.Math.Nat.{le-max_left}
 use Rattle.std.proofs.lemmas.Bool.{and_parts, and_from, or_left, or_right, cases_Bool, cond-true, cond-false, cond_both, true≢false, le-leb}
-use Rattle.uc_model.specs.Sums.{bit}
-use Rattle.uc_model.specs.Points.{output_of, weighted_total, weighted_output}
-use Rattle.uc_model.specs.Hull.{Segment, segment_at, segment_width}
-use Rattle.uc_model.specs.Rules.{production_at}
-use Rattle.uc_model.specs.Schedule.{Row, thermal_unit, thermal_count, point_count, p_at, weight_sum}
-use Rattle.uc_model.specs.PrintedSchedule.{cell_at, product_below, width_on, cell_width, printed_denominator, refused_weight, segment_weight, cell_weight}
-use Rattle.uc_model.specs.Limits.{IsLawfulThermal}
+use Rattle.uc_model.specs.Prelude.{bit, output_of, weighted_total, weighted_output, Segment, segment_at, segment_width, production_at, Row, thermal_unit, thermal_count, point_count, p_at, weight_sum, cell_at, product_below, width_on, cell_width, printed_denominator, refused_weight, segment_weight, cell_weight, IsLawfulThermal}
 use Rattle.uc_model.specs.declared.instance.Point.{Point}
 use Rattle.uc_model.specs.declared.instance.Thermal.{Thermal}
 use Rattle.uc_model.specs.declared.instance.Instance.{Instance}
 use Rattle.uc_model.specs.declared.schedule.Cell.{Cell}
 use Rattle.uc_model.specs.declared.schedule.Printed.{Printed}
-use Rattle.uc_model.proofs.Ring.{linear, mul-zero, mul-one, le_from_mul, le_antisymm, mul_nonneg, pos_nonneg}
-use Rattle.uc_model.proofs.Sums.{sum_below-same, sum_below-zero}
-use Rattle.uc_model.proofs.Tests.{int_le-true, le-int_le, int_eq-true, eq-int_eq, all_below-from}
-use Rattle.uc_model.proofs.Obeyed.{Produces, production_parts}
-use Rattle.uc_model.proofs.PrintedCosts.{watts-factor}
-use Rattle.uc_model.proofs.Shortages.{share_is}
+use Rattle.uc_model.proofs.Common.{linear, mul-zero, mul-one, le_from_mul, le_antisymm, mul_nonneg, pos_nonneg, sum_below-same, sum_below-zero, int_le-true, le-int_le, int_eq-true, eq-int_eq, all_below-from, Produces, production_parts, watts-factor, share_is}
 use Rattle.cost_curves.specs.LowerHull.{width_of}
 use Rattle.cost_curves.proofs.UnitPoints.{lawful_points}
 use Rattle.cost_curves.proofs.HullExists.{segment-there, segment-within}

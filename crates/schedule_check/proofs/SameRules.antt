@@ -3,18 +3,11 @@
 use Rattle.std.proofs.Common.{◌≡◌, ℕ, zero, suc, ◌*◌, ◌/◌, ◌<◌, ◌≤◌, not, ◌&&◌, ◌||◌, refl, sym, ap, ◌∙◌, arith, List, ℤ, pos, ◌+ℤ◌, ◌-ℤ◌, ◌*ℤ◌, IsTrue, int_le, nat_lt, slice_index_or}
 use Rattle.std.specs.Int.{int_max}
 use Rattle.std.specs.Ordering.{int_eq}
-use Rattle.uc_model.specs.Sums.{bit}
-use Rattle.uc_model.specs.Commitment.{initial_p}
+use Rattle.uc_model.specs.Prelude.{bit, initial_p, Row, thermal_unit, thermal_count, renewable_unit, renewable_count, p_at, p_before, demand_at, reserve_at, most_shed, most_short, cell_at, shed_at, short_at, printed_denominator, printed_schedule, IsLawfulInstance}
 use Rattle.uc_model.specs.Rules as model
-use Rattle.uc_model.specs.Schedule.{Row, thermal_unit, thermal_count, renewable_unit, renewable_count, p_at, p_before, demand_at, reserve_at, most_shed, most_short}
-use Rattle.uc_model.specs.PrintedSchedule.{cell_at, shed_at, short_at, printed_denominator, printed_schedule}
-use Rattle.uc_model.specs.Limits.{IsLawfulInstance}
 use Rattle.uc_model.specs.declared.instance.Thermal.{Thermal}
 use Rattle.uc_model.specs.declared.instance.Instance.{Instance}
-use Rattle.uc_model.proofs.Ring.{linear, mul-add, mul-sub, mul-zero, mul_assoc, le_from_mul, le_antisymm, scale-le-scale}
-use Rattle.uc_model.proofs.Sums.{sum_below-same, sum_below-mul_left}
-use Rattle.uc_model.proofs.Tests.{int_le-true, le-int_le, int_eq-true, eq-int_eq}
-use Rattle.uc_model.proofs.PrintedCosts.{denominator-factor}
+use Rattle.uc_model.proofs.Common.{linear, mul-add, mul-sub, mul-zero, mul_assoc, le_from_mul, le_antisymm, scale-le-scale, sum_below-same, sum_below-mul_left, int_le-true, le-int_le, int_eq-true, eq-int_eq, denominator-factor}
 use Rattle.schedule_check.specs.SizedNumbers.{Cell, Printed, output_at}
 use Rattle.schedule_check.specs.WholeWatts as watts
 use Rattle.schedule_check.proofs.Counting.{same_test}

@@ -2,14 +2,10 @@
 -- give q times the output.
 use Rattle.std.proofs.Common.{◌≡◌, ℕ, ◌*◌, ◌/◌, ◌<◌, ◌≤◌, ◌≢◌, ⊎_elim, false, refl, sym, ap, subst, ◌∙◌, arith, List, length, ℤ, pos, ◌+ℤ◌, ◌-ℤ◌, ◌*ℤ◌, ◌≤ℤ◌, IsTrue, Some, unsigned_abs, ◌==◌, if◌then◌else◌}
 use Rattle.std.proofs.lemmas.Bool.{cases_Bool, cond-true, cond-false, eqb-true, eqb-false, eq-eqb, ne_eqb}
-use Rattle.uc_model.specs.Points.{output_of, weighted_total, weighted_output}
-use Rattle.uc_model.specs.Hull.{Segment, segment_at, segment_width, from_left, to_right}
-use Rattle.uc_model.specs.PrintedSchedule.{segment_weight}
+use Rattle.uc_model.specs.Prelude.{output_of, weighted_total, weighted_output, Segment, segment_at, segment_width, from_left, to_right, segment_weight}
 use Rattle.uc_model.specs.declared.instance.Point.{Point}
-use Rattle.uc_model.proofs.Ring.{linear, mul_comm, mul_left_comm, mul_assoc, add-mul, mul-sub, sub-mul, mul-zero, pos-mul}
-use Rattle.uc_model.proofs.Sums.{sum_below-single, sum_below-pair}
-use Rattle.uc_model.proofs.HullPoints.{Holds, LiesOn, segment_at-holds, lies_on, abs_is, wide}
-use Rattle.uc_model.proofs.Shortages.{share_is}
+use Rattle.uc_model.proofs.Common.{linear, mul_comm, mul_left_comm, mul_assoc, add-mul, mul-sub, sub-mul, mul-zero, pos-mul, sum_below-single, sum_below-pair, Holds, LiesOn, segment_at-holds, lies_on, abs_is, share_is}
+use Rattle.uc_model.proofs.HullPoints.{wide}
 
 -- weights of at most q that sum to q and give the output p over d
 pub record StandFor (q d : ℕ) (points : List Point) (p : ℤ) (weight : ℕ → ℕ) : Type 0 where

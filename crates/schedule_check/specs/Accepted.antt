@@ -1,7 +1,6 @@
 -- What a search lets out: a schedule that the check accepts, with its cost. This project's own form.
 use Rattle.std.specs.Prelude.{◌≡◌, ◌≤◌, ℤ, IfSome, Option, unsigned_abs}
-use Rattle.uc_model.specs.PrintedSchedule.{HasShapeOf, printed_denominator, printed_schedule, printed_cost}
-use Rattle.uc_model.specs.Rules.{Obeys}
+use Rattle.uc_model.specs.Prelude.{HasShapeOf, printed_denominator, printed_schedule, printed_cost, Obeys}
 use Rattle.uc_model.specs.declared.instance.Instance.{Instance}
 use Rattle.uc_model.specs.declared.limits.TheConstants.{COST_MAX}
 use Rattle.schedule_check.specs.PlainNumbers.{Printed, HasPlainNumbers}

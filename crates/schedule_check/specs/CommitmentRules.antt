@@ -1,7 +1,7 @@
 -- The rules on commitments alone, M1 to M5 and M7, on a unit's row. Source: the rules of the reference model by Knueven, Ostrowski and
 -- Watson, as uc_model has them.
 use Rattle.std.specs.Prelude.{◌≡◌, ℕ, ◌<◌, ◌⊎◌, List, length, IsTrue, Option, Some, None}
-use Rattle.uc_model.specs.Rules.{rule_number}
+use Rattle.uc_model.specs.Prelude.{rule_number}
 pub use Rattle.uc_model.specs.declared.instance.Thermal.{Thermal}
 pub use Rattle.uc_model.specs.declared.schedule.Cell.{Cell}
 use Rattle.schedule_check.specs.WholeWatts.{UnitRule, rule_of, unit_holds, unit_periods}

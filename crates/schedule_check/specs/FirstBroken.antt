@@ -3,8 +3,7 @@
 --
 -- Units and periods count from 0. A rule on the whole system has the one unit 0, and M7 the one period 0.
 use Rattle.std.specs.Prelude.{◌≡◌, ℕ, ◌<◌, Bool, false, IsTrue}
-use Rattle.uc_model.specs.Rules.{Rule, holds_at, rule_number, rule_units, rule_periods}
-use Rattle.uc_model.specs.Schedule.{Schedule}
+use Rattle.uc_model.specs.Prelude.{Rule, holds_at, rule_number, rule_units, rule_periods, Schedule}
 pub use Rattle.uc_model.specs.declared.instance.Instance.{Instance}
 pub use Rattle.schedule_check.specs.declared.broken.Broken.{Broken}
 

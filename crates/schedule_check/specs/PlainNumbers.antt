@@ -1,7 +1,6 @@
 -- The numbers that a dispatch or a repair has: none is below 0, and none is above the limit on a power. This project's own.
 use Rattle.std.specs.Prelude.{◌≡◌, ℕ, ◌≤◌, false, pos, ◌+ℤ◌, ◌≤ℤ◌}
-use Rattle.uc_model.specs.PrintedSchedule.{cell_at, shed_at, short_at}
-use Rattle.uc_model.specs.Limits.{IsPower, IsLimit}
+use Rattle.uc_model.specs.Prelude.{cell_at, shed_at, short_at, IsPower, IsLimit}
 use Rattle.uc_model.specs.declared.limits.TheConstants.{MAX_START_ROWS}
 pub use Rattle.uc_model.specs.declared.schedule.Printed.{Printed}
 use Rattle.schedule_check.specs.SizedNumbers.{Cell, output_at}

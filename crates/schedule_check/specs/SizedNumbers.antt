@@ -1,6 +1,6 @@
 -- Numbers of at most 15 digits, which those of a printed schedule have. This project's own limit.
 use Rattle.std.specs.Prelude.{ℕ, ◌<◌, [], ℤ, pos, unsigned_abs, slice_index_or}
-use Rattle.uc_model.specs.PrintedSchedule.{cell_at}
+use Rattle.uc_model.specs.Prelude.{cell_at}
 pub use Rattle.uc_model.specs.declared.schedule.Cell.{Cell}
 pub use Rattle.uc_model.specs.declared.schedule.Printed.{Printed}
 

@@ -6,12 +6,7 @@
 use Rattle.std.specs.Prelude.{◌≡◌, ℕ, zero, suc, ◌-◌, ◌≤◌, Bool, true, false, not, ◌&&◌, ◌||◌, ◌==◌, nat_lt, List, [], ℤ, pos, ◌+ℤ◌, ◌-ℤ◌, ◌*ℤ◌, ◌≤ℤ◌, int_le, length, slice_index_or, Option, Some, None, if◌then◌else◌}
 use Rattle.std.specs.Int.{int_max}
 use Rattle.std.specs.Ordering.{int_eq}
-use Rattle.uc_model.specs.Sums.{sum_below, bit}
-use Rattle.uc_model.specs.Points.{output_of}
-use Rattle.uc_model.specs.Commitment.{Commitment, must_run_at, initial_up_at, initial_down_at, minimum_up_at, minimum_down_at, initial_stop_holds, initial_p, start_cap, stop_cap}
-use Rattle.uc_model.specs.StartCategory.{category_count, category_holds_at}
-use Rattle.uc_model.specs.Schedule.{thermal_unit, thermal_count, renewable_unit, renewable_count, demand_at, reserve_at}
-use Rattle.uc_model.specs.PrintedSchedule.{cell_at, shed_at, short_at}
+use Rattle.uc_model.specs.Prelude.{sum_below, bit, output_of, Commitment, must_run_at, initial_up_at, initial_down_at, minimum_up_at, minimum_down_at, initial_stop_holds, initial_p, start_cap, stop_cap, category_count, category_holds_at, thermal_unit, thermal_count, renewable_unit, renewable_count, demand_at, reserve_at, cell_at, shed_at, short_at}
 use Rattle.uc_model.specs.Rules as model
 pub use Rattle.uc_model.specs.declared.instance.Thermal.{Thermal}
 use Rattle.uc_model.specs.declared.instance.Point.{Point}

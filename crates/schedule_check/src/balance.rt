@@ -1,10 +1,7 @@
 //! The rules on the whole system: M14 and M15.
 
 ghost use Rattle.std.specs.Prelude.{◌≡◌, ◌*◌, ◌^◌, ◌<◌, ◌≤◌, [], pos, ◌*ℤ◌, ◌+ℤ◌, length, slice_index_or, unsigned_abs};
-ghost use Rattle.uc_model.specs.Sums.{bit, sum_below};
-ghost use Rattle.uc_model.specs.Limits.{IsLawfulInstance};
-ghost use Rattle.uc_model.specs.PrintedSchedule.{HasShapeOf, cell_at, shed_at, short_at};
-ghost use Rattle.uc_model.specs.Schedule.{thermal_count};
+ghost use Rattle.uc_model.specs.Prelude.{bit, sum_below, IsLawfulInstance, HasShapeOf, cell_at, shed_at, short_at, thermal_count};
 ghost use Rattle.schedule_check.specs.SizedNumbers.{output_at};
 ghost use Rattle.schedule_check.specs.inside.Failures.{IsFirstFailure};
 ghost use Rattle.schedule_check.specs.WholeWatts.{demand_holds, over, reserve_holds, reserve_supply_at, row_of, supply_by, thermal_supply_by as thermal_supply_of};

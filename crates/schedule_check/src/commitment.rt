@@ -1,8 +1,7 @@
 //! The rules on commitments: M1 to M3, and M7.
 
 ghost use Rattle.std.specs.Prelude.{◌≡◌, ◌<◌, ◌≤◌, length};
-ghost use Rattle.uc_model.specs.Commitment.{starts as starts_at, stops as stops_at, was_on as was_on_at, must_run_at, initial_up_at, initial_down_at, initial_stop_holds};
-ghost use Rattle.uc_model.specs.Limits.{IsLawfulThermal};
+ghost use Rattle.uc_model.specs.Prelude.{starts as starts_at, stops as stops_at, was_on as was_on_at, must_run_at, initial_up_at, initial_down_at, initial_stop_holds, IsLawfulThermal};
 ghost use Rattle.schedule_check.specs.WholeWatts.{commitment};
 
 use crate::dispatch::initial_limit;

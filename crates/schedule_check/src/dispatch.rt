@@ -1,9 +1,7 @@
 //! The rules on output and reserve: M8 to M12, and the numbers that they and M7 speak of.
 
 ghost use Rattle.std.specs.Prelude.{◌≡◌, suc, ◌*◌, ◌^◌, ◌<◌, ◌≤◌, ◌&&◌, pos, ◌-ℤ◌, ◌*ℤ◌, ◌+ℤ◌, int_le, length, unsigned_abs};
-ghost use Rattle.uc_model.specs.Sums.{bit};
-ghost use Rattle.uc_model.specs.Commitment.{stop_cap as stop_cap_of, stop_reduction as stop_reduction_of};
-ghost use Rattle.uc_model.specs.Limits.{IsLawfulThermal};
+ghost use Rattle.uc_model.specs.Prelude.{bit, stop_cap as stop_cap_of, stop_reduction as stop_reduction_of, IsLawfulThermal};
 ghost use Rattle.schedule_check.specs.SizedNumbers.{IsSizedCell};
 ghost use Rattle.schedule_check.specs.WholeWatts.{IsSizedRow, cell, commitment, output_before_by as before_of, over, production_by, start_cap_by, stop_cap_by, ramp_up_by, ramp_down_by, width as width_of};
 

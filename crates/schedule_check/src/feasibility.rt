@@ -1,9 +1,7 @@
 //! The check of a printed schedule.
 
 ghost use Rattle.std.specs.Prelude.{◌≡◌, IfOk, IfErr, Some};
-ghost use Rattle.uc_model.specs.Limits.{IsLawfulInstance};
-ghost use Rattle.uc_model.specs.PrintedSchedule.{HasShapeOf, printed_cost as printed_cost_of, printed_denominator, printed_schedule};
-ghost use Rattle.uc_model.specs.Rules.{Obeys};
+ghost use Rattle.uc_model.specs.Prelude.{IsLawfulInstance, HasShapeOf, printed_cost as printed_cost_of, printed_denominator, printed_schedule, Obeys};
 ghost use Rattle.schedule_check.specs.FirstBroken.{IsFirstBroken};
 ghost use Rattle.schedule_check.specs.SizedNumbers.{HasSizedNumbers};
 ghost use Rattle.schedule_check.specs.WholeWatts.{IsFirstBrokenOf, IsFirstUnitBroken};

@@ -1,8 +1,7 @@
 //! The limits of a unit's output: what its powers say of it, in whole watts.
 
 ghost use Rattle.std.specs.Prelude.{◌≡◌, ℕ, ◌-◌, ◌^◌, ◌<◌, ◌≤◌, int_le, length, unsigned_abs};
-ghost use Rattle.uc_model.specs.Limits.{IsPower};
-ghost use Rattle.uc_model.specs.Points.{output_of, point_of};
+ghost use Rattle.uc_model.specs.Prelude.{IsPower, output_of, point_of};
 ghost use Rattle.schedule_check.specs.WholeWatts.{over};
 
 use uc_model::limits::MAX_POWER;

@@ -1,7 +1,7 @@
 //! The rules on minimum times: M4 and M5.
 
 ghost use Rattle.std.specs.Prelude.{◌≡◌, ℕ, ◌+◌, ◌<◌, Bool, length};
-ghost use Rattle.uc_model.specs.Commitment.{keeps_minimum_at, minimum_up_at, minimum_down_at, starts as starts_at, stops as stops_at};
+ghost use Rattle.uc_model.specs.Prelude.{keeps_minimum_at, minimum_up_at, minimum_down_at, starts as starts_at, stops as stops_at};
 ghost use Rattle.schedule_check.specs.inside.Changes.{AreCounts};
 ghost use Rattle.schedule_check.specs.WholeWatts.{commitment};
 

@@ -1,13 +1,7 @@
 //! The printed cost of a schedule.
 
 ghost use Rattle.std.specs.Prelude.{◌≡◌, ℕ, ◌+◌, ◌*◌, ◌^◌, ◌<◌, ◌≤◌, ◌+ℤ◌, ◌*ℤ◌, ◌≤ℤ◌, pos, IfSome, if◌then◌else◌, length, unsigned_abs};
-ghost use Rattle.uc_model.specs.Division.{quotient_up};
-ghost use Rattle.uc_model.specs.Hull.{hull_cost};
-ghost use Rattle.uc_model.specs.Limits.{IsLawfulInstance, IsLawfulThermal};
-ghost use Rattle.uc_model.specs.PrintedSchedule.{HasShapeOf, cell_at, printed_cell_cost, printed_cost as printed_cost_of, printed_shortage_cost};
-ghost use Rattle.uc_model.specs.Schedule.{thermal_count, thermal_unit};
-ghost use Rattle.uc_model.specs.StartCategory.{category_cost as category_cost_of, category_count};
-ghost use Rattle.uc_model.specs.Sums.{sum_below};
+ghost use Rattle.uc_model.specs.Prelude.{quotient_up, hull_cost, IsLawfulInstance, IsLawfulThermal, HasShapeOf, cell_at, printed_cell_cost, printed_cost as printed_cost_of, printed_shortage_cost, thermal_count, thermal_unit, category_cost as category_cost_of, category_count, sum_below};
 ghost use Rattle.cost_curves.specs.LowerHull.{IsLowerHull};
 ghost use Rattle.schedule_check.specs.WholeWatts.{HasPrice, HasPriceBy, cell as cell_of, lacking_alone, over, width};
 ghost use Rattle.schedule_check.specs.inside.Known.{IsKnownOn};

@@ -2,10 +2,8 @@
 
 ghost use Rattle.std.specs.Prelude.{◌≡◌, ℕ, ◌<◌, ◌≤◌, ◌&&◌, int_le, pos, length, slice_index_or};
 ghost use Rattle.std.specs.Int.{int_max};
-ghost use Rattle.uc_model.specs.Limits.{IsLawfulInstance};
+ghost use Rattle.uc_model.specs.Prelude.{IsLawfulInstance, HasShapeOf, renewable_count};
 ghost use Rattle.schedule_check.specs.inside.Failures.{IsFirstFailure, IsFirstPlace};
-ghost use Rattle.uc_model.specs.PrintedSchedule.{HasShapeOf};
-ghost use Rattle.uc_model.specs.Schedule.{renewable_count};
 ghost use Rattle.schedule_check.specs.WholeWatts.{is_output_within, over, renewable_range_at};
 
 use crate::broken::Place;

@@ -3,8 +3,7 @@
 ghost use Rattle.std.specs.Prelude.{◌≡◌, ◌&&◌, ◌||◌, nat_lt, int_le, pos, length};
 ghost use Rattle.std.specs.Int.{int_max};
 ghost use Rattle.std.specs.Ordering.{int_eq};
-ghost use Rattle.uc_model.specs.Limits.{IsLawfulInstance};
-ghost use Rattle.uc_model.specs.PrintedSchedule.{HasShapeOf};
+ghost use Rattle.uc_model.specs.Prelude.{IsLawfulInstance, HasShapeOf};
 ghost use Rattle.schedule_check.specs.inside.Failures.{IsFirstFailure};
 ghost use Rattle.schedule_check.specs.WholeWatts.{is_shortage_within, over, shed_holds, short_holds};
 

@@ -1,9 +1,7 @@
 //! The rule on start categories: M6.
 
 ghost use Rattle.std.specs.Prelude.{◌≡◌, ℕ, suc, ◌+◌, ◌<◌, ◌≤◌, length};
-ghost use Rattle.uc_model.specs.Commitment.{Commitment, stops as stops_at};
-ghost use Rattle.uc_model.specs.StartCategory.{category_count, category_holds_at, has_stop_within as has_stop_in, is_category_allowed};
-ghost use Rattle.uc_model.specs.Limits.{IsLawfulThermal};
+ghost use Rattle.uc_model.specs.Prelude.{Commitment, stops as stops_at, category_count, category_holds_at, has_stop_within as has_stop_in, is_category_allowed, IsLawfulThermal};
 ghost use Rattle.schedule_check.specs.inside.Changes.{AreCounts};
 ghost use Rattle.schedule_check.specs.WholeWatts.{Thermal, commitment, category as category_of};
 

@@ -1,7 +1,7 @@
 //! The rules that speak of one thermal unit.
 
 ghost use Rattle.std.specs.Prelude.{◌≡◌};
-ghost use Rattle.uc_model.specs.Rules.{rule_number};
+ghost use Rattle.uc_model.specs.Prelude.{rule_number};
 ghost use Rattle.schedule_check.specs.WholeWatts.{rule_of, unit_periods};
 
 /// M1 to M12 by their names.

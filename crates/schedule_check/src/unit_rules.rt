@@ -1,9 +1,7 @@
 //! The rules on thermal units, unit by unit and period by period.
 
 ghost use Rattle.std.specs.Prelude.{◌≡◌, ℕ, ◌<◌, ◌≤◌, length, slice_index_or};
-ghost use Rattle.uc_model.specs.Limits.{IsLawfulInstance, IsLawfulThermal};
-ghost use Rattle.uc_model.specs.PrintedSchedule.{HasShapeOf};
-ghost use Rattle.uc_model.specs.Schedule.{thermal_count, thermal_unit};
+ghost use Rattle.uc_model.specs.Prelude.{IsLawfulInstance, IsLawfulThermal, HasShapeOf, thermal_count, thermal_unit};
 ghost use Rattle.schedule_check.specs.SizedNumbers.{HasSizedNumbers};
 ghost use Rattle.schedule_check.specs.inside.Changes.{Start, Stop, AreCounts, change_at};
 ghost use Rattle.schedule_check.specs.CommitmentRules.{IsFirstBrokenRule};

@@ -1,7 +1,7 @@
 -- A schedule has plain numbers where each of its rows has, and what is missing is within the limits.
 use Rattle.std.specs.Prelude.{All}
 use Rattle.std.proofs.lemmas.List.Elements.{All-get_or}
-use Rattle.uc_model.specs.Limits.{IsLimit}
+use Rattle.uc_model.specs.Prelude.{IsLimit}
 use Rattle.uc_model.specs.declared.schedule.Printed.{Printed}
 use Rattle.schedule_check.specs.PlainNumbers.{IsPlainCell, HasPlainNumbers}
 use Rattle.schedule_check.proofs.Plain.{plain}

@@ -1,8 +1,7 @@
 //! The door of this crate: only what the feasibility check accepts goes through.
 
 ghost use Rattle.std.specs.Prelude.{◌≡◌, ◌+ℤ◌, All, IfSome, IsTrue, length};
-ghost use Rattle.uc_model.specs.Limits.{IsLawfulInstance, IsLimit};
-ghost use Rattle.uc_model.specs.PrintedSchedule.{HasShapeOf};
+ghost use Rattle.uc_model.specs.Prelude.{IsLawfulInstance, IsLimit, HasShapeOf};
 ghost use Rattle.schedule_check.specs.PlainNumbers.{IsIdleCell, IsPlainCell};
 ghost use Rattle.schedule_check.specs.Accepted.{IsAccepted};
 

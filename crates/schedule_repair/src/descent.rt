@@ -1,7 +1,7 @@
 //! The search for a cheap schedule: commitments rounded at several thresholds, each improved unit by unit, and kicks of the best.
 
 ghost use Rattle.std.specs.Prelude.{IfOk};
-ghost use Rattle.uc_model.specs.Limits.{IsLawfulInstance};
+ghost use Rattle.uc_model.specs.Prelude.{IsLawfulInstance};
 ghost use Rattle.uc_model.specs.declared.instance.Instance.{Instance};
 ghost use Rattle.schedule_check.specs.Accepted.{IsAcceptedIfFound};
 

@@ -1,6 +1,6 @@
 //! States that are kept: the best one so far, and one near it.
 
-ghost use Rattle.uc_model.specs.Limits.{IsLawfulInstance};
+ghost use Rattle.uc_model.specs.Prelude.{IsLawfulInstance};
 
 use crate::moves::start_cost;
 use repair_state::{Period, Plant, State, Window, copy_row, exchange, total, unit_at};

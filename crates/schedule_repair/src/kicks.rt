@@ -1,6 +1,6 @@
 //! A kick: a state near the best one is left by a turn that costs little, and improved anew.
 
-ghost use Rattle.uc_model.specs.Limits.{IsLawfulInstance};
+ghost use Rattle.uc_model.specs.Prelude.{IsLawfulInstance};
 
 use crate::chance::CHANCES;
 use crate::kept::cost_of_state;

@@ -1,6 +1,6 @@
 //! A move: one unit's pattern is made the best beside those of all others.
 
-ghost use Rattle.uc_model.specs.Limits.{IsLawfulInstance, IsLawfulThermal};
+ghost use Rattle.uc_model.specs.Prelude.{IsLawfulInstance, IsLawfulThermal};
 
 use repair_state::{
     Beside, Cells, Decided, Known, Market, Period, Plant, State, Trial, Unit, WAYS, Window,

@@ -1,6 +1,6 @@
 //! Passes over the units, and what missing reserve costs in them.
 
-ghost use Rattle.uc_model.specs.Limits.{IsLawfulInstance};
+ghost use Rattle.uc_model.specs.Prelude.{IsLawfulInstance};
 
 use crate::chance::Chance;
 use crate::moves::{improve, improve_outputs};

@@ -1,7 +1,7 @@
 //! The schedule of a state, in whole watts.
 
 ghost use Rattle.std.specs.Prelude.{◌≡◌, IfOk};
-ghost use Rattle.uc_model.specs.Limits.{IsLawfulInstance, IsLawfulThermal};
+ghost use Rattle.uc_model.specs.Prelude.{IsLawfulInstance, IsLawfulThermal};
 
 use repair_state::{Plant, State, Unit, Window, at, is_on, limits_at, put, unit_at};
 use start_costs::least_allowed;

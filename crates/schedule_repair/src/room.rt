@@ -1,6 +1,6 @@
 //! What repairs share.
 
-ghost use Rattle.uc_model.specs.Limits.{IsLawfulInstance, IsLawfulThermal};
+ghost use Rattle.uc_model.specs.Prelude.{IsLawfulInstance, IsLawfulThermal};
 
 use crate::chance::Chance;
 use crate::descent::THRESHOLDS;

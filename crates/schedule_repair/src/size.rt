@@ -1,7 +1,7 @@
 //! How large a system is, by its cells.
 
 ghost use Rattle.std.specs.Prelude.{◌*◌, ◌≤◌, ◌↔◌, IsTrue};
-ghost use Rattle.uc_model.specs.Schedule.{thermal_count};
+ghost use Rattle.uc_model.specs.Prelude.{thermal_count};
 
 use uc_model::Instance;
 

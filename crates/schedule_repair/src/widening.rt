@@ -1,6 +1,6 @@
 //! Longer runs: a unit whose ramps can bind begins sooner or stops later where demand stays unserved that it can't reach else.
 
-ghost use Rattle.uc_model.specs.Limits.{IsLawfulInstance};
+ghost use Rattle.uc_model.specs.Prelude.{IsLawfulInstance};
 
 use crate::moves::{Attempt, improve_within, most_cost};
 use repair_state::{Decided, Plant, State, is_on};

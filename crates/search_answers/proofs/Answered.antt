@@ -2,24 +2,14 @@
 use Rattle.std.proofs.Common.{◌≡◌, ◌∙◌, ⊎_elim, Bool, ℕ, ◌<◌, All, List, [], length, refl, ap, sym, subst, arith, ℤ, pos, ◌≤ℤ◌, ◌<ℤ◌, Some, Option, None, IfSome, true, false}
 use Rattle.std.proofs.lemmas.Bool.{false≢true}
 use Rattle.std.proofs.lemmas.List.Elements.{All-weaker}
-use Rattle.uc_model.specs.Limits.{IsLawfulInstance}
-use Rattle.uc_model.proofs.Quotients.{IsFloor-greatest, IsFloor-int_div_euclid}
-use Rattle.uc_model.proofs.Ring.{le_refl, le_trans, linear}
-use Rattle.dual_model.specs.Cover.{ReachesBoundOf}
-use Rattle.dual_model.specs.NodeValue.{IsNodeValue}
-use Rattle.dual_model.specs.Opening.{ZERO_SCALE, zero_table}
-use Rattle.dual_model.specs.Prices.{IsLawfulTable}
-use Rattle.dual_model.specs.Tree.{root, HasEachPattern}
-use Rattle.branch_tree.specs.Claims.{IsLayoutOf, written_tables}
-use Rattle.branch_tree.specs.Closing.{is_schedule_within}
-use Rattle.branch_tree.specs.StoredTree.{AtMost, tree_bound}
-use Rattle.branch_tree.specs.TreeView.{tree_of}
-use Rattle.branch_tree.specs.TrueFound.{IsTrueFound}
-use Rattle.branch_tree.specs.UsedTables.{used_tables}
+use Rattle.uc_model.specs.Prelude.{IsLawfulInstance}
+use Rattle.uc_model.proofs.Common.{IsFloor-greatest, IsFloor-int_div_euclid, le_refl, le_trans, linear}
+use Rattle.dual_model.specs.Prelude.{ReachesBoundOf, IsNodeValue, ZERO_SCALE, zero_table, IsLawfulTable, root, HasEachPattern}
+use Rattle.branch_tree.specs.Prelude.{IsLayoutOf, written_tables, is_schedule_within, AtMost, tree_bound, tree_of, IsTrueFound, used_tables}
 use Rattle.branch_tree.specs.declared.layout.Layout.{Layout}
 use Rattle.pivot_closing.proofs.Closing.{closed_statuses, pivoted_searches_close}
 use Rattle.search_machine.specs.declared.stored.Stored.{Stored}
-use Rattle.search_machine.specs.Moves.{bound_of}
+use Rattle.search_machine.specs.Prelude.{bound_of}
 use Rattle.branch_tree.specs.declared.found.Found.{Found}
 use Rattle.uc_model.specs.declared.instance.Instance.{Instance}
 use Rattle.dual_model.specs.declared.table.Table.{Table}

@@ -1,7 +1,7 @@
 -- A lawful table has at most a row for each cell, since its rows rise by unit and period.
 use Rattle.std.proofs.Common.{◌≡◌, ⊎_elim, ℕ, zero, suc, ◌+◌, ◌*◌, ◌<◌, ◌≤◌, List, All, get_or, length, refl, arith, pos}
-use Rattle.uc_model.specs.Limits.{IsLawfulInstance}
-use Rattle.dual_model.specs.Prices.{IsLawfulTable, IsRowBefore, IsRowWithin}
+use Rattle.uc_model.specs.Prelude.{IsLawfulInstance}
+use Rattle.dual_model.specs.Prelude.{IsLawfulTable, IsRowBefore, IsRowWithin}
 use Rattle.dual_model.specs.declared.table.RampRow.{RampRow}
 use Rattle.uc_model.specs.declared.instance.Instance.{Instance}
 use Rattle.uc_model.specs.declared.limits.TheConstants.{MAX_PERIODS, MAX_UNITS}

@@ -1,7 +1,7 @@
 -- A schedule that costs no more than one that costs no more than the drop commitment's.
 use Rattle.std.proofs.Common.{ℤ, Option, Some, None}
 use Rattle.uc_model.specs.declared.schedule.Printed.{Printed}
-use Rattle.uc_model.proofs.Ring.{le_trans}
+use Rattle.uc_model.proofs.Common.{le_trans}
 use Rattle.decommitment.specs.DropCommitment.{Ending, Dispatched, StuckIn}
 use Rattle.search_desk.specs.Best.{IsNoWorse}
 use Rattle.search_answers.specs.SearchResult.{IsNoDearer}

@@ -3,23 +3,15 @@ use Rattle.std.proofs.Common.{◌≡◌, ⊎_elim, ℕ, ◌≤◌, Bool, true, f
 use Rattle.std.proofs.lemmas.Bool.{and_parts, cases_Bool}
 use Rattle.std.proofs.lemmas.Int.{ints}
 use Rattle.std.proofs.lemmas.List.Elements.{All-filter, All-head, All-tail}
-use Rattle.uc_model.proofs.Quotients.{IsFloor-int_div_euclid}
-use Rattle.uc_model.proofs.Ring.{le_refl, le_trans, linear}
-use Rattle.uc_model.proofs.Sizes.{floor-size}
-use Rattle.uc_model.proofs.Tests.{int_lt-true}
-use Rattle.dual_model.specs.Tree.{child}
-use Rattle.dual_model.specs.NodeAnswer.{MAX_VALUE}
-use Rattle.branch_tree.specs.Claims.{table_at}
-use Rattle.branch_tree.specs.NumberedTree.{NumberedTree, EndAt, SplitAt, unnumbered}
-use Rattle.branch_tree.specs.StoredTree.{AtMost, leaf_bound, least_bound, lesser_bound}
+use Rattle.uc_model.proofs.Common.{IsFloor-int_div_euclid, le_refl, le_trans, linear, floor-size, int_lt-true}
+use Rattle.dual_model.specs.Prelude.{child, MAX_VALUE}
+use Rattle.branch_tree.specs.Prelude.{table_at, NumberedTree, EndAt, SplitAt, unnumbered, AtMost, leaf_bound, least_bound, lesser_bound}
 use Rattle.branch_tree.specs.declared.found.Outcome.TheVariants as outcome
 use Rattle.branch_tree.specs.declared.tree.Leaf.{Leaf}
 use Rattle.branch_tree.specs.declared.tree.Leaf.TheVariants as leaf
 use Rattle.branch_tree.proofs.Bounds.{lesser_greatest}
 use Rattle.search_machine.specs.declared.stored.Stored.{Stored}
-use Rattle.search_machine.specs.Machine.{entries_of}
-use Rattle.search_machine.specs.Moves.{bound_of, kept_after}
-use Rattle.search_machine.specs.OwnTables.{HoldsStored, OwnsBelow, stored_after, stored_by}
+use Rattle.search_machine.specs.Prelude.{entries_of, bound_of, kept_after, HoldsStored, OwnsBelow, stored_after, stored_by}
 use Rattle.opening.specs.Outcomes.{IsSized}
 use Rattle.branch_tree.specs.declared.found.Entry.{Entry}
 use Rattle.dual_model.specs.declared.table.Table.{Table}

@@ -2,21 +2,10 @@
 use Rattle.std.proofs.Common.{◌≡◌, ◌∙◌, inl, ℕ, ◌<◌, Bool, true, false, List, [], ◌∷◌, length, map, All, refl, ap, sym, subst, arith, Some, None}
 use Rattle.std.proofs.lemmas.Bool.{false≢true}
 use Rattle.std.proofs.lemmas.List.Elements.{All-nil, All-cons}
-use Rattle.uc_model.specs.Limits.{IsLawfulInstance}
-use Rattle.dual_model.specs.Certificate.{ClaimHolds}
-use Rattle.dual_model.specs.Cover.{AllExcluded}
-use Rattle.dual_model.specs.ExactValue.{HasNoUnitSchedule, IsFirstUnscheduled}
-use Rattle.dual_model.specs.Fixings.{HasNoPattern, IsFirstEmpty}
-use Rattle.dual_model.specs.Opening.{ray_table}
-use Rattle.dual_model.specs.Prices.{IsLawfulTable}
-use Rattle.dual_model.specs.Tree.{Ends, HasEachPattern, map_leaves, root}
-use Rattle.dual_model.specs.ValueKind.{IsFirstBlocked}
-use Rattle.branch_tree.specs.Claims.{IsLayoutOf, certificate_of, leaf_claim, table_at, written_tables}
-use Rattle.branch_tree.specs.Kinds.{IsPlainTree}
-use Rattle.branch_tree.specs.StoredTree.{tree_bound}
-use Rattle.branch_tree.specs.TreeView.{IsWhole}
-use Rattle.branch_tree.specs.TrueFound.{IsTrueEntry, IsTrueFound}
-use Rattle.branch_tree.specs.UsedTables.{used_tables}
+use Rattle.uc_model.specs.Prelude.{IsLawfulInstance}
+use Rattle.dual_model.specs.Prelude.{ClaimHolds, AllExcluded, HasNoUnitSchedule, IsFirstUnscheduled, IsFirstEmpty, ray_table, IsLawfulTable, Ends, HasEachPattern, map_leaves, root, IsFirstBlocked}
+use Rattle.dual_model.specs.Fixings.{HasNoPattern}
+use Rattle.branch_tree.specs.Prelude.{IsLayoutOf, certificate_of, leaf_claim, table_at, written_tables, IsPlainTree, tree_bound, IsWhole, IsTrueEntry, IsTrueFound, used_tables}
 use Rattle.branch_tree.specs.declared.layout.Layout.{Layout}
 use Rattle.branch_tree.specs.declared.tree.Leaf.{Leaf}
 use Rattle.branch_tree.specs.declared.tree.Tree.{Tree}
@@ -31,7 +20,7 @@ use Rattle.opening.proofs.OpeningRays.{first_is_one as first_ray_is_one, no_ray,
 use Rattle.opening_tables.proofs.RayTables.{ray_lawful}
 use Rattle.pivot_closing.proofs.Closing.{closed_statuses}
 use Rattle.pivot_closing.proofs.PivotedSteps.{none_pivoted}
-use Rattle.search_machine.specs.Moves.{empty_leaf, ray_leaf}
+use Rattle.search_machine.specs.Prelude.{empty_leaf, ray_leaf}
 use Rattle.search_answers.specs.SearchResult.{FollowsOpening, IsExcludedByFirst, IsExcludedByUnit, IsNoDearer}
 use Rattle.search_desk.specs.Kinds.{IsOfKind}
 use Rattle.branch_tree.specs.declared.found.Found.{Found}

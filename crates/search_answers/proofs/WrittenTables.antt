@@ -8,21 +8,12 @@ use Rattle.std.proofs.lemmas.List.Elements.{All-append, All-cons, All-map, All-n
 use Rattle.std.proofs.lemmas.Option.{get_or_from_slice_get, same_Some, slice_get-map, slice_get_within}
 use Rattle.uc_model.specs.declared.instance.Instance.{Instance}
 use Rattle.uc_model.specs.declared.schedule.Printed.{Printed}
-use Rattle.uc_model.proofs.Ring.{le_trans}
-use Rattle.dual_model.specs.Certificate.{CertificateHolds, ClaimHolds, ScheduleHolds, WrittenSchedule}
-use Rattle.dual_model.specs.Cover.{HasBoundOf, IsBoundedBy, IsExcluded, IsExcludedByRay, LeafHolds, has_bound, is_bound}
-use Rattle.dual_model.specs.ValueKind.{HasBlockedUnit}
-use Rattle.dual_model.specs.Laws.{IsClaimTrue, IsInfeasible}
-use Rattle.dual_model.specs.Prices.{IsLawfulTable}
-use Rattle.dual_model.specs.Tree.{Ends, Splits, root, child, map_leaves, EachLeaf, IsCover, IsCoverBelow}
+use Rattle.uc_model.proofs.Common.{le_trans}
+use Rattle.dual_model.specs.Prelude.{CertificateHolds, ClaimHolds, ScheduleHolds, WrittenSchedule, HasBoundOf, IsBoundedBy, IsExcluded, IsExcludedByRay, LeafHolds, has_bound, is_bound, HasBlockedUnit, IsClaimTrue, IsInfeasible, IsLawfulTable, Ends, Splits, root, child, map_leaves, EachLeaf, IsCover, IsCoverBelow}
 use Rattle.dual_model.specs.Tree as branch
 use Rattle.dual_model.specs.declared.node.Node.{Node}
 use Rattle.dual_model.specs.declared.table.Table.{Table}
-use Rattle.branch_tree.specs.Claims.{certificate_of, leaf_claim, no_table, table_at, written_of, written_tables}
-use Rattle.branch_tree.specs.StoredTree.{AtMost, leaf_bound, least_bound, lesser_bound, tree_bound}
-use Rattle.branch_tree.specs.TreeLaws.{StoredHolds}
-use Rattle.branch_tree.specs.TreeView.{tree_of}
-use Rattle.branch_tree.specs.UsedTables.{each_once, leaf_tables, leaves, place_of, stored_tables, used_tables}
+use Rattle.branch_tree.specs.Prelude.{certificate_of, leaf_claim, no_table, table_at, written_of, written_tables, AtMost, leaf_bound, least_bound, lesser_bound, tree_bound, StoredHolds, tree_of, each_once, leaf_tables, leaves, place_of, stored_tables, used_tables}
 use Rattle.branch_tree.specs.declared.found.Found.{Found}
 use Rattle.branch_tree.specs.declared.tree.Leaf.{Leaf}
 use Rattle.branch_tree.specs.declared.tree.Leaf.TheVariants as leaf

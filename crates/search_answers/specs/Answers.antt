@@ -1,16 +1,15 @@
 -- What the search makes of what it knows.
 use Rattle.std.specs.Prelude.{◌≡◌, Bool, ℕ, true, List, [], ℤ, Option, None, Some}
-use Rattle.uc_model.specs.Schedule.{thermal_count}
+use Rattle.uc_model.specs.Prelude.{thermal_count}
 pub use Rattle.uc_model.specs.declared.instance.Instance.{Instance}
 pub use Rattle.uc_model.specs.declared.stuck.Stuck.{Stuck}
-use Rattle.branch_tree.specs.NumberedTree.{EndAt}
-use Rattle.branch_tree.specs.TreeView.{TreeView}
+use Rattle.branch_tree.specs.Prelude.{EndAt, TreeView}
 use Rattle.branch_tree.specs.declared.tree.Leaf.{Leaf}
 use Rattle.branch_tree.specs.declared.found.Found.{Found}
 use Rattle.search_answers.specs.Pivoted.{IsPivotedFound}
 use Rattle.search_answers.specs.Writable.{IsWritable}
 use Rattle.search_answers.specs.Best.{told_of}
-use Rattle.search_machine.specs.Moves.{bound_of}
+use Rattle.search_machine.specs.Prelude.{bound_of}
 use Rattle.decommitment.specs.DropCommitment.{Ending}
 use Rattle.uc_model.specs.declared.schedule.Printed.{Printed}
 use Rattle.search_answers.specs.SearchResult.{IsSearchResult, is_ending_within}

@@ -1,9 +1,7 @@
 -- The table that the root has before any claim, by how the drop commitment ends. This project's own.
 use Rattle.std.specs.Prelude.{◌≡◌, ℤ}
 pub use Rattle.uc_model.specs.declared.instance.Instance.{Instance}
-use Rattle.dual_model.specs.NodeValue.{IsNodeValue}
-use Rattle.dual_model.specs.Opening.{zero_table}
-use Rattle.dual_model.specs.Tree.{root}
+use Rattle.dual_model.specs.Prelude.{IsNodeValue, zero_table, root}
 pub use Rattle.dual_model.specs.declared.table.Table.{Table}
 use Rattle.decommitment.specs.DropCommitment.{Ending, Dispatched, StuckIn}
 use Rattle.opening.specs.RootTables.{IsGreaterTable}

@@ -2,7 +2,7 @@
 -- Knueven, Ostrowski and Watson, whose leaves are linear programs.
 use Rattle.std.specs.Prelude.{◌≡◌, ◌⊎◌, ℕ, Bool, true}
 pub use Rattle.uc_model.specs.declared.instance.Instance.{Instance}
-use Rattle.branch_tree.specs.Closing.{status_of}
+use Rattle.branch_tree.specs.Prelude.{status_of}
 pub use Rattle.branch_tree.specs.declared.found.Found.{Found}
 use Rattle.pivot_closing.specs.Pivoted.{IsPivoted, IsWithinReach}
 

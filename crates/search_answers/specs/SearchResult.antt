@@ -4,21 +4,11 @@ use Rattle.std.specs.Prelude.{◌≡◌, ◌≢◌, ℕ, ◌+◌, ◌*◌, ◌�
 pub use Rattle.uc_model.specs.declared.instance.Instance.{Instance}
 use Rattle.uc_model.specs.declared.pattern.Pattern.{Pattern}
 pub use Rattle.uc_model.specs.declared.schedule.Printed.{Printed}
-use Rattle.dual_model.specs.Cover.{ReachesBoundOf}
-use Rattle.dual_model.specs.ExactValue.{IsFirstUnscheduled}
-use Rattle.dual_model.specs.Fixings.{IsFirstEmpty}
-use Rattle.dual_model.specs.Opening.{ray_table, zero_table}
-use Rattle.dual_model.specs.Tree.{Ends, root, HasEachPattern}
+use Rattle.dual_model.specs.Prelude.{ReachesBoundOf, IsFirstUnscheduled, IsFirstEmpty, ray_table, zero_table, Ends, root, HasEachPattern}
 use Rattle.opening_tables.specs.Marginal.{IsMarginalTable}
-use Rattle.branch_tree.specs.Closing.{is_closed, is_within_gap}
-use Rattle.branch_tree.specs.Kinds.{IsPlainTree}
-use Rattle.branch_tree.specs.NumberedTree.{node_count}
-use Rattle.branch_tree.specs.StoredTree.{tree_bound}
-use Rattle.branch_tree.specs.TreeView.{tree_of}
-use Rattle.branch_tree.specs.TrueFound.{IsTrueFound}
+use Rattle.branch_tree.specs.Prelude.{is_closed, is_within_gap, IsPlainTree, node_count, tree_bound, tree_of, IsTrueFound}
 use Rattle.branch_tree.specs.declared.found.Found.{Found}
-use Rattle.search_machine.specs.Moves.{bound_of, empty_leaf, ray_leaf}
-use Rattle.search_machine.specs.OwnTables.{Owns, HasFewEntries}
+use Rattle.search_machine.specs.Prelude.{bound_of, empty_leaf, ray_leaf, Owns, HasFewEntries}
 use Rattle.search_desk.specs.Kinds.{IsOfKind}
 use Rattle.decommitment.specs.DropCommitment.{Ending, Dispatched, StuckIn, IsDropCommitment}
 use Rattle.decommitment.specs.MostOnStuck.{TellsMostOn}

@@ -3,10 +3,8 @@ use Rattle.std.specs.Prelude.{Bool, ◌*◌, ◌≤◌, unsigned_abs, All, IfSom
 pub use Rattle.uc_model.specs.declared.instance.Instance.{Instance}
 pub use Rattle.uc_model.specs.declared.limits.TheConstants.{MAX_PERIODS, MAX_UNITS}
 pub use Rattle.dual_model.specs.declared.table.Table.{Table}
-use Rattle.dual_model.specs.NodeAnswer.{MAX_VALUE}
-use Rattle.branch_tree.specs.Claims.{written_tables}
-use Rattle.branch_tree.specs.StoredTree.{tree_bound}
-use Rattle.branch_tree.specs.TreeView.{IsWhole}
+use Rattle.dual_model.specs.Prelude.{MAX_VALUE}
+use Rattle.branch_tree.specs.Prelude.{written_tables, tree_bound, IsWhole}
 pub use Rattle.branch_tree.specs.declared.found.Found.{Found}
 use Rattle.found_schedule.specs.Found.{IsFoundIfAny}
 

@@ -1,15 +1,12 @@
 //! What a search answers.
 
 ghost use Rattle.std.specs.Prelude.{◌≡◌, ℕ, ◌<◌, Bool, true, All, IfOk, IfSome, None, length};
-ghost use Rattle.uc_model.specs.Limits.{IsLawfulInstance};
-ghost use Rattle.dual_model.specs.Tree.{HasEachPattern, root};
-ghost use Rattle.dual_model.specs.ValueKind.{IsFirstBlocked};
-ghost use Rattle.branch_tree.specs.StoredTree.{tree_bound};
-ghost use Rattle.branch_tree.specs.TreeView.{IsWhole, tree_of};
-ghost use Rattle.branch_tree.specs.UsedTables.{stored_tables};
+ghost use Rattle.uc_model.specs.Prelude.{IsLawfulInstance};
+ghost use Rattle.dual_model.specs.Prelude.{HasEachPattern, root, IsFirstBlocked};
+ghost use Rattle.branch_tree.specs.Prelude.{tree_bound, IsWhole, tree_of, stored_tables};
 ghost use Rattle.schedule_check.specs.Accepted.{IsAcceptedIfFound};
 ghost use Rattle.decommitment.specs.Standings.{IsDropped, ending_of};
-ghost use Rattle.search_machine.specs.Moves.{empty_leaf, ray_leaf};
+ghost use Rattle.search_machine.specs.Prelude.{empty_leaf, ray_leaf};
 ghost use Rattle.opening.specs.Blocked.{HasNoBlockedUnit};
 ghost use Rattle.opening.specs.Rays.{HasNoRay, IsFirstRay};
 ghost use Rattle.opening.specs.RootTables.{IsPricedOf};

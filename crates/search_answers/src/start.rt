@@ -2,7 +2,7 @@
 
 ghost use Rattle.std.specs.Prelude.{◌≡◌, ◌≤◌, IfOk};
 ghost use Rattle.uc_model.specs.declared.tolerance.TheConstants.{WHOLE_GAP};
-ghost use Rattle.dual_model.specs.Tree.{HasEachPattern};
+ghost use Rattle.dual_model.specs.Prelude.{HasEachPattern};
 ghost use Rattle.schedule_check.specs.Accepted.{IsAcceptedIfFound};
 ghost use Rattle.decommitment.specs.Standings.{IsDropped, ending_of};
 ghost use Rattle.opening.specs.RootTables.{IsPricedOf};

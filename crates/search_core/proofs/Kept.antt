@@ -1,7 +1,6 @@
 -- What the fields of a state keep after a step.
 use Rattle.std.proofs.Common.{◌≡◌, ℕ, Bool, ◌+◌, ◌-◌, List, [], ◌∷◌, length, refl, ap, sym, ◌∙◌, subst, Option, Some, None, ℤ, length-set}
-use Rattle.branch_tree.specs.NumberedTree.{node_count}
-use Rattle.branch_tree.specs.TreeView.{TreeView}
+use Rattle.branch_tree.specs.Prelude.{node_count, TreeView}
 use Rattle.branch_tree.specs.declared.tree.Leaf.TheVariants as leaf
 use Rattle.dual_model.specs.declared.table.Table.{Table}
 use Rattle.search_machine.specs.declared.holder.Holder.{Holder}
@@ -9,11 +8,8 @@ use Rattle.branch_tree.specs.declared.found.Outcome.{Outcome}
 use Rattle.search_machine.specs.declared.event.Move.{Move}
 use Rattle.search_machine.specs.declared.event.Event.TheVariants.{Claim, Commit, Look, Pop, Publish, Push, Steal}
 use Rattle.search_machine.specs.declared.event.Event.{Event}
-use Rattle.search_machine.specs.Machine.{Machine, holder_of, desk_in, IsHolding}
+use Rattle.search_machine.specs.Prelude.{Machine, holder_of, desk_in, IsHolding, kept, tree_after, tickets_of, IsFreeFor, children_by, IsLegal, HasSeen, committed_by, after, with_tickets, IsCommittable, IsOrderly}
 use Rattle.search_machine.specs.declared.stored.Stored.{Stored}
-use Rattle.search_machine.specs.Moves.{kept, tree_after, tickets_of, IsFreeFor, children_by}
-use Rattle.search_machine.specs.Steps.{IsLegal, HasSeen, committed_by, after, with_tickets, IsCommittable}
-use Rattle.search_machine.specs.Orderly.{IsOrderly}
 use Rattle.search_core.specs.Fields.{Inside, view_of, IsKept}
 use Rattle.search_machine.proofs.Claims.{holdable, one_held}
 use Rattle.search_machine.proofs.Growth.{tree_grows}

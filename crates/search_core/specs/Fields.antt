@@ -1,8 +1,7 @@
 -- What contracts see of a state's fields, and what the fields keep. This project's own form.
 use Rattle.std.specs.Prelude.{◌≡◌}
-use Rattle.branch_tree.specs.NumberedTree.{node_count}
-use Rattle.search_machine.specs.Machine.{Machine}
-use Rattle.search_machine.specs.Orderly.{IsOrderly}
+use Rattle.branch_tree.specs.Prelude.{node_count}
+use Rattle.search_machine.specs.Prelude.{Machine, IsOrderly}
 pub use Rattle.search_core.specs.declared.state.State.TheInside.{Inside}
 
 abbrev pub view_of : Inside → Machine

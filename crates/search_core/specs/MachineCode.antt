@@ -2,8 +2,7 @@
 use Rattle.std.specs.Prelude.{ℕ, List, ℤ, Option, refl}
 use Rattle.std.specs.Coded.{Coded, code_by, coded_ℕ, coded_ℤ, coded_list, coded_option, coded×}
 use Rattle.dual_model.specs.contracts.table.Table as table
-use Rattle.branch_tree.specs.TreeView.{TreeView}
-use Rattle.branch_tree.specs.TreeCode.{tree_view_code}
+use Rattle.branch_tree.specs.Prelude.{TreeView, tree_view_code}
 use Rattle.branch_tree.specs.contracts.found.Entry as entry
 use Rattle.branch_tree.specs.declared.found.Entry.{Entry}
 use Rattle.dual_model.specs.declared.table.Table.{Table}
@@ -11,7 +10,7 @@ use Rattle.search_machine.specs.declared.holder.Holder.{Holder}
 use Rattle.search_machine.specs.declared.desk.Desk.{Desk}
 use Rattle.search_machine.specs.contracts.desk.Desk as desk
 use Rattle.search_machine.specs.contracts.holder.Holder as holder
-use Rattle.search_machine.specs.Machine.{Machine}
+use Rattle.search_machine.specs.Prelude.{Machine}
 
 abbrev pub MachineParts : Type 0
 MachineParts = ℕ × (ℕ × (TreeView × (List Table × (List (Option Holder) × (List Entry × (Option ℤ × List Desk))))))

@@ -1,7 +1,7 @@
 //! Costs that may not be there yet.
 
 ghost use Rattle.std.specs.Prelude.{◌≡◌, ◌↔◌, IsTrue, Some};
-ghost use Rattle.branch_tree.specs.StoredTree.{lesser_bound};
+ghost use Rattle.branch_tree.specs.Prelude.{lesser_bound};
 
 /// The lesser of a cost that may be there, and another.
 pub(crate) fn least(known: &Option<i64>, cost: i64) -> Option<i64>

@@ -1,9 +1,8 @@
 //! The desks of all workers.
 
 ghost use Rattle.std.specs.Prelude.{◌≡◌, ◌<◌, Some, OnOk, OnErr, length, vec_len};
-ghost use Rattle.branch_tree.specs.StoredTree.{lesser_bound};
-ghost use Rattle.search_machine.specs.Machine.{desk_in};
-ghost use Rattle.search_machine.specs.Steps.{with_desk, with_tickets, with_queued, without_first};
+ghost use Rattle.branch_tree.specs.Prelude.{lesser_bound};
+ghost use Rattle.search_machine.specs.Prelude.{desk_in, with_desk, with_tickets, with_queued, without_first};
 
 use crate::{costs, desk};
 use search_machine::desk::Desk;

@@ -1,9 +1,8 @@
 //! Who holds a node, by which claim, and which nodes are open.
 
 ghost use Rattle.std.specs.Prelude.{◌≡◌, ◌<◌, ◌≤◌, ◌-◌, ◌↔◌, None, IsTrue, IsSomeAnd, slice_set, vec_len};
-ghost use Rattle.branch_tree.specs.NumberedTree.{node_count};
-ghost use Rattle.branch_tree.specs.TreeView.{IsOpenAt};
-ghost use Rattle.search_machine.specs.Machine.{holder_in, IsHeldIn};
+ghost use Rattle.branch_tree.specs.Prelude.{node_count, IsOpenAt};
+ghost use Rattle.search_machine.specs.Prelude.{holder_in, IsHeldIn};
 
 use branch_tree::Tree;
 use search_machine::holder::Holder;

@@ -1,8 +1,7 @@
 //! What the log tells of one node.
 
 ghost use Rattle.std.specs.Prelude.{◌≡◌, ◌↔◌, IsTrue, All, length};
-ghost use Rattle.search_machine.specs.Machine.{entries_of};
-ghost use Rattle.search_machine.specs.Steps.{IsElsewhere};
+ghost use Rattle.search_machine.specs.Prelude.{entries_of, IsElsewhere};
 
 use branch_tree::Entry;
 use dual_model::Table;

@@ -1,7 +1,7 @@
 //! The record of a commit: its entry of the log and what goes with it, or nothing.
 
 ghost use Rattle.std.specs.Prelude.{◌≡◌, ◌<◌, ◌∷◌, ◌++◌, [], OnOk, OnErr, vec_len};
-ghost use Rattle.search_machine.specs.Steps.{with_desk, with_tickets};
+ghost use Rattle.search_machine.specs.Prelude.{with_desk, with_tickets};
 
 use crate::{desks, lists};
 use branch_tree::Entry;

@@ -1,7 +1,7 @@
 //! What a state starts with.
 
 ghost use Rattle.std.specs.Prelude.{◌≡◌, ◌<◌, ◌∷◌, ◌-◌, [], IfOk, replicate};
-ghost use Rattle.search_machine.specs.Machine.{no_desk, first_desk};
+ghost use Rattle.search_machine.specs.Prelude.{no_desk, first_desk};
 
 use crate::lists;
 use search_machine::desk::Desk;

@@ -2,11 +2,9 @@
 use Rattle.std.proofs.Common.{◌≡◌, ◌≢◌, ◌∙◌, ⊎_elim, ◌⊎◌, ℕ, suc, ◌<◌, ◌≤◌, false, true, All, List, [], ◌∷◌, ◌++◌, length, ap, sym, subst, arith, ℤ, Some, refl, length-append, slice_get}
 use Rattle.std.proofs.lemmas.List.{nil_from_length}
 use Rattle.std.proofs.lemmas.Option.{get_or_from_slice_get, slice_get_within}
-use Rattle.dual_model.specs.Fixings.{IsNodeOf}
-use Rattle.dual_model.specs.Prices.{IsLawfulTable}
+use Rattle.dual_model.specs.Prelude.{IsNodeOf, IsLawfulTable}
 use Rattle.dual_model.specs.declared.node.Node.{Node}
-use Rattle.branch_tree.specs.NumberedTree.{node_count}
-use Rattle.branch_tree.specs.StoredTree.{IsNodeAt}
+use Rattle.branch_tree.specs.Prelude.{node_count, IsNodeAt}
 use Rattle.pivot_closing.proofs.Decided.{node_cells}
 use Rattle.book.specs.BookView.{BookView, state_of}
 use Rattle.book.specs.Calls.{IsClaimAnswer, IsHeldUnit, IsStoredAt, IsUnitHeld, claimed}
@@ -15,13 +13,12 @@ use Rattle.book.specs.declared.claims.Claim.{Claim}
 use Rattle.book.specs.declared.claims.Claimed.TheVariants.{Mine}
 use Rattle.book.specs.declared.claims.Status.TheVariants.{Held}
 use Rattle.book.proofs.Units.{held_part}
-use Rattle.search_machine.specs.Machine.{IsHolding, entries_of, holder_in}
+use Rattle.search_machine.specs.Prelude.{IsHolding, entries_of, holder_in, TreeRunsHold}
 use Rattle.search_machine.specs.declared.holder.Holder.{Holder}
 use Rattle.book.specs.Opening.{Opening, IsTrueOpening}
 use Rattle.book.specs.Replay.{number_of, replayed}
 use Rattle.book.proofs.Books.{run_holds}
 use Rattle.book.proofs.Steps.{held_still}
-use Rattle.search_machine.specs.Runs.{TreeRunsHold}
 use Rattle.search_machine.proofs.Claims.{holdable}
 use Rattle.book.specs.Running.{IsRunning}
 use Rattle.search_desk.specs.Desks.{Instance, Table, IsLaterWithin, IsScaledWithin}

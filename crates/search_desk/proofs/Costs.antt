@@ -1,7 +1,7 @@
 -- Costs that may be missing, and the lesser of two.
 use Rattle.std.proofs.Common.{ℤ, Option, Some, None, arith}
 use Rattle.std.proofs.lemmas.Int.{ints, int_min_is}
-use Rattle.uc_model.proofs.Ring.{le_refl, le_trans}
+use Rattle.uc_model.proofs.Common.{le_refl, le_trans}
 use Rattle.incumbent.specs.Costs.{AtMost, least}
 
 pub at_most_itself : (a : Option ℤ) → AtMost a a

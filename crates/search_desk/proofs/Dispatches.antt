@@ -4,22 +4,16 @@ use Rattle.std.specs.Ordering.{int_eq}
 use Rattle.std.proofs.lemmas.Bool.{not-true, true≢false}
 use Rattle.std.proofs.lemmas.Int.{ints}
 use Rattle.std.proofs.lemmas.Option.{same_Some}
-use Rattle.uc_model.specs.PrintedSchedule.{printed_cost}
-use Rattle.uc_model.specs.Tolerance.{tolerance_of}
+use Rattle.uc_model.specs.Prelude.{printed_cost, tolerance_of}
 use Rattle.uc_model.specs.declared.schedule.Printed.{Printed}
 use Rattle.uc_model.specs.declared.tolerance.TheConstants.{WHOLE_GAP}
-use Rattle.uc_model.proofs.Ring.{linear, le_refl}
-use Rattle.uc_model.proofs.Tests.{int_le-true, le-int_le}
-use Rattle.dual_model.specs.Fixings.{HasEmptyUnit}
-use Rattle.dual_model.specs.Tree.{is_decided}
-use Rattle.dual_model.specs.ValueKind.{IsValueOf}
+use Rattle.uc_model.proofs.Common.{linear, le_refl, int_le-true, le-int_le}
+use Rattle.dual_model.specs.Prelude.{HasEmptyUnit, is_decided, IsValueOf}
 use Rattle.dual_model.specs.declared.node.Node.{Node}
-use Rattle.branch_tree.specs.Closing.{is_within_gap}
-use Rattle.branch_tree.specs.StoredTree.{IsNodeAt}
-use Rattle.branch_tree.specs.TreeView.{TreeView, IsSizeOf, HasFreeCell}
+use Rattle.branch_tree.specs.Prelude.{is_within_gap, IsNodeAt, TreeView, IsSizeOf, HasFreeCell}
 use Rattle.branch_tree.specs.declared.found.Outcome.{Outcome}
 use Rattle.branch_tree.specs.declared.found.Outcome.TheVariants.{Value, Empty}
-use Rattle.dispatch_rules.specs.CommitmentTask.{Pattern}
+use Rattle.dispatch_rules.specs.Prelude.{Pattern}
 use Rattle.pivot_dispatch.specs.Answers.{IsAnswer}
 use Rattle.pivot_dispatch.specs.declared.pivot.Pivot.{Pivot}
 use Rattle.pivot_dispatch.specs.declared.pivot.Pivot.TheVariants.{Best, Ray as RayAnswer, Wide}
@@ -33,9 +27,7 @@ use Rattle.pivot_closing.proofs.Decided.{cell_decided}
 use Rattle.pivot_closing.proofs.PivotedSteps.{none_pivoted, entries_keep_pivoted}
 use Rattle.pivot_closing.proofs.TreeSizes.{entries_below}
 use Rattle.incumbent.specs.Costs.{AtMost}
-use Rattle.search_machine.specs.Machine.{IsHolding, entries_of}
-use Rattle.search_machine.specs.Moves.{bound_of, kept}
-use Rattle.search_machine.specs.Runs.{IsTrueOutcome, TreeRunsHold}
+use Rattle.search_machine.specs.Prelude.{IsHolding, entries_of, bound_of, kept, IsTrueOutcome, TreeRunsHold}
 use Rattle.search_machine.specs.declared.event.Move.{Move}
 use Rattle.search_machine.specs.declared.stored.Stored.{Stored}
 use Rattle.search_machine.specs.declared.event.Move.TheVariants.{Split, Prune, Ray}

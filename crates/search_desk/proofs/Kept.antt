@@ -4,24 +4,21 @@ use Rattle.std.proofs.lemmas.List.Sums.{sum_by-append, sum_by-cons}
 use Rattle.std.proofs.lemmas.List.Elements.{All-nil, All-cons, All-head, All-tail, All-push}
 use Rattle.std.specs.Prelude.{sum_by}
 use Rattle.uc_model.specs.declared.tolerance.TheConstants.{WHOLE_GAP}
-use Rattle.dual_model.specs.Tree.{root}
+use Rattle.dual_model.specs.Prelude.{root}
 use Rattle.dual_model.specs.declared.node.Node.{Node}
-use Rattle.branch_tree.specs.TreeView.{IsOpenAt, tree_of}
+use Rattle.branch_tree.specs.Prelude.{IsOpenAt, tree_of}
 use Rattle.branch_tree.specs.declared.found.Outcome.{Outcome}
 use Rattle.branch_tree.specs.declared.tree.Leaf.{Leaf}
 use Rattle.branch_tree.specs.declared.tree.Leaf.TheVariants as leaf
 use Rattle.branch_tree.proofs.Grown.{each_leaf_map}
 use Rattle.incumbent.specs.Costs as incumbent
-use Rattle.search_machine.specs.Machine.{IsHolding, entries_of}
-use Rattle.search_machine.specs.Moves.{IsMoveLegal, kept, unit_of}
-use Rattle.search_machine.specs.Runs.{IsBestWithin, IsPrunedWithin, TreeRunsHold}
+use Rattle.search_machine.specs.Prelude.{IsHolding, entries_of, IsMoveLegal, kept, unit_of, IsBestWithin, IsPrunedWithin, TreeRunsHold, committed_by}
 use Rattle.search_machine.specs.declared.event.Move.{Move}
 use Rattle.search_machine.specs.declared.event.Move.TheVariants.{Again, Split, Prune, Ray, Empty}
 use Rattle.search_machine.proofs.Claims.{holdable}
 use Rattle.search_machine.proofs.Growth.{HoldsOfNew, leaf_part, after_holds, of_ray, of_empty}
 use Rattle.search_machine.proofs.OrderlySteps.{sound_of}
 use Rattle.search_machine.proofs.Plain.{IsPlainState, plain_after}
-use Rattle.search_machine.specs.Steps.{committed_by}
 use Rattle.search_machine.specs.declared.event.Event.TheVariants.{Commit}
 use Rattle.search_machine.proofs.TrueSteps.{NeverDecreases, best_within}
 use Rattle.book.specs.BookView.{BookView, state_of, opened}

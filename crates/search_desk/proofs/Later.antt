@@ -2,9 +2,9 @@
 use Rattle.std.proofs.Common.{◌≡◌, ◌≢◌, ⊎_elim, ℕ, ◌≤◌, ◌==◌, true, false, All, List, [], ◌∷◌, ◌++◌, drop, get_or, length, sym, subst, arith, Some, slice_get}
 use Rattle.std.proofs.lemmas.List.Elements.{All-nil, All-cons, All-append, All-filter, All-tail}
 use Rattle.std.proofs.lemmas.Option.{slice_get_within}
-use Rattle.uc_model.proofs.Ring.{linear}
+use Rattle.uc_model.proofs.Common.{linear}
 use Rattle.branch_tree.proofs.Subtrees.{same_or_not}
-use Rattle.search_machine.specs.Machine.{entries_of}
+use Rattle.search_machine.specs.Prelude.{entries_of}
 use Rattle.search_machine.proofs.Claims.{get_push_cases}
 use Rattle.search_machine.proofs.OwnSteps.{IsTableWithin, entries_own, entries_same}
 use Rattle.search_desk.specs.Desks.{Entry, Table, AreLaterScaled, IsScaledEntry, IsScaledWithin}

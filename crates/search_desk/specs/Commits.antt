@@ -1,10 +1,10 @@
 -- What a commit at the desk makes of the book, and by which move. This project's own form.
 use Rattle.std.specs.Prelude.{◌≡◌, ℕ, ◌&&◌, Bool, true, false, ℤ, pos, int_lt, Option, Some, None, if◌then◌else◌}
 use Rattle.std.specs.Ordering.{int_eq}
-use Rattle.branch_tree.specs.Closing.{is_within_gap}
+use Rattle.branch_tree.specs.Prelude.{is_within_gap}
 use Rattle.branch_tree.specs.declared.found.Outcome.{Outcome}
 use Rattle.branch_tree.specs.declared.found.Outcome.TheVariants as outcome
-use Rattle.search_machine.specs.Moves.{kept_after}
+use Rattle.search_machine.specs.Prelude.{kept_after}
 use Rattle.search_machine.specs.declared.event.Move.{Move}
 use Rattle.search_machine.specs.declared.event.Move.TheVariants as move
 use Rattle.book.specs.Calls.{IsCommitted, IsHeldUnit, MayCommit}

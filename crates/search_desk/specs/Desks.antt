@@ -2,16 +2,12 @@
 use Rattle.std.specs.Prelude.{◌≡◌, ◌≢◌, ℕ, ◌+◌, ◌≤◌, Bool, true, false, All, List, ℤ, pos, ◌≤ℤ◌, Option, Some, None, drop, length, slice_get, sum_by}
 use Rattle.atomic_table.specs.Seated.{TableId}
 pub use Rattle.uc_model.specs.declared.instance.Instance.{Instance}
-use Rattle.uc_model.specs.Limits.{IsLawfulInstance}
-use Rattle.dual_model.specs.Fixings.{IsNodeOf}
-use Rattle.dual_model.specs.Prices.{IsLawfulTable}
-use Rattle.dual_model.specs.Tree.{root, EachLeaf}
+use Rattle.uc_model.specs.Prelude.{IsLawfulInstance}
+use Rattle.dual_model.specs.Prelude.{IsNodeOf, IsLawfulTable, root, EachLeaf}
 pub use Rattle.dual_model.specs.declared.table.Table.{Table}
-use Rattle.branch_tree.specs.Kinds.{IsPlainTree}
-use Rattle.branch_tree.specs.TreeView.{tree_of}
+use Rattle.branch_tree.specs.Prelude.{IsPlainTree, tree_of}
 pub use Rattle.branch_tree.specs.declared.found.Entry.{Entry}
-use Rattle.search_machine.specs.Machine.{entries_of}
-use Rattle.search_machine.specs.Runs.{IsPrunedWithin}
+use Rattle.search_machine.specs.Prelude.{entries_of, IsPrunedWithin}
 use Rattle.search_machine.specs.declared.limits.TheConstants.{MAX_BUDGET}
 use Rattle.search_machine.specs.declared.event.Move.{Move}
 use Rattle.search_machine.specs.declared.event.Move.TheVariants as move

@@ -1,11 +1,11 @@
 -- How a search keeps to the exact dispatch of decided commitments, evaluation by evaluation. This project's own form of branch and bound.
 use Rattle.std.specs.Prelude.{◌≡◌, ℕ, ◌≤◌, Bool, true, ℤ, Option, Some, None, List}
-use Rattle.uc_model.specs.PrintedSchedule.{printed_cost}
+use Rattle.uc_model.specs.Prelude.{printed_cost}
 use Rattle.dual_model.specs.declared.node.Node.{Node}
-use Rattle.branch_tree.specs.TreeView.{IsSizeOf}
+use Rattle.branch_tree.specs.Prelude.{IsSizeOf}
 use Rattle.branch_tree.specs.declared.found.Outcome.{Outcome}
 use Rattle.branch_tree.specs.declared.found.Outcome.TheVariants.{Value, Empty}
-use Rattle.dispatch_rules.specs.CommitmentTask.{Pattern}
+use Rattle.dispatch_rules.specs.Prelude.{Pattern}
 use Rattle.pivot_dispatch.specs.Answers.{IsAnswer}
 use Rattle.pivot_dispatch.specs.declared.pivot.Pivot.{Pivot}
 use Rattle.pivot_dispatch.specs.declared.pivot.Pivot.TheVariants.{Best, Ray, Wide}

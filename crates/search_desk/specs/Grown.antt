@@ -2,21 +2,12 @@
 use Rattle.std.specs.Prelude.{◌≡◌, ◌≢◌, ℕ, ◌+◌, ◌*◌, ◌≤◌, true, false, Bool, All, List, ℤ, Option, Some, None, length, slice_get}
 pub use Rattle.uc_model.specs.declared.instance.Instance.{Instance}
 use Rattle.uc_model.specs.declared.schedule.Printed.{Printed}
-use Rattle.dual_model.specs.Laws.{IsClaimTrue}
-use Rattle.dual_model.specs.Prices.{IsLawfulTable}
-use Rattle.dual_model.specs.Tree.{root, IsCover, EachLeaf}
+use Rattle.dual_model.specs.Prelude.{IsClaimTrue, IsLawfulTable, root, IsCover, EachLeaf}
 use Rattle.dual_model.specs.declared.table.Table.{Table}
-use Rattle.branch_tree.specs.Closing.{is_schedule_within}
-use Rattle.branch_tree.specs.Kinds.{IsPlainTree}
-use Rattle.branch_tree.specs.NumberedTree.{node_count}
-use Rattle.branch_tree.specs.StoredTree.{tree_bound}
-use Rattle.branch_tree.specs.TreeLaws.{StoredHolds}
-use Rattle.branch_tree.specs.TreeView.{TreeView, IsSizeOf, IsWhole, tree_of}
-use Rattle.branch_tree.specs.TrueFound.{IsTrueLog}
+use Rattle.branch_tree.specs.Prelude.{is_schedule_within, IsPlainTree, node_count, tree_bound, StoredHolds, TreeView, IsSizeOf, IsWhole, tree_of, IsTrueLog}
 pub use Rattle.branch_tree.specs.declared.found.Entry.{Entry}
 use Rattle.pivot_closing.specs.Pivoted.{IsPivoted}
-use Rattle.search_machine.specs.Moves.{bound_of}
-use Rattle.search_machine.specs.OwnTables.{Owns, HasFewEntries}
+use Rattle.search_machine.specs.Prelude.{bound_of, Owns, HasFewEntries}
 pub use Rattle.opening.specs.declared.root_tables.Priced.{Priced}
 use Rattle.search_desk.specs.Desks.{IsSizedEntry}
 use Rattle.search_desk.specs.Kinds.{IsOfKind}

@@ -2,7 +2,7 @@
 
 ghost use Rattle.std.specs.Prelude.{◌≡◌, ◌≤◌, ◌↔◌, IsTrue, false, None, IfOk};
 ghost use Rattle.uc_model.specs.declared.tolerance.TheConstants.{WHOLE_GAP};
-ghost use Rattle.search_machine.specs.Runs.{IsTrueOutcome};
+ghost use Rattle.search_machine.specs.Prelude.{IsTrueOutcome};
 ghost use Rattle.opening.specs.Outcomes.{IsSized};
 ghost use Rattle.search_desk.specs.Commits.{Stands, bound_after, move_of, open_move, told_move, value_move as value_move_of};
 ghost use Rattle.search_desk.specs.Desks.{IsLaterWithin, IsPrunedBy};

@@ -2,7 +2,7 @@
 
 ghost use Rattle.std.specs.Prelude.{◌≡◌, ◌+◌, ◌-◌, ◌<◌, ◌≤◌, Bool, IsTrue, false, None, Some};
 ghost use Rattle.uc_model.specs.declared.tolerance.TheConstants.{WHOLE_GAP};
-ghost use Rattle.branch_tree.specs.Closing.{is_schedule_within};
+ghost use Rattle.branch_tree.specs.Prelude.{is_schedule_within};
 ghost use Rattle.found_schedule.specs.Found.{IsFound, IsFoundIfAny};
 ghost use Rattle.incumbent.specs.Costs.{AtMost, least};
 ghost use Rattle.search_desk.specs.Best.{IsLower, IsNoWorse, cost_of};

@@ -5,8 +5,7 @@ use Rattle.std.proofs.lemmas.List.Sums.{sum_by_push, sum_by-set, sum_by-cons, su
 use Rattle.std.proofs.lemmas.Option.{slice_get_within, get_or_from_slice_get}
 use Rattle.std.proofs.lemmas.Bool.{cases_eq, cases_Bool, eq-eqb, ne_eqb, eqb-true}
 use Rattle.std.proofs.lemmas.Bool.Decides.{nat_tests}
-use Rattle.branch_tree.specs.NumberedTree.{NumberedTree, node_count}
-use Rattle.branch_tree.specs.TreeView.{IsOpenAt}
+use Rattle.branch_tree.specs.Prelude.{NumberedTree, node_count, IsOpenAt}
 use Rattle.branch_tree.proofs.Changes.{get-set_other, get-append}
 use Rattle.branch_tree.proofs.Subtrees.{one_here, none_here}
 use Rattle.branch_tree.proofs.Grown.{open_numbered}

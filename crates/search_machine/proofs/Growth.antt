@@ -2,11 +2,9 @@
 use Rattle.std.proofs.Common.{◌≡◌, ℕ, Bool, suc, ◌+◌, length, refl, ◌∙◌, arith, ℤ, false, true, ap, subst, Option, Some, ◌≢◌, ◌<◌, ◌⊎◌, sym, ⊎_elim}
 use Rattle.std.specs.Option.{option_map}
 use Rattle.uc_model.specs.declared.instance.Instance.{Instance}
-use Rattle.dual_model.specs.Tree.{root, IsCover, child, EachLeaf}
+use Rattle.dual_model.specs.Prelude.{root, IsCover, child, EachLeaf}
 use Rattle.dual_model.specs.declared.node.Node.{Node}
-use Rattle.branch_tree.specs.NumberedTree.{node_count, NumberedTree, EndAt, SplitAt, Subtree, unnumbered, spot_of, subtree_at, node_at, split_leaf, number_of, subtree_below, spot_at, replaced}
-use Rattle.branch_tree.specs.Places.{IsPlaced}
-use Rattle.branch_tree.specs.TreeView.{TreeView, IsSizeOf, IsOpenAt, IsFreeAt, tree_of}
+use Rattle.branch_tree.specs.Prelude.{node_count, NumberedTree, EndAt, SplitAt, Subtree, unnumbered, spot_of, subtree_at, node_at, split_leaf, number_of, subtree_below, spot_at, replaced, IsPlaced, TreeView, IsSizeOf, IsOpenAt, IsFreeAt, tree_of}
 use Rattle.branch_tree.specs.declared.tree.Leaf.TheVariants as leaf
 use Rattle.branch_tree.specs.declared.tree.Spot.TheVariants as spot
 use Rattle.branch_tree.proofs.Changes.{cover_closed, free_split, are_apart, from_some, place_part}

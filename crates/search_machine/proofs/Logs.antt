@@ -3,10 +3,7 @@ use Rattle.std.proofs.Common.{◌≡◌, ◌≢◌, ℕ, Bool, suc, ◌-◌, ◌
 use Rattle.std.proofs.lemmas.Bool.{cases_eq, cases_lt}
 use Rattle.std.proofs.lemmas.List.Elements.{All-nil, All-push}
 use Rattle.std.proofs.lemmas.Option.{slice_get_within, slice_get-get_or}
-use Rattle.branch_tree.specs.NumberedTree.{node_count}
-use Rattle.branch_tree.specs.StoredTree.{IsNodeAt}
-use Rattle.branch_tree.specs.TreeView.{TreeView, IsOpenAt}
-use Rattle.branch_tree.specs.TrueFound.{IsTrueEntry, AreApart}
+use Rattle.branch_tree.specs.Prelude.{node_count, IsNodeAt, TreeView, IsOpenAt, IsTrueEntry, AreApart}
 use Rattle.branch_tree.specs.declared.tree.Leaf.TheVariants as leaf
 use Rattle.branch_tree.proofs.Changes.{get-append, get-set_same}
 use Rattle.search_machine.specs.Machine.{Entry, Table, Holder, Machine, IsHolding, entries_of, stored_at, start_of}

@@ -5,9 +5,7 @@ use Rattle.std.proofs.lemmas.List.Elements.{All-nil, All-cons, All-append}
 use Rattle.std.proofs.lemmas.List.Folds.{sum_by-replicate}
 use Rattle.std.proofs.lemmas.List.Sums.{sum_by-cons}
 use Rattle.std.proofs.lemmas.Option.{slice_get_within}
-use Rattle.branch_tree.specs.NumberedTree.{node_count}
-use Rattle.branch_tree.specs.TreeView.{TreeView, IsOpenAt}
-use Rattle.branch_tree.specs.StoredTree.{lesser_bound}
+use Rattle.branch_tree.specs.Prelude.{node_count, TreeView, IsOpenAt, lesser_bound}
 use Rattle.branch_tree.specs.declared.tree.Leaf.TheVariants as leaf
 use Rattle.branch_tree.proofs.Grown.{open_numbered, root_placed}
 use Rattle.branch_tree.proofs.Subtrees.{one_if}

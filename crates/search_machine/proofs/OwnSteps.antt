@@ -5,12 +5,10 @@ use Rattle.std.proofs.lemmas.List.{get_or_append_left, get_or_push, length-appen
 use Rattle.std.proofs.lemmas.List.Elements.{All-head, All-tail, All-nil, All-cons, filter-append, All-filter}
 use Rattle.std.proofs.lemmas.List.Sums.{fold-append}
 use Rattle.std.proofs.lemmas.Option.{get_or_from_slice_get}
-use Rattle.dual_model.specs.Tree.{child, root}
-use Rattle.branch_tree.specs.NumberedTree.{NumberedTree, EndAt, SplitAt, Subtree, spot_of, times, subtree_below, replaced, node_count, split_leaf}
+use Rattle.dual_model.specs.Prelude.{child, root}
+use Rattle.branch_tree.specs.Prelude.{NumberedTree, EndAt, SplitAt, Subtree, spot_of, times, subtree_below, replaced, node_count, split_leaf, no_table, table_at, TreeView, IsOpenAt}
 use Rattle.branch_tree.specs.declared.tree.Spot.TheVariants as spot
-use Rattle.branch_tree.specs.Claims.{no_table, table_at}
 use Rattle.branch_tree.specs.declared.found.Outcome.TheVariants as outcome
-use Rattle.branch_tree.specs.TreeView.{TreeView, IsOpenAt}
 use Rattle.branch_tree.specs.declared.tree.Leaf.TheVariants as leaf
 use Rattle.branch_tree.proofs.Subtrees.{one_if, replaced_nowhere, same_or_not, AreApart, IsOff, IsOn, apart_off, apart_on, leaf_at, leaf_sides, not_root, part_counted}
 use Rattle.branch_tree.proofs.Changes.{get-append, get-set_other, get-set_same, are_apart}

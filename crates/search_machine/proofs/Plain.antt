@@ -2,9 +2,8 @@
 use Rattle.std.proofs.Common.{◌≡◌, ◌==◌, ℕ, suc, Bool, false, true, cond, All, ℤ, refl, sym, subst, Option, Some, None, int_lt, ◌&&◌, pos, length}
 use Rattle.std.specs.Option.{option_or, option_map}
 use Rattle.std.proofs.lemmas.List.Elements.{All-push}
-use Rattle.dual_model.specs.Tree.{root, child, EachLeaf}
-use Rattle.branch_tree.specs.Kinds.{IsPlainLeaf, IsPlainTree}
-use Rattle.branch_tree.specs.NumberedTree.{NumberedTree, EndAt, SplitAt, Subtree, unnumbered, spot_of, subtree_below, replaced, split_leaf, node_count}
+use Rattle.dual_model.specs.Prelude.{root, child, EachLeaf}
+use Rattle.branch_tree.specs.Prelude.{IsPlainLeaf, IsPlainTree, NumberedTree, EndAt, SplitAt, Subtree, unnumbered, spot_of, subtree_below, replaced, split_leaf, node_count}
 use Rattle.branch_tree.specs.declared.tree.Leaf.{Leaf}
 use Rattle.branch_tree.specs.declared.tree.Leaf.TheVariants as leaf
 use Rattle.branch_tree.specs.declared.found.Outcome.TheVariants as outcome

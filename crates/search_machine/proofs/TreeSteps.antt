@@ -2,21 +2,12 @@
 use Rattle.std.proofs.Common.{◌≡◌, ℕ, ◌⊎◌, Bool, true, false, cond, List, [], ◌∷◌, ◌++◌, All, length, refl, sym, subst, ap, ◌∙◌, arith, inl, inr, ⊎_elim, ℤ, pos, ◌≤ℤ◌, ◌<ℤ◌, int_lt, ◌&&◌, Option}
 use Rattle.std.proofs.lemmas.Bool.{and_parts, cases_Bool}
 use Rattle.std.proofs.lemmas.List.Elements.{All-nil, All-cons, All-append}
-use Rattle.uc_model.specs.Limits.{IsLawfulInstance}
-use Rattle.uc_model.specs.Schedule.{thermal_count}
-use Rattle.uc_model.proofs.Ring.{linear}
-use Rattle.uc_model.proofs.Tests.{int_lt-true}
-use Rattle.uc_model.proofs.Quotients.{IsFloor-greatest, IsFloor-int_div_euclid}
-use Rattle.dual_model.specs.Tree.{child, EachLeaf, root}
-use Rattle.dual_model.specs.Fixings.{IsPatternAt}
-use Rattle.uc_model.specs.Commitment.{Commitment}
-use Rattle.dual_model.specs.ValueKind.{IsValueOf, HasBlockedUnit, IsFirstBlocked}
-use Rattle.dual_model.specs.Cover.{HasBoundOf, IsBoundedBy, IsExcludedByRay}
-use Rattle.dual_model.specs.Prices.{IsLawfulTable}
+use Rattle.uc_model.specs.Prelude.{IsLawfulInstance, thermal_count, Commitment}
+use Rattle.uc_model.proofs.Common.{linear, int_lt-true, IsFloor-greatest, IsFloor-int_div_euclid}
+use Rattle.dual_model.specs.Prelude.{child, EachLeaf, root, IsPatternAt, IsValueOf, HasBlockedUnit, IsFirstBlocked, HasBoundOf, IsBoundedBy, IsExcludedByRay, IsLawfulTable}
 use Rattle.dual_model.proofs.NodeValues.{parent_agrees}
 use Rattle.dual_model.proofs.ValueKinds.{child_bound}
-use Rattle.branch_tree.specs.TreeLaws.{StoredHolds}
-use Rattle.branch_tree.specs.TreeView.{IsSizeOf, IsOpenAt, tree_of}
+use Rattle.branch_tree.specs.Prelude.{StoredHolds, IsSizeOf, IsOpenAt, tree_of}
 use Rattle.branch_tree.specs.declared.tree.Leaf.TheVariants as leaf
 use Rattle.branch_tree.specs.declared.found.Outcome.TheVariants as outcome
 use Rattle.branch_tree.proofs.Changes.{get-append}

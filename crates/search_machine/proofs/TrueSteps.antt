@@ -6,20 +6,12 @@ use Rattle.std.proofs.lemmas.Bool.{cases_eq}
 use Rattle.std.proofs.lemmas.List.Elements.{All-cons}
 use Rattle.std.proofs.lemmas.List.{get_or-replicate, length-replicate}
 use Rattle.std.proofs.lemmas.Option.{get_or_from_slice_get, slice_get_within}
-use Rattle.uc_model.specs.Tolerance.{tolerance_of}
-use Rattle.uc_model.specs.Limits.{IsLawfulInstance}
-use Rattle.uc_model.proofs.Ring.{linear}
-use Rattle.uc_model.proofs.Tests.{int_le-true, le-int_le}
-use Rattle.dual_model.specs.Tree.{Ends, Splits, child, EachLeaf, root, map_leaves}
+use Rattle.uc_model.specs.Prelude.{tolerance_of, IsLawfulInstance}
+use Rattle.uc_model.proofs.Common.{linear, int_le-true, le-int_le}
+use Rattle.dual_model.specs.Prelude.{Ends, Splits, child, EachLeaf, root, map_leaves, AllExcluded, IsLawfulTable, HasLawfulTable, IsLawfulAt}
 use Rattle.dual_model.specs.Tree as branch
-use Rattle.dual_model.specs.Cover.{AllExcluded}
-use Rattle.dual_model.specs.Prices.{IsLawfulTable}
-use Rattle.dual_model.specs.Laws.{HasLawfulTable, IsLawfulAt}
-use Rattle.branch_tree.specs.Closing.{is_within_gap}
-use Rattle.branch_tree.specs.StoredTree.{AtMost, lesser_bound, least_bound, tree_bound}
+use Rattle.branch_tree.specs.Prelude.{is_within_gap, AtMost, lesser_bound, least_bound, tree_bound, own_claim, claims_of, IsOpenAt, tree_of}
 use Rattle.branch_tree.specs.declared.tree.Leaf.TheVariants as leaf
-use Rattle.branch_tree.specs.TreeLaws.{own_claim, claims_of}
-use Rattle.branch_tree.specs.TreeView.{IsOpenAt, tree_of}
 use Rattle.branch_tree.proofs.Grown.{IsClosedLeaf, each_leaf_map, all_closed}
 use Rattle.branch_tree.proofs.Bounds.{at_most_itself, at_most_through, lesser_first, lesser_second, lesser_greatest, stored_bounds_hold, excluded_below}
 use Rattle.search_machine.specs.Runs.{Leaf, Node, WHOLE_GAP, IsBestWithin, IsPrunedWithin, Instance, IsTrueCost, IsTrueEvent, IsTrueStart, IsTrueRun, IsTrueRunBy, IsReachedBy, IsSettled, TreeHoldsAt, HoldsAt, HoldsAlong, RunsHold, StartsAreReached, StepsReach, ReachedStatesHold, TreeRunsHold, after_all}

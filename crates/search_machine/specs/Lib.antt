@@ -4,3 +4,4 @@ pub mod Steps
 pub mod Orderly
 pub mod OwnTables
 pub mod Runs
+pub mod Prelude

@@ -2,8 +2,7 @@
 -- project's own form. Workers, nodes, tables and claims count from 0; a claim's number, its unit, from 1.
 use Rattle.std.specs.Prelude.{◌≡◌, ℕ, ◌+◌, ◌-◌, ◌*◌, ◌<◌, ◌==◌, false, List, [], ◌∷◌, ℤ, pos, Option, Some, None, filter, length, replicate, slice_get, slice_index_or}
 pub use Rattle.dual_model.specs.declared.table.Table.{Table}
-use Rattle.branch_tree.specs.NumberedTree.{EndAt, spot_at}
-use Rattle.branch_tree.specs.TreeView.{TreeView, IsOpenAt}
+use Rattle.branch_tree.specs.Prelude.{EndAt, spot_at, TreeView, IsOpenAt}
 use Rattle.branch_tree.specs.declared.tree.Leaf.{Leaf}
 use Rattle.branch_tree.specs.declared.tree.Leaf.TheVariants as leaf
 use Rattle.branch_tree.specs.declared.tree.Spot.{Spot}

@@ -2,10 +2,8 @@
 -- its effect. This project's own form of branch and bound.
 use Rattle.std.specs.Prelude.{◌≡◌, ℕ, suc, ◌<◌, ◌⊎◌, ◌&&◌, Bool, true, false, IsTrue, List, [], ◌∷◌, ℤ, pos, int_lt, ◌<ℤ◌, Some, length, if◌then◌else◌}
 use Rattle.std.specs.Int.{int_div_euclid}
-use Rattle.branch_tree.specs.NumberedTree.{EndAt, node_count, replaced, split_leaf}
-pub use Rattle.branch_tree.specs.TreeView.{HasFreeCell}
-use Rattle.branch_tree.specs.TreeView.{TreeView, IsFreeAt}
-use Rattle.branch_tree.specs.Closing.{is_within_gap}
+use Rattle.branch_tree.specs.Prelude.{EndAt, node_count, replaced, split_leaf, TreeView, IsFreeAt, is_within_gap}
+pub use Rattle.branch_tree.specs.Prelude.{HasFreeCell}
 pub use Rattle.branch_tree.specs.declared.found.Outcome.{Outcome}
 use Rattle.branch_tree.specs.declared.found.Outcome.TheVariants as outcome
 use Rattle.branch_tree.specs.declared.tree.Leaf.TheVariants as leaf

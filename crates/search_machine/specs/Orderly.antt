@@ -3,10 +3,8 @@
 use Rattle.std.specs.Prelude.{◌≡◌, ℕ, suc, ◌+◌, ◌*◌, ◌<◌, ◌≤◌, ◌==◌, nat_lt, All, List, Option, Some, is_some, sum_by, count_by, length, slice_get, if◌then◌else◌}
 pub use Rattle.uc_model.specs.declared.instance.Instance.{Instance}
 pub use Rattle.uc_model.specs.declared.tolerance.TheConstants.{WHOLE_GAP}
-use Rattle.dual_model.specs.Tree.{IsCover}
-use Rattle.branch_tree.specs.NumberedTree.{NumberedTree, node_count}
-use Rattle.branch_tree.specs.Places.{IsPlaced}
-use Rattle.branch_tree.specs.TreeView.{TreeView, IsSizeOf, IsOpenAt, tree_of}
+use Rattle.dual_model.specs.Prelude.{IsCover}
+use Rattle.branch_tree.specs.Prelude.{NumberedTree, node_count, IsPlaced, TreeView, IsSizeOf, IsOpenAt, tree_of}
 pub use Rattle.search_machine.specs.declared.limits.TheConstants.{MAX_BUDGET}
 use Rattle.search_machine.specs.Machine.{Table, Holder, Desk, Machine, room_for}
 

@@ -1,10 +1,8 @@
 -- What a node stores by its own entries. Source: this project's own form.
 use Rattle.std.specs.Prelude.{◌≡◌, ◌≢◌, ℕ, ◌<◌, ◌≤◌, false, true, not, IsTrue, List, [], ◌∷◌, fold, length}
-use Rattle.dual_model.specs.Tree.{root, child, is_decided}
+use Rattle.dual_model.specs.Prelude.{root, child, is_decided}
 pub use Rattle.dual_model.specs.declared.node.Node.{Node}
-use Rattle.branch_tree.specs.Claims.{table_at}
-use Rattle.branch_tree.specs.NumberedTree.{NumberedTree, EndAt, SplitAt}
-use Rattle.branch_tree.specs.TreeView.{TreeView}
+use Rattle.branch_tree.specs.Prelude.{table_at, NumberedTree, EndAt, SplitAt, TreeView}
 use Rattle.branch_tree.specs.declared.tree.Leaf.TheVariants as leaf
 use Rattle.search_machine.specs.Machine.{Entry, Table, entries_of}
 use Rattle.search_machine.specs.declared.stored.Stored.{Stored}

@@ -2,23 +2,13 @@
 -- branch and bound on the commitment variables of the reference model by Knueven, Ostrowski and Watson; the machine is this
 -- project's own.
 use Rattle.std.specs.Prelude.{◌≡◌, ℕ, ◌≤◌, ◌⊎◌, Bool, IsTrue, All, IfSome, List, [], ◌∷◌, ℤ, pos, ◌<ℤ◌, Option, Some, None, slice_get, false}
-use Rattle.uc_model.specs.Limits.{IsLawfulInstance}
-use Rattle.uc_model.specs.Schedule.{thermal_count}
+use Rattle.uc_model.specs.Prelude.{IsLawfulInstance, thermal_count}
 pub use Rattle.uc_model.specs.declared.tolerance.TheConstants.{WHOLE_GAP}
 pub use Rattle.uc_model.specs.declared.instance.Instance.{Instance}
 use Rattle.uc_model.specs.declared.schedule.Printed.{Printed}
-use Rattle.dual_model.specs.Certificate.{ScheduleHolds}
-use Rattle.dual_model.specs.Cover.{IsTableBound, AllExcluded}
-use Rattle.dual_model.specs.Laws.{IsClaimTrue}
-use Rattle.dual_model.specs.Prices.{IsLawfulTable}
-use Rattle.dual_model.specs.Tree.{root, IsCover, EachLeaf}
+use Rattle.dual_model.specs.Prelude.{ScheduleHolds, IsTableBound, AllExcluded, IsClaimTrue, IsLawfulTable, root, IsCover, EachLeaf}
 pub use Rattle.dual_model.specs.declared.node.Node.{Node}
-use Rattle.branch_tree.specs.Closing.{is_within_gap}
-use Rattle.branch_tree.specs.NumberedTree.{node_count}
-use Rattle.branch_tree.specs.TrueFound.{IsOutcome, IsTrueLog}
-use Rattle.branch_tree.specs.StoredTree.{AtMost, IsNodeAt, tree_bound}
-use Rattle.branch_tree.specs.TreeLaws.{StoredHolds, claims_of}
-use Rattle.branch_tree.specs.TreeView.{tree_of}
+use Rattle.branch_tree.specs.Prelude.{is_within_gap, node_count, IsOutcome, IsTrueLog, AtMost, IsNodeAt, tree_bound, StoredHolds, claims_of, tree_of}
 pub use Rattle.branch_tree.specs.declared.tree.Leaf.{Leaf}
 use Rattle.branch_tree.specs.declared.tree.Leaf.TheVariants as leaf
 use Rattle.search_machine.specs.Machine.{Table, Machine, IsHolding, IsHeld, IsOpen, start_of, stored_at}

@@ -2,7 +2,7 @@
 -- several workers; one event is one atomic step of one worker.
 use Rattle.std.specs.Prelude.{◌≡◌, ◌≢◌, ℕ, ◌-◌, ◌<◌, ◌==◌, not, Bool, IsTrue, All, List, [], ◌∷◌, ◌++◌, ℤ, Option, Some, None, filter, length, slice_get, slice_set, slice_index_or, drop}
 use Rattle.std.specs.List.{list_any}
-use Rattle.branch_tree.specs.StoredTree.{lesser_bound}
+use Rattle.branch_tree.specs.Prelude.{lesser_bound}
 pub use Rattle.branch_tree.specs.declared.found.Outcome.{Outcome}
 pub use Rattle.search_machine.specs.declared.event.Event.{Event}
 pub use Rattle.search_machine.specs.declared.event.Event.TheVariants.{Claim, Commit, Publish, Look, Push, Pop, Steal}

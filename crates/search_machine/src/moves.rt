@@ -1,9 +1,7 @@
 //! What a move does to the tree and to the tickets.
 
 ghost use Rattle.std.specs.Prelude.{◌≡◌, ◌≤◌, ◌+◌, ◌∷◌, [], suc};
-ghost use Rattle.branch_tree.specs.NumberedTree.{node_count};
-ghost use Rattle.branch_tree.specs.TreeView.{IsOpenAt, IsFreeAt};
-ghost use Rattle.branch_tree.specs.Places.{IsPlaced};
+ghost use Rattle.branch_tree.specs.Prelude.{node_count, IsOpenAt, IsFreeAt, IsPlaced};
 ghost use Rattle.search_machine.specs.Moves.{IsFreeFor, children_by, unit_of, closed, split, live_leaf, bound_leaf, ray_leaf, empty_leaf, tree_after};
 
 use crate::event::Move;

@@ -1,7 +1,7 @@
 //! What a tree of a search starts with.
 
 ghost use Rattle.std.specs.Prelude.{◌≡◌, ◌≤◌, IfOk};
-ghost use Rattle.branch_tree.specs.NumberedTree.{EndAt};
+ghost use Rattle.branch_tree.specs.Prelude.{EndAt};
 ghost use Rattle.search_machine.specs.declared.limits.TheConstants.{MAX_BUDGET};
 ghost use Rattle.search_machine.specs.Machine.{room_for};
 

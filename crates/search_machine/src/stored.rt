@@ -1,7 +1,7 @@
 //! What a node stores, and what an evaluation makes of it.
 
 ghost use Rattle.std.specs.Prelude.{◌≡◌, ◌<◌, pos, ◌<ℤ◌, int_lt, if◌then◌else◌};
-ghost use Rattle.branch_tree.specs.NumberedTree.{node_count};
+ghost use Rattle.branch_tree.specs.Prelude.{node_count};
 ghost use Rattle.search_machine.specs.Machine.{stored_at, unbounded};
 ghost use Rattle.search_machine.specs.Moves.{bound_of, kept_after};
 

@@ -5,15 +5,8 @@ use Rattle.std.proofs.Common.{◌≡◌, ℕ, zero, suc, ◌-◌, ◌<◌, ◌�
 use Rattle.std.specs.Int.{int_min}
 use Rattle.std.proofs.lemmas.Int.{ints}
 use Rattle.std.proofs.lemmas.Bool.{and_parts, and_from, or_left, or_right, cases_Bool, cases_lt, cond-true, cond-false, not-true, not_from_false, true≢false, leb-true, le-leb, lt-ltb, eq-eqb}
-use Rattle.uc_model.specs.Sums.{least_below}
-use Rattle.uc_model.specs.Commitment.{Commitment, was_on, starts, stops, is_allowed}
-use Rattle.uc_model.specs.Limits.{IsLawfulThermal}
-use Rattle.uc_model.specs.StartCategory.{category_count, category_lag, category_cost, has_stop_within, is_category_allowed, last_stop, stopped_within, may_cost_as, sigma}
-use Rattle.uc_model.proofs.AllowedParts.{allowed-parts}
-use Rattle.uc_model.proofs.MinimumTimes.{one_change, fall}
-use Rattle.uc_model.proofs.StartCosts.{sigma-le-allowed}
-use Rattle.uc_model.proofs.Sums.{below_or_last}
-use Rattle.uc_model.proofs.Tests.{any_below-from}
+use Rattle.uc_model.specs.Prelude.{least_below, Commitment, was_on, starts, stops, is_allowed, IsLawfulThermal, category_count, category_lag, category_cost, has_stop_within, is_category_allowed, last_stop, stopped_within, may_cost_as, sigma}
+use Rattle.uc_model.proofs.Common.{allowed-parts, one_change, fall, sigma-le-allowed, below_or_last, any_below-from}
 use Rattle.start_costs.specs.Regular.{Thermal, AreStartsRegular, RegularStarts}
 
 -- ---- the minimum down time

@@ -2,8 +2,7 @@
 -- last category to the first. Source: the rule of the reference model by Knueven, Ostrowski and Watson on which
 -- category a start may use; that the first of several that cost the same is taken is this project's choice.
 use Rattle.std.specs.Prelude.{◌≡◌, ℕ, ◌<◌, false, IsTrue, ℤ, ◌≤ℤ◌, ◌<ℤ◌}
-use Rattle.uc_model.specs.Commitment.{Commitment, starts}
-use Rattle.uc_model.specs.StartCategory.{category_cost, is_category_allowed}
+use Rattle.uc_model.specs.Prelude.{Commitment, starts, category_cost, is_category_allowed}
 pub use Rattle.uc_model.specs.declared.instance.Thermal.{Thermal}
 
 -- a category, from 1, with its cost: the cheapest one above n that a start in period t may use, and of several

@@ -2,9 +2,7 @@
 -- down time has reached the first lag. Source: the start-up categories of the pglib-uc format, from the hottest to the
 -- coldest, and the minimum down time of the reference model by Knueven, Ostrowski and Watson.
 use Rattle.std.specs.Prelude.{◌≡◌, ℕ, suc, ◌<◌, ◌≤◌, IsTrue, ℤ, ◌≤ℤ◌}
-use Rattle.uc_model.specs.Commitment.{Commitment, starts, is_allowed}
-use Rattle.uc_model.specs.Limits.{IsLawfulThermal}
-use Rattle.uc_model.specs.StartCategory.{category_count, category_lag, category_cost, is_category_allowed, last_stop, sigma}
+use Rattle.uc_model.specs.Prelude.{Commitment, starts, is_allowed, IsLawfulThermal, category_count, category_lag, category_cost, is_category_allowed, last_stop, sigma}
 pub use Rattle.uc_model.specs.declared.instance.Thermal.{Thermal}
 
 -- categories are numbered from 1

@@ -1,7 +1,7 @@
 //! The categories that the initial time off bars.
 
 ghost use Rattle.std.specs.Prelude.{◌≡◌, ◌+◌, ◌^◌, ◌<◌};
-ghost use Rattle.uc_model.specs.StartCategory.{is_barred as barred_at};
+ghost use Rattle.uc_model.specs.Prelude.{is_barred as barred_at};
 
 use uc_model::limits::MAX_PERIODS;
 

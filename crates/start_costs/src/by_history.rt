@@ -1,10 +1,7 @@
 //! The cheapest start category that a pattern's history allows.
 
 ghost use Rattle.std.specs.Prelude.{◌≡◌, ℕ, suc, ◌<◌, ◌≤◌, ◌≤ℤ◌, ◌<ℤ◌, IsTrue};
-ghost use Rattle.uc_model.specs.Commitment.{is_allowed as is_pattern_allowed, starts, stops as stops_at, was_on as was_on_before};
-ghost use Rattle.uc_model.specs.Limits.{IsLawfulThermal};
-ghost use Rattle.uc_model.specs.PatternBits.{commitment_of};
-ghost use Rattle.uc_model.specs.StartCategory.{category_cost, category_count, has_stop_within as has_stop_in, is_category_allowed, last_stop, sigma};
+ghost use Rattle.uc_model.specs.Prelude.{is_allowed as is_pattern_allowed, starts, stops as stops_at, was_on as was_on_before, IsLawfulThermal, commitment_of, category_cost, category_count, has_stop_within as has_stop_in, is_category_allowed, last_stop, sigma};
 ghost use Rattle.start_costs.specs.Cheapest.{HasLeastCategory, IsCheapestAbove};
 ghost use Rattle.start_costs.specs.Regular.{AreStartsRegular};
 

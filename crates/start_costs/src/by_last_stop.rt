@@ -1,8 +1,7 @@
 //! The least start cost by the last stop alone.
 
 ghost use Rattle.std.specs.Prelude.{◌≡◌, ℕ, ◌+◌, ◌<◌};
-ghost use Rattle.uc_model.specs.StartCategory.{category_count, may_cost_as as costs_as, sigma as least_start_cost, start_row, stopped_within as within_of};
-ghost use Rattle.uc_model.specs.Limits.{IsLawfulThermal};
+ghost use Rattle.uc_model.specs.Prelude.{category_count, may_cost_as as costs_as, sigma as least_start_cost, start_row, stopped_within as within_of, IsLawfulThermal};
 
 use crate::barred::is_barred;
 use uc_model::Thermal;

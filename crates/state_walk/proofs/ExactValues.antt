@@ -1,10 +1,7 @@
 -- What the least value by runs says of a unit of an instance.
 use Rattle.std.proofs.Common.{◌≡◌, ℕ, ◌<◌, arith, sym, ap, subst, ◌∙◌, ℤ, Option, Some, None, MatchOption}
-use Rattle.uc_model.specs.Limits.{IsLawfulInstance}
-use Rattle.uc_model.specs.Schedule.{thermal_count, thermal_unit}
-use Rattle.dual_model.specs.CostToGo.{IsWithin, MAX_COST_TO_GO}
-use Rattle.dual_model.specs.ExactValue.{HasNoUnitSchedule, IsExactUnitValue}
-use Rattle.dual_model.specs.Fixings.{IsFixOf}
+use Rattle.uc_model.specs.Prelude.{IsLawfulInstance, thermal_count, thermal_unit}
+use Rattle.dual_model.specs.Prelude.{IsWithin, MAX_COST_TO_GO, HasNoUnitSchedule, IsExactUnitValue, IsFixOf}
 use Rattle.unit_runs.specs.Patterns.{Instance, Node}
 use Rattle.unit_runs.specs.RunsToGo.{Fix, HasNoRunsByFix, IsLeastByFix, least_runs}
 use Rattle.unit_runs.proofs.ByFix.{least_by_fix_is_exact, no_runs_by_fix_means_unscheduled}

@@ -3,14 +3,10 @@ use Rattle.std.proofs.Common.{◌≡◌, ℕ, suc, ◌*◌, ◌≤◌, Bool, tru
 use Rattle.std.specs.Int.{w64, w128, int_max, int_min}
 use Rattle.std.proofs.lemmas.Int.{ints, clamps}
 use Rattle.std.proofs.lemmas.Bool.{cond-true}
-use Rattle.uc_model.specs.Limits.{IsLimit}
-use Rattle.uc_model.specs.Sums.{bit}
-use Rattle.uc_model.proofs.Ring.{linear, mul-one, mul-zero}
-use Rattle.uc_model.proofs.Sizes.{abs_mul}
-use Rattle.uc_model.proofs.Tests.{int_min_left, int_min_right}
+use Rattle.uc_model.specs.Prelude.{IsLimit, bit, cell_cap}
+use Rattle.uc_model.proofs.Common.{linear, mul-one, mul-zero, abs_mul, int_min_left, int_min_right}
+use Rattle.dual_model.specs.Prelude.{greatest_output}
 use Rattle.dual_model.specs.CostToGo.{total_of}
-use Rattle.dual_model.specs.ExactValue.{greatest_output}
-use Rattle.uc_model.specs.Commitment.{cell_cap}
 use Rattle.dual_model.proofs.Optimum.{AtMost}
 use Rattle.step_functions.specs.Functions.{Steps, IsPlace, value_at}
 use Rattle.unit_runs.specs.CostThrough.{is_output, least_between, output_cost, reserve_cost}

@@ -3,15 +3,10 @@ use Rattle.std.proofs.Common.{◌≡◌, ℕ, zero, suc, ◌+◌, ◌*◌, ◌<�
 use Rattle.std.specs.Int.{int_max, int_min}
 use Rattle.std.proofs.lemmas.Int.{ints, clamps}
 use Rattle.std.proofs.lemmas.Bool.{and_parts}
-use Rattle.uc_model.specs.Limits.{IsLimit}
-use Rattle.uc_model.specs.Sums.{bit}
-use Rattle.uc_model.specs.Commitment.{start_reduction, stop_reduction, cell_cap}
-use Rattle.uc_model.proofs.Ring.{linear, mul-one, mul-zero}
-use Rattle.uc_model.proofs.Sizes.{abs_mul}
-use Rattle.uc_model.proofs.Tests.{int_le-true, int_min_right}
-use Rattle.uc_model.proofs.HullPoints.{abs_is}
-use Rattle.dual_model.specs.Prices.{mu_at, pi_at}
-use Rattle.dual_model.specs.ExactValue.{greatest_output, floored_cost}
+use Rattle.uc_model.specs.Prelude.{IsLimit, bit, start_reduction, stop_reduction, cell_cap}
+use Rattle.uc_model.proofs.Common.{linear, mul-one, mul-zero, abs_mul, int_le-true, int_min_right, abs_is}
+use Rattle.dual_model.specs.Prelude.{mu_at, pi_at, greatest_output}
+use Rattle.dual_model.specs.ExactValue.{floored_cost}
 use Rattle.dual_model.proofs.Optimum.{total_of-parts}
 use Rattle.hull_function.specs.Hulls.{MAX_HULL}
 use Rattle.hull_function.proofs.HullFunction.{hull-function}

@@ -3,8 +3,8 @@ use Rattle.std.proofs.Common.{◌≡◌, ℕ, suc, ◌+◌, ◌*◌, ◌<◌, �
 use Rattle.std.proofs.lemmas.Int.{ints}
 use Rattle.std.proofs.lemmas.Bool.{and_from, and_parts, cond-true}
 use Rattle.std.proofs.lemmas.Nat.{mul-le}
-use Rattle.uc_model.proofs.Tests.{int_le-true, le-int_le}
-use Rattle.uc_model.specs.Commitment.{cell_cap}
+use Rattle.uc_model.proofs.Common.{int_le-true, le-int_le}
+use Rattle.uc_model.specs.Prelude.{cell_cap}
 use Rattle.dual_model.proofs.Optimum.{total_of-parts}
 use Rattle.step_functions.specs.Functions.{IsPlace, last_place, value_at}
 use Rattle.hull_function.specs.Hulls.{IsBounded}

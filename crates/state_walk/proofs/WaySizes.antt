@@ -2,12 +2,10 @@
 use Rattle.std.proofs.Common.{◌≡◌, ℕ, zero, suc, ◌+◌, ◌-◌, ◌*◌, ◌^◌, ◌≤◌, Bool, true, false, not, refl, sym, subst, arith, ℤ, ◌*ℤ◌, unsigned_abs, Option, Some, None, if◌then◌else◌}
 use Rattle.std.proofs.lemmas.Int.{ints}
 use Rattle.std.proofs.lemmas.Bool.{cond_both}
-use Rattle.uc_model.specs.StartCategory.{sigma}
+use Rattle.uc_model.specs.Prelude.{sigma}
 use Rattle.uc_model.specs.declared.limits.TheConstants.{MAX_COST}
-use Rattle.uc_model.proofs.Sizes.{abs_mul}
-use Rattle.uc_model.proofs.StartCosts.{sigma-size}
-use Rattle.dual_model.specs.CostToGo.{IsWithin, MAX_COST_TO_GO}
-use Rattle.dual_model.specs.Moves.{stop_since}
+use Rattle.uc_model.proofs.Common.{abs_mul, sigma-size}
+use Rattle.dual_model.specs.Prelude.{IsWithin, MAX_COST_TO_GO, stop_since}
 use Rattle.dual_model.proofs.CostSizes.{lesser_of-size, more_room, total_of-size}
 use Rattle.hull_function.specs.Hours.{MAX_HOUR}
 use Rattle.unit_runs.specs.Runs.{entry_output}

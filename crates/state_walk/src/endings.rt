@@ -1,7 +1,7 @@
 //! The runs that end before one period, by the period in which they begin.
 
 ghost use Rattle.std.specs.Prelude.{◌≡◌, ℕ, ℤ, ◌+◌, ◌*◌, ◌<◌, ◌≤◌, ◌≤ℤ◌, suc, true, Option, IfOk, length, unsigned_abs};
-ghost use Rattle.uc_model.specs.Limits.{IsLawfulThermal};
+ghost use Rattle.uc_model.specs.Prelude.{IsLawfulThermal};
 ghost use Rattle.step_functions.specs.Functions.{run_count};
 ghost use Rattle.hull_function.specs.Hours.{IsCostsOf, IsHourAt, IsSizedHour, MAX_RUN, with_output};
 ghost use Rattle.hull_function.specs.Hulls.{IsBounded};

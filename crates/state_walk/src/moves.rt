@@ -1,10 +1,8 @@
 //! What the moves of a unit cost, by its state before the period; `None` is a move that it may not make.
 
 ghost use Rattle.std.specs.Prelude.{◌≡◌, ◌<◌, ◌≤◌};
-ghost use Rattle.uc_model.specs.Limits.{IsLawfulThermal};
-ghost use Rattle.uc_model.specs.Terms.{period_count};
-ghost use Rattle.dual_model.specs.UnitTerms.{AreSizedTerms};
-ghost use Rattle.dual_model.specs.Moves.{move, stop_since as stop_of};
+ghost use Rattle.uc_model.specs.Prelude.{IsLawfulThermal, period_count};
+ghost use Rattle.dual_model.specs.Prelude.{AreSizedTerms, move, stop_since as stop_of};
 
 use dual_model::Fix;
 use dual_model::moves::{holds_initially, hour_before};

@@ -1,17 +1,13 @@
 //! The walk: the least value of one unit's patterns, period by period from the last to the first.
 
 ghost use Rattle.std.specs.Prelude.{◌≡◌, ℕ, suc, ◌+◌, ◌-◌, ◌<◌, ◌≤◌, IfSome, IfOk, IfNone, length};
-ghost use Rattle.uc_model.specs.Limits.{IsLawfulThermal};
-ghost use Rattle.uc_model.specs.Schedule.{thermal_unit};
+ghost use Rattle.uc_model.specs.Prelude.{IsLawfulThermal, thermal_unit, period_count};
 ghost use Rattle.uc_model.specs.declared.instance.Instance.{Instance};
-ghost use Rattle.dual_model.specs.Fixings.{IsFixOf};
+ghost use Rattle.dual_model.specs.Prelude.{IsFixOf, AreSizedTerms, IsLeastValue, AreTermsOf, IsUnitValueOf, cost_to_go, IsWithin, MAX_COST_TO_GO};
 ghost use Rattle.dual_model.specs.declared.node.Node.{Node};
 ghost use Rattle.dual_model.specs.declared.table.Table.{Table};
-ghost use Rattle.uc_model.specs.Terms.{period_count};
-ghost use Rattle.dual_model.specs.UnitTerms.{AreSizedTerms};
-ghost use Rattle.dual_model.specs.PatternValue.{HasNoPattern, IsLeastValue};
-ghost use Rattle.dual_model.specs.TableValue.{AreTermsOf, IsUnitValueOf};
-ghost use Rattle.dual_model.specs.CostToGo.{total_of, lesser_of, cost_to_go, IsWithin, MAX_COST_TO_GO};
+ghost use Rattle.dual_model.specs.PatternValue.{HasNoPattern};
+ghost use Rattle.dual_model.specs.CostToGo.{total_of, lesser_of};
 ghost use Rattle.state_walk.specs.inside.WalkTable.{entry, IsTable};
 
 use crate::moves::move_cost;

@@ -2,7 +2,7 @@
 use Rattle.std.proofs.Common.{◌≡◌, ◌↔◌, ℕ, ◌-◌, ◌<◌, ◌≤◌, ⊎_elim, sym, ap, ◌∙◌, arith, ℤ, pos, neg_ℤ, ◌+ℤ◌, ◌*ℤ◌, ◌≤ℤ◌}
 use Rattle.std.proofs.lemmas.Bool.{cases_lt}
 use Rattle.std.proofs.lemmas.Int.{ints}
-use Rattle.uc_model.proofs.Ring.{linear, mul-add, mul-neg, mul_comm}
+use Rattle.uc_model.proofs.Common.{linear, mul-add, mul-neg, mul_comm}
 use Rattle.step_functions.specs.Functions.{Steps, IsPlace, value_at}
 use Rattle.step_functions.specs.inside.Edits.{AreBelow}
 use Rattle.step_functions.specs.inside.Kept.{height}

@@ -5,9 +5,8 @@ use Rattle.std.specs.Int.{w64, w128}
 use Rattle.std.proofs.lemmas.Int.{ints, to_z-of_z, fits_signed_from_abs}
 use Rattle.std.proofs.lemmas.List.{take_at}
 use Rattle.std.proofs.lemmas.List.Elements.{All-map, All-from_get_or}
-use Rattle.uc_model.specs.Sums.{sum_below}
-use Rattle.uc_model.proofs.Ring.{linear, mul-add, mul-zero, mul-one, mul_comm}
-use Rattle.uc_model.proofs.Sums.{sum_below-same, sum_below-add, sum_below-const}
+use Rattle.uc_model.specs.Prelude.{sum_below}
+use Rattle.uc_model.proofs.Common.{linear, mul-add, mul-zero, mul-one, mul_comm, sum_below-same, sum_below-add, sum_below-const}
 use Rattle.step_functions.specs.Runs.{Run, run_of, slope_at, steps_of}
 use Rattle.step_functions.specs.Functions.{Steps, IsPlace, IsSmall, value_at, IsWithin, MAX_VALUE}
 use Rattle.step_functions.specs.inside.Edits.{with_slope}

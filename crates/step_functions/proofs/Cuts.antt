@@ -3,8 +3,7 @@ use Rattle.std.proofs.Common.{◌≡◌, ℕ, ◌+◌, ◌<◌, ◌≤◌, List,
 use Rattle.std.proofs.lemmas.Int.{ints}
 use Rattle.std.proofs.lemmas.List.{take-append-drop}
 use Rattle.std.proofs.lemmas.List.Elements.{All-take, All-drop}
-use Rattle.uc_model.proofs.Ring.{linear, add-zero}
-use Rattle.uc_model.proofs.Sums.{sum_below-same, sum_below-add}
+use Rattle.uc_model.proofs.Common.{linear, add-zero, sum_below-same, sum_below-add}
 use Rattle.step_functions.specs.Runs.{Run, slope_at, steps_of}
 use Rattle.step_functions.specs.Functions.{Steps, IsPlace, IsSmall, value_at, last_place}
 use Rattle.step_functions.specs.inside.Edits.{SameSteps, AreAdded}

@@ -4,8 +4,7 @@ use Rattle.std.proofs.lemmas.Bool.{cases_lt}
 use Rattle.std.proofs.lemmas.Int.{ints}
 use Rattle.std.proofs.lemmas.List.Sums.{sum_by_push}
 use Rattle.std.proofs.lemmas.List.Elements.{All-push}
-use Rattle.uc_model.proofs.Ring.{linear, le_antisymm, le_or_lt, pos_of_nonneg, mul-le-mul_right, mul-le-mul_turned, mul-zero, zero-mul, mul_comm}
-use Rattle.uc_model.proofs.Sums.{sum_below-same, sum_below-split, sum_below-const}
+use Rattle.uc_model.proofs.Common.{linear, le_antisymm, le_or_lt, pos_of_nonneg, mul-le-mul_right, mul-le-mul_turned, mul-zero, zero-mul, mul_comm, sum_below-same, sum_below-split, sum_below-const}
 use Rattle.step_functions.specs.Runs.{Run, slope_at, steps_of}
 use Rattle.step_functions.specs.Functions.{Steps, IsPlace, IsSmall, IsWithin, last_place, value_at}
 use Rattle.step_functions.specs.inside.Kept.{height, AreRising, AreSmall, IsKept}

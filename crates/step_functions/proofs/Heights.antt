@@ -1,9 +1,8 @@
 -- How values rise and fall with the steps, and where they are least.
 use Rattle.std.proofs.Common.{◌≡◌, ℕ, ◌+◌, ◌-◌, ◌<◌, ◌≤◌, ⊎_elim, List, subst, arith, ℤ, pos, negsuc, ◌+ℤ◌, ◌*ℤ◌, ◌≤ℤ◌}
 use Rattle.std.proofs.lemmas.Bool.{cases_lt}
-use Rattle.uc_model.specs.Sums.{sum_below}
-use Rattle.uc_model.proofs.Ring.{linear, mul-zero, mul-neg, mul-one}
-use Rattle.uc_model.proofs.Sums.{sum_below-split, sum_below-le, sum_below-const}
+use Rattle.uc_model.specs.Prelude.{sum_below}
+use Rattle.uc_model.proofs.Common.{linear, mul-zero, mul-neg, mul-one, sum_below-split, sum_below-le, sum_below-const}
 use Rattle.step_functions.specs.Runs.{Run, slope_at, steps_of}
 use Rattle.step_functions.specs.inside.Edits.{AreBelow}
 use Rattle.step_functions.specs.inside.Kept.{height}

@@ -3,8 +3,7 @@ use Rattle.std.proofs.Common.{◌≡◌, ℕ, ◌+◌, ◌-◌, ◌<◌, ◌≤�
 use Rattle.std.specs.Int.{w64}
 use Rattle.std.proofs.lemmas.Bool.{cases_lt}
 use Rattle.std.proofs.lemmas.Int.{ints, to_z-of_z, fits_signed_from_abs}
-use Rattle.uc_model.proofs.Ring.{linear}
-use Rattle.uc_model.proofs.Sums.{sum_below-same, sum_below-zero}
+use Rattle.uc_model.proofs.Common.{linear, sum_below-same, sum_below-zero}
 use Rattle.step_functions.specs.Runs.{Run, slope_at, steps_of}
 use Rattle.step_functions.specs.Functions.{Steps, IsPlace, IsSmall, IsWithin, IsLeastBetween, last_place, value_at}
 use Rattle.step_functions.specs.inside.Edits.{AreBelow, AreLevelled, IsSpread}

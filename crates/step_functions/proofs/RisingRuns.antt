@@ -1,7 +1,7 @@
 -- Runs whose slopes rise: those below a slope stand in front.
 use Rattle.std.proofs.Common.{◌≡◌, ℕ, zero, suc, ◌+◌, ◌-◌, ◌<◌, ◌≤◌, ⊎_elim, List, length, take, ap, arith, ℤ, pos, ◌<ℤ◌, ◌≤ℤ◌}
 use Rattle.std.proofs.lemmas.Bool.{cases_lt}
-use Rattle.uc_model.proofs.Ring.{linear}
+use Rattle.uc_model.proofs.Common.{linear}
 use Rattle.step_functions.specs.Runs.{Run, run_of, slope_at, steps_of}
 use Rattle.step_functions.specs.inside.Edits.{AreBelow}
 use Rattle.step_functions.specs.inside.Kept.{HaveSteps, AreRising}

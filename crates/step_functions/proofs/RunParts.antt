@@ -4,7 +4,7 @@ use Rattle.std.specs.Int.{w128}
 use Rattle.std.proofs.lemmas.List.{append_assoc, take-append-drop, take_at, drop-drop, get_or-take, length-take, length-map, length-append, length-drop}
 use Rattle.std.proofs.lemmas.List.Elements.{All-append, All-take, All-drop, All-map, All-from_get_or}
 use borrow.Rule.Slice.PartMut.{post_of}
-use Rattle.uc_model.proofs.Sizes.{abs_wide}
+use Rattle.uc_model.proofs.Common.{abs_wide}
 use Rattle.step_functions.specs.Runs.{Run, run_of, slope_at, steps_of}
 use Rattle.step_functions.specs.inside.Edits.{with_slope, SameSteps, IsSteeper}
 use Rattle.step_functions.specs.inside.Kept.{HaveSteps}

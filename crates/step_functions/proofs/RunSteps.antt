@@ -4,9 +4,8 @@ use Rattle.std.proofs.lemmas.Int.{ints}
 use Rattle.std.proofs.lemmas.Bool.{lt-ltb, le-ltb, cases_lt}
 use Rattle.std.proofs.lemmas.List.{take-append-drop, drop_more, take_all, take-take, drop-take, get_or-drop}
 use Rattle.std.proofs.lemmas.List.Sums.{sum_by-cons, sum_by-append, sum_by_more, sum_by-take-drop}
-use Rattle.uc_model.specs.Sums.{sum_below}
-use Rattle.uc_model.proofs.Ring.{mul_comm}
-use Rattle.uc_model.proofs.Sums.{sum_below-split, sum_below-same, sum_below-const}
+use Rattle.uc_model.specs.Prelude.{sum_below}
+use Rattle.uc_model.proofs.Common.{mul_comm, sum_below-split, sum_below-same, sum_below-const}
 use Rattle.step_functions.specs.Runs.{Run, run_of, slope_at, steps_of}
 
 -- ---- of a list in two parts

@@ -5,10 +5,9 @@ use lib.Signed.{le_z, non_neg}
 use Rattle.std.specs.Int.{w64, w128}
 use Rattle.std.proofs.lemmas.Bool.{cases_lt}
 use Rattle.std.proofs.lemmas.Int.{ints, clamps, fits_signed_from_abs}
-use Rattle.uc_model.specs.Sums.{sum_below}
-use Rattle.uc_model.proofs.Ring.{linear, mul-add, mul-zero, mul-one, mul-neg, mul_comm, mul-le-mul_left}
-use Rattle.uc_model.proofs.Sizes.{narrow, wide}
-use Rattle.uc_model.proofs.Sums.{sum_below-same, sum_below-split}
+use Rattle.uc_model.specs.Prelude.{sum_below}
+use Rattle.uc_model.proofs.Common.{linear, mul-add, mul-zero, mul-one, mul-neg, mul_comm, mul-le-mul_left, narrow, sum_below-same, sum_below-split}
+use Rattle.uc_model.proofs.Sizes.{wide}
 use Rattle.step_functions.specs.Runs.{Run, slope_at, steps_of}
 use Rattle.step_functions.specs.Functions.{Steps, IsPlace, IsSmall, IsWithin, value_at, shortfall, MAX_PLACE, MAX_VALUE}
 use Rattle.step_functions.specs.inside.Edits.{IsSteeper}

@@ -1,7 +1,7 @@
 -- The values of a function at its places, by how many steps these lie from the first one.
 use Rattle.std.proofs.Common.{◌≡◌, ℕ, ◌+◌, ◌≤◌, sym, ap, subst, ◌∙◌, arith, ℤ, pos, ◌+ℤ◌, ◌-ℤ◌, unsigned_abs}
 use Rattle.std.proofs.lemmas.Int.{ints}
-use Rattle.uc_model.specs.Sums.{sum_below}
+use Rattle.uc_model.specs.Prelude.{sum_below}
 use Rattle.step_functions.specs.Runs.{slope_at, steps_of}
 use Rattle.step_functions.specs.Functions.{Steps, IsPlace, IsSmall, value_at}
 use Rattle.step_functions.specs.inside.Kept.{height, AreRising, AreSmall, HaveSteps, IsKept}

@@ -3,7 +3,7 @@
 -- Constraints" (Operations Research 54, 2006), at a linear cost in each segment: its least values are at whole places.
 use Rattle.std.specs.Prelude.{◌≡◌, ℕ, ◌≤◌, List, length, ℤ, pos, ◌+ℤ◌, ◌-ℤ◌, ◌≤ℤ◌, unsigned_abs}
 use Rattle.std.specs.Int.{int_max}
-use Rattle.uc_model.specs.Sums.{sum_below}
+use Rattle.uc_model.specs.Prelude.{sum_below}
 pub use Rattle.step_functions.specs.declared.runs.Run.{Run}
 use Rattle.step_functions.specs.Runs.{slope_at, steps_of}
 pub use Rattle.step_functions.specs.declared.limits.TheConstants.{MAX_PLACE, MAX_VALUE}

@@ -1,7 +1,7 @@
 //! Runs of steps of one slope, and where a step lies among them.
 
 ghost use Rattle.std.specs.Prelude.{◌≡◌, ℕ, ◌+◌, ◌*◌, ◌^◌, ◌<◌, ◌≤◌, ◌*ℤ◌, ◌<ℤ◌, ◌≤ℤ◌, pos, length, take, unsigned_abs};
-ghost use Rattle.uc_model.specs.Sums.{sum_below};
+ghost use Rattle.uc_model.specs.Prelude.{sum_below};
 ghost use Rattle.step_functions.specs.Runs.{run_of, slope_at, steps_of};
 ghost use Rattle.step_functions.specs.Functions.{MAX_VALUE};
 ghost use Rattle.step_functions.specs.inside.Edits.{AreBelow};

@@ -5,7 +5,7 @@ use Rattle.std.proofs.Common.{◌≡◌, ℕ, refl, ◌<◌, ◌≤◌, ◌^◌,
 use Rattle.std.specs.Int.{w64}
 use Rattle.std.proofs.lemmas.Int.{ints}
 use Rattle.std.proofs.lemmas.List.Elements.{All-get_or}
-use Rattle.uc_model.proofs.Sizes.{from-size, narrow}
+use Rattle.uc_model.proofs.Common.{from-size, narrow}
 use Rattle.dual_model.specs.declared.limits.TheConstants.{MAX_SCALE}
 
 -- an element that is small, of a list that is another

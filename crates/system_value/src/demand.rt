@@ -2,10 +2,9 @@
 
 ghost use Rattle.std.specs.Prelude.{◌≡◌, ◌*◌, ◌<◌, ◌≤◌, pos, ◌*ℤ◌, ◌+ℤ◌, ◌-ℤ◌, ◌≤ℤ◌, unsigned_abs};
 ghost use Rattle.std.specs.Int.{int_max, int_min};
-ghost use Rattle.uc_model.specs.Limits.{IsLawfulInstance, IsPower};
+ghost use Rattle.uc_model.specs.Prelude.{IsLawfulInstance, IsPower};
 ghost use Rattle.uc_model.specs.declared.limits.TheConstants.{MAX_PENALTY};
-ghost use Rattle.dual_model.specs.NodeValue.{needs_value, shortage_value, shortages_value, system_value as value_of};
-ghost use Rattle.dual_model.specs.Prices.{HasSizeOf, IsPrice, IsWithinLimits};
+ghost use Rattle.dual_model.specs.Prelude.{needs_value, shortage_value, shortages_value, system_value as value_of, HasSizeOf, IsPrice, IsWithinLimits};
 ghost use Rattle.dual_model.specs.declared.limits.TheConstants.{MAX_SCALE};
 ghost use Rattle.system_value.specs.Sizes.{MAX_CELL, MAX_HOUR, MAX_SYSTEM};
 

@@ -2,8 +2,8 @@
 
 ghost use Rattle.std.specs.Prelude.{◌≡◌, ◌≤◌, pos, ◌*ℤ◌, unsigned_abs};
 ghost use Rattle.std.specs.Int.{int_max};
-ghost use Rattle.uc_model.specs.Limits.{IsPower};
-ghost use Rattle.dual_model.specs.Prices.{IsPrice};
+ghost use Rattle.uc_model.specs.Prelude.{IsPower};
+ghost use Rattle.dual_model.specs.Prelude.{IsPrice};
 ghost use Rattle.system_value.specs.Sizes.{MAX_CELL};
 
 use uc_model::scaled;

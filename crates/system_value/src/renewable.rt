@@ -2,10 +2,8 @@
 
 ghost use Rattle.std.specs.Prelude.{◌≡◌, ◌<◌, ◌≤◌, pos, ◌*ℤ◌, neg_ℤ, int_lt, unsigned_abs, if◌then◌else◌};
 ghost use Rattle.std.specs.Int.{int_max};
-ghost use Rattle.uc_model.specs.Limits.{IsLawfulInstance, IsPower};
-ghost use Rattle.uc_model.specs.Schedule.{renewable_count};
-ghost use Rattle.dual_model.specs.NodeValue.{renewable_part as part_of, renewable_value as value_of, renewables_value as all_of};
-ghost use Rattle.dual_model.specs.Prices.{HasSizeOf, IsPrice, IsWithinLimits};
+ghost use Rattle.uc_model.specs.Prelude.{IsLawfulInstance, IsPower, renewable_count};
+ghost use Rattle.dual_model.specs.Prelude.{renewable_part as part_of, renewable_value as value_of, renewables_value as all_of, HasSizeOf, IsPrice, IsWithinLimits};
 ghost use Rattle.system_value.specs.Sizes.{MAX_CELL, MAX_RENEWABLE, MAX_RENEWABLES};
 
 use crate::priced::{above_zero, priced};

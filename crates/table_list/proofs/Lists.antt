@@ -5,7 +5,7 @@ use Rattle.std.proofs.Math.ListN.{get_or-append}
 use Rattle.std.proofs.lemmas.Bool.{cases_order}
 use Rattle.std.proofs.lemmas.List.{map-append, length-map, drop-append-le, take-append-le, take_all, get_or_at}
 use Rattle.std.proofs.lemmas.List.Elements.{All-append, recursion_from_All}
-use Rattle.dual_model.specs.Prices.{IsWellFormed}
+use Rattle.dual_model.specs.Prelude.{IsWellFormed}
 use Rattle.table_list.specs.Changes.{Table, Change, OfDemand, OfReserve, OfRamps, changed, all_changed, table_changes}
 use Rattle.table_list.specs.inside.Kept.{Entry, no_table, with_scale, stretch, rebuilt, own_changes, tables_of, IsWithin, AreSteps, AreKept}
 

@@ -5,7 +5,7 @@ use Rattle.std.specs.List.Sorted.{IsPartitionedBy}
 use Rattle.std.proofs.lemmas.List.{drop_all}
 use Rattle.std.proofs.lemmas.List.Elements.{All-from_recursion}
 use Rattle.std.proofs.lemmas.Bool.{cases_order}
-use Rattle.dual_model.specs.Prices.{AreRising, IsRowBefore}
+use Rattle.dual_model.specs.Prelude.{AreRising, IsRowBefore}
 use Rattle.table_list.specs.Changes.{RampRow, is_before, is_none, placed, with_row}
 use Rattle.table_list.specs.inside.Steps.{IsRowPlace}
 use Rattle.table_list.proofs.RowChanges.{Rise, rise_from, before_trans, before_decides}

@@ -2,7 +2,7 @@
 use Rattle.std.proofs.Common.{◌≡◌, ℕ, ℤ, ◌-◌, ◌<◌, List, [], ◌∷◌, ◌++◌, length, take, drop, get_or, slice_get, Some, refl, sym, ap, subst, ◌∙◌, append-nil, length-append, arith}
 use Rattle.std.proofs.Math.Seq.{drop-append_seam}
 use Rattle.std.proofs.lemmas.List.{length-map, drop-append-le, drop_all, get_or_at}
-use Rattle.dual_model.specs.Prices.{IsWellFormed}
+use Rattle.dual_model.specs.Prelude.{IsWellFormed}
 use Rattle.table_list.specs.Changes.{Table, Change, all_changed, table_changes}
 use Rattle.table_list.specs.TableChanges.{change_of, changes_of, AreAlike}
 use Rattle.table_list.specs.inside.Kept.{Entry, Kept, no_table, with_scale, rebuilt, tables_of, AreKept, IsLastOf, IsListed, IsWholeAdded, IsToldAdded, told_in, tables_in}

@@ -1,7 +1,7 @@
 -- Reading a list: a table is rebuilt of one that is kept whole, by changes.
 use Rattle.std.proofs.Common.{◌≡◌, ℕ, zero, suc, ◌+◌, ◌-◌, ◌<◌, List, [], ◌∷◌, length, take, drop, get_or, sym, ap, subst, ◌∙◌, arith}
 use Rattle.std.proofs.lemmas.List.{length-map, take-map, drop-map, get_or-map, get_or_read, get_or_default, drop_more}
-use Rattle.dual_model.specs.Prices.{AreRising, IsWellFormed}
+use Rattle.dual_model.specs.Prelude.{AreRising, IsWellFormed}
 use Rattle.table_list.specs.Changes.{Table, Change, OfDemand, OfReserve, OfRamps, changed, all_changed, table_changes, with_row}
 use Rattle.table_list.specs.TableChanges.{KeptChange, change_of, changes_of}
 use Rattle.table_list.specs.inside.Kept.{Entry, Kept, no_table, with_scale, stretch, rebuilt, own_changes, AreKept, told_in, tables_in}

@@ -6,7 +6,7 @@ use Rattle.std.specs.Bool.{Decides}
 use Rattle.std.specs.Ordering.{int_eq}
 use Rattle.std.proofs.lemmas.Bool.{and_cases, cond-true, cond-false, cond_both, cases_order, cases_Bool, false_from_ne_true, false≢true, and_left, and_right, ne_eqb, and_from, eq-eqb}
 use Rattle.std.proofs.lemmas.Bool.Decides.{Decides-eqb, Decides-int_eq, Decides-and, Decides-or, Decides-ltb, Decides-like}
-use Rattle.dual_model.specs.Prices.{AreRising, IsRowBefore, row_of}
+use Rattle.dual_model.specs.Prelude.{AreRising, IsRowBefore, row_of}
 use Rattle.table_list.specs.Changes.{RampRow, is_before, is_none, placed, with_row, no_row, new_row, rows_from, row_changes}
 
 -- ---- the order of rows

@@ -2,7 +2,7 @@
 use Rattle.std.proofs.Common.{◌≡◌, ℕ, List, [], ◌∷◌, ◌++◌, length, map, ℤ, refl, sym, ap, ◌∙◌}
 use Rattle.std.specs.List.{AllByRecursion as Each}
 use Rattle.std.proofs.lemmas.List.Elements.{recursion_from_All}
-use Rattle.dual_model.specs.Prices.{IsRowWithin, IsWellFormed}
+use Rattle.dual_model.specs.Prelude.{IsRowWithin, IsWellFormed}
 use Rattle.table_list.specs.Changes.{Table, RampRow, Change, OfDemand, OfReserve, OfRamps, changed, all_changed, row_changes, table_changes}
 use Rattle.table_list.specs.TableChanges.{AreAlike}
 use Rattle.table_list.specs.inside.Kept.{with_scale}

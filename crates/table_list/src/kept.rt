@@ -1,7 +1,7 @@
 //! What a list keeps of its tables.
 
 ghost use Rattle.std.specs.Prelude.{◌≡◌, ◌<◌, ◌∷◌, [], ◌++◌, length, IfSome, OnOk, None, Some};
-ghost use Rattle.dual_model.specs.Prices.{IsWellFormed};
+ghost use Rattle.dual_model.specs.Prelude.{IsWellFormed};
 ghost use Rattle.table_list.specs.TableChanges.{AreAlike, last_table};
 ghost use Rattle.table_list.specs.inside.Kept.{IsListed, IsWholeAdded, IsToldAdded, tables_in};
 

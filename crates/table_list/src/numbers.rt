@@ -1,7 +1,7 @@
 //! A table that is being rebuilt.
 
 ghost use Rattle.std.specs.Prelude.{◌≡◌, ◌≤◌, ◌<◌, ◌++◌, suc, true, IfOk, OnOk, length, take, drop, slice_set, if◌then◌else◌};
-ghost use Rattle.dual_model.specs.Prices.{AreRising, IsWellFormed};
+ghost use Rattle.dual_model.specs.Prelude.{AreRising, IsWellFormed};
 ghost use Rattle.table_list.specs.Changes.{all_changed, changed, is_before, is_none, placed, with_row};
 ghost use Rattle.table_list.specs.TableChanges.{changes_of, change_of};
 ghost use Rattle.table_list.specs.inside.Steps.{numbered, IsRowPlace};

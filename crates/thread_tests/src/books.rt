@@ -1,14 +1,11 @@
 //! A book of a demo's instance: a call after another, and two threads behind a lock.
 
 ghost use Rattle.std.specs.Prelude.{◌≡◌, ◌↔◌, ◌<ℤ◌, IfOk, IsTrue, pos, false};
-ghost use Rattle.uc_model.specs.Limits.{IsLawfulInstance};
+ghost use Rattle.uc_model.specs.Prelude.{IsLawfulInstance};
 ghost use Rattle.uc_model.specs.declared.instance.Instance.{Instance};
-ghost use Rattle.dual_model.specs.Cover.{IsTableBound};
-ghost use Rattle.dual_model.specs.Fixings.{IsNodeOf};
-ghost use Rattle.dual_model.specs.Prices.{IsLawfulTable};
-ghost use Rattle.dual_model.specs.Tree.{root};
+ghost use Rattle.dual_model.specs.Prelude.{IsTableBound, IsNodeOf, IsLawfulTable, root};
 ghost use Rattle.book.specs.Opening.{IsTrueOpening};
-ghost use Rattle.search_machine.specs.Runs.{IsTrueOutcome};
+ghost use Rattle.search_machine.specs.Prelude.{IsTrueOutcome};
 
 use book::{Book, Case, Claimed};
 use branch_tree::{Entry, Outcome, Tree};

@@ -1,7 +1,7 @@
 //! Searches by two workers that meet in their gate.
 
 ghost use Rattle.std.specs.Prelude.{◌≤◌, IfOk};
-ghost use Rattle.uc_model.specs.Limits.{IsLawfulInstance};
+ghost use Rattle.uc_model.specs.Prelude.{IsLawfulInstance};
 
 use instance::read_instance;
 use outside::Gate;

@@ -1,12 +1,12 @@
 -- What a search begins with, and how it ends where the opening's schedule closes it.
 use Rattle.std.proofs.Common.{◌≡◌, ◌∙◌, ℕ, ◌≤◌, Bool, true, false, arith, subst, sym, ℤ, pos, ◌<ℤ◌, Option, Some}
-use Rattle.uc_model.specs.Limits.{IsLawfulInstance}
+use Rattle.uc_model.specs.Prelude.{IsLawfulInstance}
 use Rattle.uc_model.specs.declared.schedule.Printed.{Printed}
 use Rattle.uc_model.specs.declared.tolerance.TheConstants.{WHOLE_GAP}
-use Rattle.uc_model.proofs.Quotients.{IsFloor-int_div_euclid}
-use Rattle.branch_tree.specs.Closing.{is_schedule_within}
+use Rattle.uc_model.proofs.Common.{IsFloor-int_div_euclid}
+use Rattle.branch_tree.specs.Prelude.{is_schedule_within}
 use Rattle.search_machine.specs.declared.limits.TheConstants.{MAX_BUDGET}
-use Rattle.search_machine.specs.Moves.{bound_of}
+use Rattle.search_machine.specs.Prelude.{bound_of}
 use Rattle.book.specs.BookView.{BookView, opened}
 use Rattle.book.specs.Opening.{Opening, IsTrueOpening}
 use Rattle.opening.specs.RootTables.{IsPricedOf}

@@ -2,14 +2,10 @@
 use Rattle.std.proofs.Common.{◌≡◌, ◌≢◌, ◌∙◌, ℕ, ◌+◌, ◌*◌, ◌≤◌, Bool, true, false, cond, ◌==◌, List, [], ◌∷◌, length, map, refl, ap, sym, subst, arith, ℤ, Option}
 use Rattle.std.proofs.lemmas.List.{length-map}
 use Rattle.uc_model.specs.declared.schedule.Printed.{Printed}
-use Rattle.dual_model.specs.Tree.{root, child}
+use Rattle.dual_model.specs.Prelude.{root, child}
 use Rattle.dual_model.specs.declared.node.Node.{Node}
-use Rattle.branch_tree.specs.NumberedTree.{NumberedTree, EndAt, SplitAt, node_count}
-use Rattle.branch_tree.specs.TreeView.{IsWhole}
-use Rattle.search_machine.specs.Machine.{entries_of}
-use Rattle.search_machine.specs.Moves.{bound_of}
-use Rattle.search_machine.specs.OwnTables.{HasFreeCellAt, HoldsStored, OwnsBelow, StartsAt, stored_after, stored_by}
-use Rattle.search_machine.specs.Runs.{TreeRunsHold}
+use Rattle.branch_tree.specs.Prelude.{NumberedTree, EndAt, SplitAt, node_count, IsWhole}
+use Rattle.search_machine.specs.Prelude.{entries_of, bound_of, HasFreeCellAt, HoldsStored, OwnsBelow, StartsAt, stored_after, stored_by, TreeRunsHold}
 use Rattle.search_machine.specs.declared.stored.Stored.{Stored}
 use Rattle.book.specs.BookView.{BookView}
 use Rattle.book.specs.Opening.{Opening, IsTrueOpening}

@@ -2,8 +2,8 @@
 
 ghost use Rattle.std.specs.Prelude.{◌≡◌, ◌≤◌, IfOk, None, Some};
 ghost use Rattle.uc_model.specs.declared.tolerance.TheConstants.{WHOLE_GAP};
-ghost use Rattle.branch_tree.specs.Closing.{is_schedule_within};
-ghost use Rattle.search_machine.specs.Moves.{bound_of};
+ghost use Rattle.branch_tree.specs.Prelude.{is_schedule_within};
+ghost use Rattle.search_machine.specs.Prelude.{bound_of};
 ghost use Rattle.schedule_check.specs.Accepted.{IsAcceptedIfFound};
 ghost use Rattle.opening.specs.RootTables.{IsPricedOf};
 ghost use Rattle.book.specs.BookView.{opened};

@@ -1,9 +1,9 @@
 //! The search over the tree: the desk and its workers, and what they leave.
 
 ghost use Rattle.std.specs.Prelude.{◌≡◌, ℕ, ◌+◌, ◌*◌, true, [], IfOk, Some};
-ghost use Rattle.uc_model.specs.Limits.{IsLawfulInstance};
-ghost use Rattle.branch_tree.specs.Closing.{is_schedule_within};
-ghost use Rattle.search_machine.specs.Moves.{bound_of};
+ghost use Rattle.uc_model.specs.Prelude.{IsLawfulInstance};
+ghost use Rattle.branch_tree.specs.Prelude.{is_schedule_within};
+ghost use Rattle.search_machine.specs.Prelude.{bound_of};
 ghost use Rattle.schedule_check.specs.Accepted.{IsAcceptedIfFound};
 ghost use Rattle.opening.specs.RootTables.{IsPricedOf};
 ghost use Rattle.book.specs.BookView.{opened};

@@ -1,7 +1,7 @@
 //! The workers of a search, each with its seat and its pass.
 
 ghost use Rattle.std.specs.Prelude.{◌≡◌, ◌+◌, ◌*◌, ◌≤◌, All, IfOk, OnOk, vec_len};
-ghost use Rattle.uc_model.specs.Limits.{IsLawfulInstance};
+ghost use Rattle.uc_model.specs.Prelude.{IsLawfulInstance};
 ghost use Rattle.search_machine.specs.declared.limits.TheConstants.{MAX_BUDGET};
 ghost use Rattle.steal_pool.specs.Pools.{IsFreshPool};
 ghost use Rattle.tree_search.specs.declared.options.TheConstants.{MAX_WORKERS};

@@ -1,14 +1,14 @@
 -- A certificate that holds is accepted: each fault but want of memory has a cause that isn't there.
 use Rattle.std.proofs.Common.{◌≡◌, ◌∙◌, ℕ, Bool, true, false, List, refl, sym, subst, inl, inr, ◌⊎◌, ⊎_elim, arith, length, ◌<◌, ◌≤◌, ◌<ℤ◌, ◌≤ℤ◌, pos, Option, Some, None, IfSome}
-use Rattle.uc_model.proofs.Ring.{linear}
-use Rattle.uc_model.specs.Limits.{greatest_shortage_cost}
+use Rattle.uc_model.proofs.Common.{linear}
+use Rattle.uc_model.specs.Prelude.{greatest_shortage_cost}
 use Rattle.uc_model.specs.declared.field_refusal.FieldRefusal.{FieldRefusal}
 use Rattle.uc_model.specs.declared.limits.TheConstants.{MAX_SHORTAGE_COST}
 use Rattle.uc_model.specs.declared.instance.Instance.{Instance}
 use Rattle.instance.specs.Bytes.{StandFor, StandForCounted}
 use Rattle.instance.specs.declared.from_bytes.ReadFault.TheVariants as read_fault
 use Rattle.instance.proofs.ExactLaws.{exact_is}
-use Rattle.dual_model.specs.Certificate.{Certificate, CertificateHolds}
+use Rattle.dual_model.specs.Prelude.{Certificate, CertificateHolds}
 use Rattle.outside.specs.declared.slot.Slot.TheVariants as slot
 use Rattle.outside.specs.ToldBytes.{Tells}
 use Rattle.outside.specs.Slots.{SlotState}

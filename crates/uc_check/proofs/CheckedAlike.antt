@@ -1,7 +1,7 @@
 -- What a run of `check` says of a certificate's file hangs on the certificate alone, and not on which text of it stands in the file.
 use Rattle.std.proofs.Common.{◌≡◌, ℕ, ◌<◌, ◌≤◌, true, List, [], length, refl, sym, ap, subst, inl, inr, ⊎_elim, arith, Option, Some, None, IfSome}
 use Rattle.uc_model.specs.declared.instance.Instance.{Instance}
-use Rattle.dual_model.specs.Certificate.{Certificate}
+use Rattle.dual_model.specs.Prelude.{Certificate}
 use Rattle.outside.specs.declared.slot.Slot.TheVariants as slot
 use Rattle.outside.specs.ToldBytes.{Tells}
 use Rattle.outside.specs.Slots.{SlotState}

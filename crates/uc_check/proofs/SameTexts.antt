@@ -1,8 +1,6 @@
 -- A certificate is told by its listing, and so bytes are the text of one certificate at most, in whichever version.
 use Rattle.std.proofs.Common.{◌≡◌, ◌∙◌, sym, ap, subst, List, [], ◌∷◌, ◌++◌, ℕ, append-nil, append_assoc}
-use Rattle.dual_model.specs.Tree.{Tree, Ends, Splits}
-use Rattle.dual_model.specs.Cover.{Leaf}
-use Rattle.dual_model.specs.Certificate.{Certificate}
+use Rattle.dual_model.specs.Prelude.{Tree, Ends, Splits, Leaf, Certificate}
 use Rattle.cert_text.specs.CertificateText.{Listing, TreeNode, LeafNode, SplitNode, preorder, listing_of, certificate_text}
 use Rattle.cert_text.proofs.GrammarLaws.{texts_apart}
 use Rattle.command_runs.specs.Certificates.{IsCertificateText}

@@ -10,9 +10,7 @@ use Rattle.uc_model.specs.Decimal.{minus_text, signed_text, whole_text}
 use Rattle.uc_model.specs.Money.{money_text}
 use Rattle.uc_model.proofs.DecimalText.{length-whole_text-le}
 use Rattle.uc_model.proofs.MoneyText.{length-money_text}
-use Rattle.dual_model.specs.Certificate.{Certificate, WrittenSchedule}
-use Rattle.dual_model.specs.Cover.{Bound, Ray, Empty}
-use Rattle.dual_model.specs.Prices.{IsRowWithin}
+use Rattle.dual_model.specs.Prelude.{Certificate, WrittenSchedule, Bound, Ray, Empty, IsRowWithin}
 use Rattle.outside.specs.Lines.{joined, spaced, line, words_of, list_line}
 use Rattle.table_list.specs.Changes.{Change, OfDemand, OfReserve, OfRamps, is_before, no_row, price_changes, row_changes, rows_from, table_changes}
 use Rattle.cert_text.specs.declared.cert.Version.{Version}

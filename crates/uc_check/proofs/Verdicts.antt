@@ -1,11 +1,10 @@
 -- How the ends of a run of `check` follow from its steps: reading the instance (from the files f to g), reading the
 -- certificate (from g to h), checking it, and the report.
 use Rattle.std.proofs.Common.{◌≡◌, ℕ, true, subst, ap, ◌∙◌, refl, ⊎_elim, Some, None, List}
-use Rattle.uc_model.specs.Limits.{IsLawfulInstance}
-use Rattle.uc_model.proofs.PrintedCosts.{cost-le-printed}
+use Rattle.uc_model.specs.Prelude.{IsLawfulInstance}
+use Rattle.uc_model.proofs.Common.{cost-le-printed}
 use Rattle.uc_model.specs.declared.instance.Instance.{Instance}
-use Rattle.dual_model.specs.Certificate.{Certificate, CertificateHolds, WrittenSchedule}
-use Rattle.dual_model.specs.Laws.{IsClaimTrue}
+use Rattle.dual_model.specs.Prelude.{Certificate, CertificateHolds, WrittenSchedule, IsClaimTrue}
 use Rattle.outside.specs.declared.slot.Slot.TheVariants as slot
 use Rattle.outside.specs.Slots.{SlotState, SameBut}
 use Rattle.outside.specs.Sinks.{SinkState}

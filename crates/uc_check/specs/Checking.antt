@@ -1,12 +1,9 @@
 -- What a run of `check` did, by how it ended. This project's own.
 use Rattle.std.specs.Prelude.{◌≡◌, ℕ, ◌⊎◌, true, false, List, Option, Some, None, pos, ◌*ℤ◌, ◌≤ℤ◌}
-use Rattle.uc_model.specs.Cost.{cost}
-use Rattle.uc_model.specs.Rules.{Obeys}
-use Rattle.uc_model.specs.PrintedSchedule.{printed_denominator, printed_schedule}
+use Rattle.uc_model.specs.Prelude.{cost, Obeys, printed_denominator, printed_schedule}
 use Rattle.uc_model.specs.declared.refusal.Refusal.{Refusal}
 use Rattle.uc_model.specs.declared.instance.Instance.{Instance}
-use Rattle.dual_model.specs.Certificate.{Certificate, CertificateHolds, WrittenSchedule}
-use Rattle.dual_model.specs.Laws.{IsClaimTrue}
+use Rattle.dual_model.specs.Prelude.{Certificate, CertificateHolds, WrittenSchedule, IsClaimTrue}
 use Rattle.outside.specs.declared.slot.Slot.TheVariants as slot
 use Rattle.outside.specs.Slots.{SlotState}
 use Rattle.outside.specs.declared.slot.Slot.{Slot}

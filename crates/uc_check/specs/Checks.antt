@@ -1,6 +1,6 @@
 -- What was read and checked.
 use Rattle.std.specs.Prelude.{◌≡◌}
-use Rattle.dual_model.specs.Certificate.{Certificate}
+use Rattle.dual_model.specs.Prelude.{Certificate}
 use Rattle.outside.specs.declared.slot.Slot.{Slot}
 use Rattle.outside.specs.Slots.{SlotState}
 use Rattle.cert_text.specs.CertificateText.{listing_of}

@@ -1,6 +1,6 @@
 -- What a run of `upgrade` did, by how it ended. This project's own.
 use Rattle.std.specs.Prelude.{◌≡◌, ◌↔◌, ℕ, ◌≤◌, true, false, List, Option, Some, None, length}
-use Rattle.dual_model.specs.Certificate.{Certificate}
+use Rattle.dual_model.specs.Prelude.{Certificate}
 use Rattle.outside.specs.declared.slot.Slot.TheVariants as slot
 use Rattle.outside.specs.Slots.{SlotState}
 use Rattle.outside.specs.declared.slot.Slot.{Slot}

@@ -1,7 +1,7 @@
 //! A run of `upgrade`.
 
 ghost use Rattle.std.specs.Prelude.{◌≡◌, None, IfOk, IfErr, OnOk, OnErr};
-ghost use Rattle.dual_model.specs.Certificate.{Certificate};
+ghost use Rattle.dual_model.specs.Prelude.{Certificate};
 ghost use Rattle.outside.specs.declared.slot.Slot.TheVariants.{CertOut};
 ghost use Rattle.outside.specs.Slots.{AllUnopened, SameBut};
 ghost use Rattle.outside.specs.Sinks.{SinkState};

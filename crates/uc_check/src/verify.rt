@@ -1,8 +1,8 @@
 //! Reading an instance and a certificate, and checking the one against the other.
 
 ghost use Rattle.std.specs.Prelude.{IfOk, IfErr};
-ghost use Rattle.uc_model.specs.Limits.{IsLawfulInstance};
-ghost use Rattle.dual_model.specs.Laws.{IsClaimTrue};
+ghost use Rattle.uc_model.specs.Prelude.{IsLawfulInstance};
+ghost use Rattle.dual_model.specs.Prelude.{IsClaimTrue};
 ghost use Rattle.outside.specs.Slots.{AllUnopened};
 ghost use Rattle.outside.specs.Sinks.{SinkState};
 ghost use Rattle.cert_check.specs.Answers.{IsAccepted, IsRead};

@@ -4,13 +4,10 @@ use Rattle.std.specs.List.{flat_map}
 use Rattle.std.proofs.lemmas.List.{length-append, length-map}
 use Rattle.std.proofs.lemmas.List.Sums.{count_by-le-length, length-filter}
 use Rattle.dual_model.specs.Cover as cover
-use Rattle.dual_model.specs.Tree.{map_leaves}
+use Rattle.dual_model.specs.Prelude.{map_leaves}
 use Rattle.branch_tree.specs.declared.found.Found.{Found}
 use Rattle.branch_tree.specs.declared.tree.Leaf.{Leaf}
-use Rattle.branch_tree.specs.Claims.{Table, certificate_of, leaf_claim, table_at, written_tables}
-use Rattle.branch_tree.specs.NumberedTree.{NumberedTree, EndAt, SplitAt, node_count, unnumbered}
-use Rattle.branch_tree.specs.TreeView.{Instance, tree_of}
-use Rattle.branch_tree.specs.UsedTables.{each_once, leaf_tables, leaves, stored_tables, used_tables}
+use Rattle.branch_tree.specs.Prelude.{Table, certificate_of, leaf_claim, table_at, written_tables, NumberedTree, EndAt, SplitAt, node_count, unnumbered, Instance, tree_of, each_once, leaf_tables, leaves, stored_tables, used_tables}
 use Rattle.branch_tree.specs.declared.tree.Leaf.TheVariants as leaf
 use Rattle.cert_text.specs.CertificateText.{listing_of, preorder}
 use Rattle.uc_check.specs.Accepting.{most_rows, IsLittle}

@@ -1,16 +1,13 @@
 -- A schedule that a search lets out has a text of the certificate's grammar, in the third version.
 use Rattle.std.proofs.Common.{◌≡◌, ◌∙◌, ℕ, zero, suc, ◌<◌, ◌*◌, ◌≤◌, Bool, true, false, List, [], ◌∷◌, get_or, length, replicate, refl, subst, sym, arith, ap, ℤ, pos, ◌*ℤ◌, ◌<ℤ◌, ◌/◌, Some, None, Option, IfSome}
 use Rattle.std.proofs.lemmas.List.{get_or_default}
-use Rattle.uc_model.specs.Schedule.{thermal_count, renewable_count}
-use Rattle.uc_model.specs.PrintedSchedule.{cell_at, shed_at, short_at, printed_denominator, printed_schedule}
-use Rattle.uc_model.proofs.Ring.{linear, le_from_mul, mul-zero}
-use Rattle.uc_model.proofs.PrintedCosts.{watts-factor}
-use Rattle.uc_model.proofs.Shortages.{share_is, shed_parts, short_parts}
+use Rattle.uc_model.specs.Prelude.{thermal_count, renewable_count, cell_at, shed_at, short_at, printed_denominator, printed_schedule}
+use Rattle.uc_model.proofs.Common.{linear, le_from_mul, mul-zero, watts-factor, share_is, shed_parts, short_parts}
 use Rattle.uc_model.specs.declared.instance.Instance.{Instance}
 use Rattle.uc_model.specs.declared.schedule.Cell.{Cell}
 use Rattle.uc_model.specs.declared.schedule.Printed.{Printed}
 use Rattle.schedule_check.specs.SizedNumbers.{HasSizedNumbers, IsSized, IsSizedCell}
-use Rattle.branch_tree.specs.Claims.{written_of}
+use Rattle.branch_tree.specs.Prelude.{written_of}
 use Rattle.cert_text.specs.CertificateText.{has_price}
 use Rattle.cert_text.specs.TextConditions.{AreShortagesText, HasNoShortage, HasDigits, IsCellText, IsThermalRow, IsPowerRow, IsScheduleText}
 use Rattle.cert_text.specs.declared.cert.Version.TheVariants.{Third}

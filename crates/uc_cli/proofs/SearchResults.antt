@@ -1,13 +1,12 @@
 -- What a search answers claims truly, and its certificate has a text.
 use Rattle.std.proofs.Common.{◌≡◌, ◌^◌, ◌-◌, ◌<◌, ◌≤◌, ℕ, Bool, false, arith, length, subst, Option, Some, None, ℤ, unsigned_abs, IfSome}
 use Rattle.std.proofs.lemmas.List.Elements.{All-weaker}
-use Rattle.uc_model.specs.Limits.{IsLawfulInstance}
+use Rattle.uc_model.specs.Prelude.{IsLawfulInstance}
 use Rattle.dual_model.specs.declared.table.Table.{Table}
-use Rattle.dual_model.specs.Laws.{IsClaimTrue}
+use Rattle.dual_model.specs.Prelude.{IsClaimTrue}
 use Rattle.dual_model.proofs.Covers.{certificates_claim_truly}
 use Rattle.outside.specs.Slots.{SlotState}
-use Rattle.branch_tree.specs.StoredTree.{tree_bound}
-use Rattle.branch_tree.specs.Claims.{certificate_of, written_tables}
+use Rattle.branch_tree.specs.Prelude.{tree_bound, certificate_of, written_tables}
 use Rattle.cert_text.specs.TextConditions.{HasWrittenText, IsMoney}
 use Rattle.cert_text.specs.declared.cert.Version.TheVariants.{Third}
 use Rattle.cert_text.proofs.Parts.{found_has_text}
@@ -15,7 +14,7 @@ use Rattle.demo_gen.specs.Demo.{demo_instance}
 use Rattle.roll.specs.NextWindow.{IsNextWindow}
 use Rattle.roll.specs.declared.rolled.Rolled.{Rolled}
 use Rattle.roll.specs.declared.rolled.Rolled.TheVariants.{Whole, Stopped}
-use Rattle.uc_model.proofs.PrintedCosts.{cost-le-printed}
+use Rattle.uc_model.proofs.Common.{cost-le-printed}
 use Rattle.dual_value.specs.NodeAnswer.{MAX_VALUE}
 use Rattle.search_answers.specs.Pivoted.{IsPivotedFound}
 use Rattle.search_answers.specs.Writable.{HasFewRows, IsWritable}

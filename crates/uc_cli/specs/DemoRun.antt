@@ -1,11 +1,8 @@
 -- What a run of `demo` did, by how it ended. This project's own.
 use Rattle.std.specs.Prelude.{◌≡◌, ℕ, true, false, Option, Some, None}
-use Rattle.dual_model.specs.Certificate.{WrittenSchedule}
-use Rattle.dual_model.specs.Laws.{IsClaimTrue}
+use Rattle.dual_model.specs.Prelude.{WrittenSchedule, IsClaimTrue}
 use Rattle.outside.specs.Sinks.{SinkState}
-use Rattle.branch_tree.specs.Claims.{written_of}
-use Rattle.branch_tree.specs.Closing.{status_of}
-use Rattle.branch_tree.specs.StoredTree.{tree_bound}
+use Rattle.branch_tree.specs.Prelude.{written_of, status_of, tree_bound}
 pub use Rattle.branch_tree.specs.declared.found.Found.{Found}
 use Rattle.demo_gen.specs.Demo.{demo_instance}
 use Rattle.search_answers.specs.SearchResult.{IsSearchResult}

@@ -1,11 +1,11 @@
 -- What a run of `roll` did, by how it ended. This project's own.
 use Rattle.std.specs.Prelude.{◌≡◌, ℕ, ◌+◌, ◌-◌, ◌⊎◌, true, false, Option, Some, None}
 pub use Rattle.uc_model.specs.declared.instance.Instance.{Instance}
-use Rattle.dual_model.specs.Laws.{IsClaimTrue}
+use Rattle.dual_model.specs.Prelude.{IsClaimTrue}
 pub use Rattle.outside.specs.declared.slot.Slot.{Slot}
 use Rattle.outside.specs.declared.slot.Slot.TheVariants as slot
 use Rattle.outside.specs.Slots.{SlotState}
-use Rattle.branch_tree.specs.StoredTree.{tree_bound}
+use Rattle.branch_tree.specs.Prelude.{tree_bound}
 use Rattle.roll.specs.Rolling.{status_of}
 pub use Rattle.roll.specs.declared.rolled.Rolled.{Rolled}
 use Rattle.roll.specs.declared.rolled.Rolled.TheVariants.{Whole, Stopped}

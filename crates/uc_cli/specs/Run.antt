@@ -2,14 +2,11 @@
 -- on the error output. This project's own.
 use Rattle.std.specs.Prelude.{◌≡◌, ℕ, true, false, Option, Some, None}
 pub use Rattle.uc_model.specs.declared.instance.Instance.{Instance}
-use Rattle.dual_model.specs.Laws.{IsClaimTrue}
+use Rattle.dual_model.specs.Prelude.{IsClaimTrue, WrittenSchedule}
 pub use Rattle.outside.specs.declared.slot.Slot.{Slot}
 use Rattle.outside.specs.declared.slot.Slot.TheVariants as slot
 use Rattle.outside.specs.Slots.{SlotState}
-use Rattle.branch_tree.specs.StoredTree.{tree_bound}
-use Rattle.branch_tree.specs.Closing.{status_of}
-use Rattle.dual_model.specs.Certificate.{WrittenSchedule}
-use Rattle.branch_tree.specs.Claims.{certificate_of, written_of}
+use Rattle.branch_tree.specs.Prelude.{tree_bound, status_of, certificate_of, written_of}
 use Rattle.search_answers.specs.Pivoted.{IsPivotedFound}
 use Rattle.search_answers.specs.SearchResult.{IsSearchResult}
 use Rattle.cert_text.specs.CertificateText.{certificate_text, listing_of}

@@ -9,7 +9,7 @@ ghost use Rattle.command_runs.specs.Reading.{most_bytes, HasCause, IsOpenedByNoO
 ghost use Rattle.command_runs.specs.Outside.{outside_of};
 ghost use Rattle.command_runs.specs.Writing.{IsTold, FailsToTell};
 ghost use Rattle.report.specs.FoundReport.{found_report};
-ghost use Rattle.branch_tree.specs.Claims.{HasLayout};
+ghost use Rattle.branch_tree.specs.Prelude.{HasLayout};
 ghost use Rattle.uc_cli.specs.inside.Written.{AreWritten, AreUnwritten};
 ghost use Rattle.uc_cli.specs.Run.{Slot, solve_options, IsAnswer, IsSolved, IsFailure, KeepsToFiles, IsSolveRun};
 ghost use Rattle.command_line.specs.Asked.{solve_asked, HasPrices, HasWorkers};

@@ -18,3 +18,4 @@ pub mod HullSegments
 pub mod PrintedCosts
 pub mod Sizes
 pub mod Caps
+pub mod Common

@@ -18,3 +18,4 @@ pub mod Limits
 pub mod Examples
 pub mod Tolerance
 pub mod Terms
+pub mod Prelude

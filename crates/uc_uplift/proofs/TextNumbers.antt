@@ -3,7 +3,7 @@ use Rattle.std.proofs.Common.{◌≡◌, ℕ, ◌<◌, ◌≤◌, Bool, true, fa
 use Rattle.std.proofs.lemmas.Bool.{cases_lt}
 use Rattle.std.proofs.lemmas.List.{get_or_past}
 use Rattle.std.proofs.lemmas.List.Elements.{All-nil}
-use Rattle.dual_model.specs.Certificate.{WrittenSchedule}
+use Rattle.dual_model.specs.Prelude.{WrittenSchedule}
 use Rattle.schedule_check.specs.SizedNumbers.{Cell, HasSizedNumbers, IsSized, IsSizedCell}
 use Rattle.cert_text.specs.declared.cert.Version.{Version}
 use Rattle.cert_text.specs.TextConditions.{HasDigits, IsCellText, IsOffCell, IsOnCell, IsScheduleText}

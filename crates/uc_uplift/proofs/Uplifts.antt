@@ -3,13 +3,12 @@
 use Rattle.std.proofs.Common.{◌≡◌, ◌∙◌, ℕ, zero, suc, ◌<◌, ◌≤◌, ◌-◌, length, get_or, true, List, All, refl, sym, ap, subst, inr, ⊎_elim, arith, Some, None}
 use Rattle.std.proofs.lemmas.Option.{none-some, get_or_from_slice_get, slice_get_within, slice_get_past, slice_get-get_or}
 use Rattle.std.specs.Option.{IfSome}
-use Rattle.dual_model.specs.Certificate.{Certificate}
-use Rattle.dual_model.specs.Prices.{IsLawfulTable}
+use Rattle.dual_model.specs.Prelude.{Certificate, IsLawfulTable}
 use Rattle.outside.specs.declared.slot.Slot.TheVariants as slot
 use Rattle.outside.specs.Slots.{SlotState}
 use Rattle.outside.specs.Sinks.{SinkState}
 use Rattle.outside.specs.declared.slot.Slot.{Slot}
-use Rattle.branch_tree.specs.Claims.{written_of}
+use Rattle.branch_tree.specs.Prelude.{written_of}
 use Rattle.cert_text.specs.CertificateText.{Listing, has_price, listing_of}
 use Rattle.cert_text.specs.Reading.{listing_read}
 use Rattle.cert_text.specs.TextConditions.{IsScheduleText}

@@ -2,7 +2,7 @@
 use Rattle.std.specs.Prelude.{◌≡◌, ◌≢◌, ℕ, zero, suc, ◌<◌, ◌≤◌, true, List, ℤ, pos, Option, Some, None, slice_get}
 pub use Rattle.uc_model.specs.declared.schedule.Printed.{Printed}
 use Rattle.uc_model.specs.declared.instance.Instance.{Instance}
-use Rattle.dual_model.specs.Certificate.{Certificate, WrittenSchedule}
+use Rattle.dual_model.specs.Prelude.{Certificate, WrittenSchedule}
 pub use Rattle.dual_model.specs.declared.table.Table.{Table}
 use Rattle.outside.specs.Slots.{SlotState}
 use Rattle.outside.specs.declared.slot.Slot.{Slot}

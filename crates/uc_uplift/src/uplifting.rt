@@ -4,7 +4,7 @@ ghost use Rattle.std.specs.Prelude.{◌≡◌, ℕ, List, IfOk, IfErr, OnOk, OnE
 ghost use Rattle.outside.specs.Slots.{AllUnopened, SlotState};
 ghost use Rattle.outside.specs.Sinks.{SinkState};
 ghost use Rattle.outside.specs.declared.slot.Slot.{Slot};
-ghost use Rattle.branch_tree.specs.Claims.{written_of};
+ghost use Rattle.branch_tree.specs.Prelude.{written_of};
 ghost use Rattle.uplift.specs.Uplift.{AreUplifts};
 ghost use Rattle.report.specs.UpliftReport.{uplift_report};
 ghost use Rattle.command_line.specs.Asked.{uplift_asked, HasPrices};

@@ -2,16 +2,11 @@
 use Rattle.std.proofs.Common.{◌≡◌, ℕ, zero, suc, ◌+◌, ◌*◌, ◌^◌, ◌<◌, ◌≤◌, Bool, true, false, cond, sym, ap, subst, arith, ℤ, pos, ◌+ℤ◌, ◌-ℤ◌, ◌*ℤ◌, neg_ℤ, ◌≤ℤ◌, unsigned_abs, IsTrue, if◌then◌else◌}
 use Rattle.std.specs.Int.{int_max, int_min}
 use Rattle.std.proofs.lemmas.Int.{ints, clamps}
-use Rattle.uc_model.specs.Commitment.{Commitment, start_reduction, starts}
-use Rattle.uc_model.specs.StartCategory.{last_stop, sigma}
-use Rattle.uc_model.specs.Sums.{bit, sum_below}
+use Rattle.uc_model.specs.Prelude.{Commitment, start_reduction, starts, last_stop, sigma, bit, sum_below}
 use Rattle.uc_model.specs.declared.limits.TheConstants.{MAX_COST}
-use Rattle.uc_model.proofs.Ring.{linear, mul-one, mul-zero}
-use Rattle.uc_model.proofs.Sizes.{abs_add, abs_mul, abs_sub}
-use Rattle.uc_model.proofs.StartCosts.{sigma-size}
-use Rattle.uc_model.proofs.Sums.{sum_below-const, sum_below-le}
-use Rattle.dual_model.specs.ExactValue.{floored_cost, greatest_output}
-use Rattle.dual_model.specs.Prices.{mu_at, pi_at}
+use Rattle.uc_model.proofs.Common.{linear, mul-one, mul-zero, abs_add, abs_mul, abs_sub, sigma-size, sum_below-const, sum_below-le}
+use Rattle.dual_model.specs.Prelude.{greatest_output, mu_at, pi_at}
+use Rattle.dual_model.specs.ExactValue.{floored_cost}
 use Rattle.step_functions.specs.Functions.{Steps}
 use Rattle.unit_runs.specs.Patterns.{EachRun, IsValueByRuns, begins, run_hours, start_costs, sum_over_runs}
 use Rattle.unit_runs.specs.Runs.{IsLeastRunValue, IsTrajectory, Trajectory, hour_value}

@@ -1,10 +1,7 @@
 -- What the least way with its pattern says of the unit.
 use Rattle.std.proofs.Common.{◌≡◌, ℕ, ◌<◌, sym, subst, ◌∙◌, ℤ, Option, Some, None, IfSome, MatchOption}
-use Rattle.uc_model.specs.Limits.{IsLawfulInstance}
-use Rattle.uc_model.specs.PatternBits.{commitment_of}
-use Rattle.uc_model.specs.Schedule.{thermal_count, thermal_unit}
-use Rattle.dual_model.specs.ExactValue.{HasNoUnitSchedule, IsExactUnitValue}
-use Rattle.dual_model.specs.Fixings.{IsFixOf, IsPatternAt}
+use Rattle.uc_model.specs.Prelude.{IsLawfulInstance, commitment_of, thermal_count, thermal_unit}
+use Rattle.dual_model.specs.Prelude.{HasNoUnitSchedule, IsExactUnitValue, IsFixOf, IsPatternAt}
 use Rattle.unit_runs.specs.Patterns.{Instance, Node, IsValueByRuns}
 use Rattle.unit_runs.specs.RunsToGo.{Fix, HasNoRunsByFix, IsLeastByFix, least_runs, whole_way}
 use Rattle.unit_runs.proofs.ByFix.{least_by_fix_is_exact, no_runs_by_fix_means_unscheduled}

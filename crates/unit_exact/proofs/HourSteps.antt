@@ -2,8 +2,7 @@
 use Rattle.std.proofs.Common.{◌≡◌, ℕ, true, false, true≢false, refl, sym, ap, ◌∙◌, arith, ℤ, pos, ◌+ℤ◌, ◌-ℤ◌, Option, Some, None, if◌then◌else◌}
 use Rattle.std.specs.Ordering.{int_eq}
 use Rattle.std.proofs.lemmas.Bool.{cond-true}
-use Rattle.uc_model.proofs.Ring.{linear, le_antisymm}
-use Rattle.uc_model.proofs.Tests.{eq-int_eq, int_eq-true}
+use Rattle.uc_model.proofs.Common.{linear, le_antisymm, eq-int_eq, int_eq-true}
 use Rattle.dual_model.specs.CostToGo.{total_of}
 use Rattle.dual_model.proofs.Optimum.{total_of-parts}
 use Rattle.step_functions.specs.Functions.{Steps, IsPlace, last_place, value_at}

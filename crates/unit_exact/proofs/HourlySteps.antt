@@ -3,22 +3,11 @@ use Rattle.std.proofs.Common.{◌≡◌, ℕ, zero, suc, ◌*◌, ◌<◌, ◌�
 use Rattle.std.specs.Int.{int_max}
 use Rattle.std.proofs.lemmas.Int.{ints, clamps}
 use Rattle.std.proofs.lemmas.Bool.{cases_Bool, cond-true, cond-false}
-use Rattle.uc_model.specs.Commitment.{Commitment, starts, cap, start_cap, stop_cap, initial_p, cell_cap}
-use Rattle.uc_model.specs.Limits.{IsLawfulThermal}
-use Rattle.uc_model.specs.Schedule.{thermal_unit}
-use Rattle.uc_model.specs.StartCategory.{last_stop, sigma}
-use Rattle.uc_model.specs.Terms.{term_at}
+use Rattle.uc_model.specs.Prelude.{Commitment, starts, cap, start_cap, stop_cap, initial_p, cell_cap, IsLawfulThermal, thermal_unit, last_stop, sigma, term_at}
 use Rattle.uc_model.specs.declared.terms.Terms.{Terms}
-use Rattle.uc_model.proofs.HullPoints.{abs_is}
-use Rattle.uc_model.proofs.Ring.{linear, mul-add, mul-zero, one-mul, sub-mul, zero-mul}
-use Rattle.uc_model.proofs.Sums.{below_or_last, sum_below-le}
-use Rattle.dual_model.specs.ExactValue.{UnitSchedule, IsUnitScheduleAt, exact_cell_value, exact_period_value, floored_cost, greatest_output, output_before as schedule_output_before}
-use Rattle.dual_model.specs.Fixings.{IsPatternAt}
-use Rattle.dual_model.specs.PatternValue.{is_followed}
-use Rattle.dual_model.specs.Prices.{pi_at, mu_at}
-use Rattle.dual_model.specs.TableValue.{AreTermsOf, IsCellTerm}
-use Rattle.dual_model.specs.Term.{IsTerm, output_price, reserve_price}
-use Rattle.dual_model.specs.UnitValue.{period_value}
+use Rattle.uc_model.proofs.Common.{abs_is, linear, mul-add, mul-zero, one-mul, sub-mul, zero-mul, below_or_last, sum_below-le}
+use Rattle.dual_model.specs.Prelude.{UnitSchedule, IsUnitScheduleAt, exact_cell_value, exact_period_value, greatest_output, output_before as schedule_output_before, IsPatternAt, is_followed, pi_at, mu_at, AreTermsOf, IsCellTerm, IsTerm, output_price, reserve_price, period_value}
+use Rattle.dual_model.specs.ExactValue.{floored_cost}
 use Rattle.dual_model.proofs.CellCaps.{cell_cap-cap}
 use Rattle.step_functions.specs.Functions.{value_at}
 use Rattle.hull_function.specs.Hours.{IsHourAt, IsSizedHour}

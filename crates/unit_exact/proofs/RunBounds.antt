@@ -1,11 +1,10 @@
 -- What no run whose last hour is in a period costs less than.
 use Rattle.std.proofs.Common.{◌≡◌, ℕ, suc, ◌-◌, ◌≤◌, ◌==◌, Bool, true, false, true≢false, refl, sym, ap, ◌∙◌, arith, ℤ, pos, ◌+ℤ◌, ◌-ℤ◌, ◌*ℤ◌, ◌≤ℤ◌, neg_ℤ, nat_lt, Option, Some, if◌then◌else◌}
 use Rattle.std.specs.Int.{int_min}
-use Rattle.uc_model.proofs.Ring.{linear, mul-le-mul_left}
-use Rattle.uc_model.proofs.Tests.{int_min_left, int_min_right}
+use Rattle.uc_model.proofs.Common.{linear, mul-le-mul_left, int_min_left, int_min_right}
+use Rattle.dual_model.specs.Prelude.{greatest_output}
 use Rattle.dual_model.specs.CostToGo.{total_of}
-use Rattle.dual_model.specs.ExactValue.{greatest_output}
-use Rattle.uc_model.specs.Commitment.{cell_cap}
+use Rattle.uc_model.specs.Prelude.{cell_cap}
 use Rattle.dual_model.proofs.Optimum.{total_of-parts}
 use Rattle.step_functions.specs.Functions.{Steps, IsPlace, value_at}
 use Rattle.unit_runs.specs.CostThrough.{cost_through, hour_after, least_between, output_cost, reserve_cost, run_cost}

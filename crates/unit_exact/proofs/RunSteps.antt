@@ -2,7 +2,7 @@
 use Rattle.std.proofs.Common.{◌≡◌, ℕ, zero, suc, ◌+◌, ◌-◌, ◌*◌, ◌<◌, ◌≤◌, ◌==◌, Bool, true, false, refl, sym, ap, subst, ◌∙◌, arith, ℤ, Option}
 use Rattle.std.proofs.lemmas.Bool.{eq-eqb, eqb-true, eqb-false, ne_eqb}
 use Rattle.std.proofs.lemmas.Nat.{mul-le}
-use Rattle.uc_model.specs.Commitment.{cell_cap}
+use Rattle.uc_model.specs.Prelude.{cell_cap}
 use Rattle.step_functions.specs.Functions.{Steps, run_count}
 use Rattle.hull_function.specs.Hulls.{IsBounded}
 use Rattle.hull_function.proofs.Represented.{copied, copy-bounded}

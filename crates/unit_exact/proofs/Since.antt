@@ -1,6 +1,6 @@
 -- The last stop of a unit that is off since then, by whether that is in the horizon.
 use Rattle.std.proofs.Common.{◌≡◌, ℕ, zero, suc, ◌-◌, ◌<◌, ap, arith, Some, None}
-use Rattle.dual_model.specs.Moves.{stop_since}
+use Rattle.dual_model.specs.Prelude.{stop_since}
 
 pub since-none : (n : ℕ) → n ≡ 0 → stop_since n ≡ None
 since-none n e = ap stop_since e

@@ -3,12 +3,10 @@ use Rattle.std.proofs.Common.{◌≡◌, ℕ, suc, ◌-◌, ◌<◌, ◌≤◌, 
 use Rattle.std.specs.Ordering.{int_eq}
 use Rattle.std.proofs.lemmas.Int.{ints}
 use Rattle.std.proofs.lemmas.Bool.{and_parts, cond-true, cond-false, eq-eqb, lt-ltb}
-use Rattle.uc_model.specs.Sums.{sum_below}
-use Rattle.uc_model.proofs.Ring.{linear, le_antisymm, le_of_eq}
-use Rattle.uc_model.proofs.Tests.{int_eq-true}
+use Rattle.uc_model.specs.Prelude.{sum_below, may_stop}
+use Rattle.uc_model.proofs.Common.{linear, le_antisymm, le_of_eq, int_eq-true}
+use Rattle.dual_model.specs.Prelude.{holds_initially, may_be_off}
 use Rattle.dual_model.specs.CostToGo.{total_of}
-use Rattle.dual_model.specs.Moves.{holds_initially, may_be_off}
-use Rattle.uc_model.specs.Switches.{may_stop}
 use Rattle.step_functions.specs.Functions.{Steps, IsLeastBetween, IsPlace, last_place, value_at}
 use Rattle.step_functions.specs.Runs.{slope_at}
 use Rattle.unit_runs.specs.CostThrough.{least_between, run_cost}

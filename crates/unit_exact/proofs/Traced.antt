@@ -2,10 +2,9 @@
 -- whole cost.
 use Rattle.std.proofs.Common.{◌≡◌, ℕ, suc, ◌-◌, ◌<◌, ◌≢◌, ⊎_elim, Bool, true, false, not, ◌&&◌, ◌==◌, refl, sym, ap, subst, ◌∙◌, arith, ℤ, ◌+ℤ◌, ◌*ℤ◌, Option, Some, None, IfSome, if◌then◌else◌}
 use Rattle.std.proofs.lemmas.Bool.{cases_Bool, cond-true, eq-eqb, eqb-true, eqb-false, and_parts}
+use Rattle.dual_model.specs.Prelude.{may_be_off, may_be_on, holds_initially, stop_since}
 use Rattle.dual_model.specs.CostToGo.{total_of}
-use Rattle.dual_model.specs.Moves.{may_be_off, may_be_on, holds_initially, stop_since}
-use Rattle.uc_model.specs.Switches.{may_start, may_stop}
-use Rattle.uc_model.specs.StartCategory.{sigma}
+use Rattle.uc_model.specs.Prelude.{may_start, may_stop, sigma}
 use Rattle.dual_model.proofs.Optimum.{Parts, total_of-parts}
 use Rattle.dual_model.proofs.Ways.{through}
 use Rattle.unit_runs.specs.Patterns.{Commitment}

@@ -2,9 +2,8 @@
 -- relaxation of the reference model by Knueven, Ostrowski and Watson: an optimum that keeps a relaxed rule by itself is one with
 -- this rule.
 use Rattle.std.specs.Prelude.{ℕ, ℤ, ◌≤ℤ◌}
-use Rattle.uc_model.specs.Commitment.{Commitment}
-use Rattle.dual_model.specs.ExactValue.{UnitSchedule, IsUnitSchedule, unit_schedule_value}
-use Rattle.dual_model.specs.UnitValue.{IsPatternValue}
+use Rattle.uc_model.specs.Prelude.{Commitment}
+use Rattle.dual_model.specs.Prelude.{UnitSchedule, IsUnitSchedule, unit_schedule_value, IsPatternValue}
 use Rattle.unit_runs.specs.Patterns.{Instance, Node}
 use Rattle.unit_runs.specs.Runs.{Table}
 

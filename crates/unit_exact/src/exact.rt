@@ -2,16 +2,9 @@
 
 ghost use Rattle.std.specs.Prelude.{◌≡◌, ◌<◌, ◌≤◌, ℕ, suc, true, false, None, IfOk, IfSome, IsTrue, Some, length, unsigned_abs};
 ghost use Rattle.cost_curves.specs.LowerHull.{IsLowerHull};
-ghost use Rattle.uc_model.specs.Limits.{IsLawfulInstance};
-ghost use Rattle.uc_model.specs.PatternBits.{commitment_of};
-ghost use Rattle.uc_model.specs.Schedule.{thermal_count, thermal_unit};
-ghost use Rattle.dual_model.specs.ExactValue.{HasNoUnitSchedule, IsExactUnitValue};
-ghost use Rattle.dual_model.specs.Fixings.{IsFixOf, IsPatternAt};
+ghost use Rattle.uc_model.specs.Prelude.{IsLawfulInstance, commitment_of, thermal_count, thermal_unit};
+ghost use Rattle.dual_model.specs.Prelude.{HasNoUnitSchedule, IsExactUnitValue, IsFixOf, IsPatternAt, may_be_on, HasSizeOf, IsWithinLimits, AreTermsOf, AreSizedTerms};
 ghost use Rattle.dual_model.specs.declared.node.Node.{Node};
-ghost use Rattle.dual_model.specs.Moves.{may_be_on};
-ghost use Rattle.dual_model.specs.Prices.{HasSizeOf, IsWithinLimits};
-ghost use Rattle.dual_model.specs.TableValue.{AreTermsOf};
-ghost use Rattle.dual_model.specs.UnitTerms.{AreSizedTerms};
 ghost use Rattle.hull_function.specs.Problems.{IsLawfulProblem, HasHull};
 ghost use Rattle.unit_runs.specs.Patterns.{IsValueByRuns};
 ghost use Rattle.unit_runs.specs.RunsToGo.{least_runs, whole_way};

@@ -1,12 +1,8 @@
 //! A pattern's hours, each at what is best in it by itself.
 
 ghost use Rattle.std.specs.Prelude.{◌≡◌, ◌*◌, ◌<◌, ◌≤◌, true, pos, ◌+ℤ◌, ◌≤ℤ◌, ◌<ℤ◌, IfSome, IsTrue, unsigned_abs};
-ghost use Rattle.uc_model.specs.Commitment.{was_on as on_before};
-ghost use Rattle.uc_model.specs.Limits.{IsLawfulThermal};
-ghost use Rattle.uc_model.specs.PatternBits.{commitment_of};
-ghost use Rattle.uc_model.specs.Terms.{period_count, term_at as term_of};
-ghost use Rattle.dual_model.specs.PatternValue.{is_followed as followed};
-ghost use Rattle.dual_model.specs.UnitTerms.{AreSizedTerms, MAX_TERM};
+ghost use Rattle.uc_model.specs.Prelude.{was_on as on_before, IsLawfulThermal, commitment_of, period_count, term_at as term_of};
+ghost use Rattle.dual_model.specs.Prelude.{is_followed as followed, AreSizedTerms, MAX_TERM};
 ghost use Rattle.hull_function.specs.Hulls.{IsHullFunction};
 ghost use Rattle.hull_function.specs.Hours.{IsSizedHour};
 ghost use Rattle.hull_function.specs.Problems.{MAX_POWER, IsLawfulProblem, HasHull};

@@ -4,8 +4,8 @@
 //! which the unit was switched.
 
 ghost use Rattle.std.specs.Prelude.{◌≡◌, ◌&&◌, ◌<◌, ◌≤◌, true, false};
-ghost use Rattle.dual_model.specs.Moves.{holds_initially as initially, may_be_off, may_be_on};
-ghost use Rattle.uc_model.specs.Switches.{may_start as starts, may_stop as stops};
+ghost use Rattle.dual_model.specs.Prelude.{holds_initially as initially, may_be_off, may_be_on};
+ghost use Rattle.uc_model.specs.Prelude.{may_start as starts, may_stop as stops};
 ghost use Rattle.hull_function.specs.Problems.{IsLawfulProblem};
 ghost use Rattle.unit_runs.specs.RunsToGo.{may_stay};
 

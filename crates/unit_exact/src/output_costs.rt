@@ -2,7 +2,7 @@
 
 ghost use Rattle.std.specs.Prelude.{◌≡◌, ℕ, ℤ, pos, ◌+◌, ◌*◌, ◌<◌, ◌≤◌, ◌+ℤ◌, ◌-ℤ◌, ◌*ℤ◌, Option, IfOk, IfSome, None, Some, true, unsigned_abs, if◌then◌else◌};
 ghost use Rattle.std.specs.Ordering.{int_eq};
-ghost use Rattle.uc_model.specs.Limits.{IsLawfulThermal};
+ghost use Rattle.uc_model.specs.Prelude.{IsLawfulThermal};
 ghost use Rattle.step_functions.specs.Functions.{IsPlace, run_count, value_at};
 ghost use Rattle.hull_function.specs.Hours.{IsCostsOf, IsHourAt, IsNear, IsSizedHour, MAX_HOUR};
 ghost use Rattle.hull_function.specs.Hulls.{IsBounded, IsHull, IsHullFunction};

@@ -1,8 +1,8 @@
 //! The least way of a unit that is off: where its rest ends.
 
 ghost use Rattle.std.specs.Prelude.{◌≡◌, ◌-◌, ◌≤◌, ◌<◌, ◌*ℤ◌, false, IfSome, unsigned_abs};
-ghost use Rattle.uc_model.specs.StartCategory.{sigma as least_cost};
-ghost use Rattle.dual_model.specs.Moves.{stop_since};
+ghost use Rattle.uc_model.specs.Prelude.{sigma as least_cost};
+ghost use Rattle.dual_model.specs.Prelude.{stop_since};
 ghost use Rattle.hull_function.specs.Problems.{IsLawfulProblem};
 ghost use Rattle.unit_exact.specs.inside.Problems.{MAX_SWITCH};
 ghost use Rattle.unit_exact.specs.inside.Switches.{AreSwitches, IsLeastSwitch, IsTableFrom, IsWithinSwitches, switch_total};

@@ -1,7 +1,7 @@
 //! The pattern of the least way, read from the table period by period.
 
 ghost use Rattle.std.specs.Prelude.{◌≡◌, ◌≢◌, ℕ, ◌<◌, ◌≤◌, Some, false, not, if◌then◌else◌};
-ghost use Rattle.uc_model.specs.PatternBits.{commitment_of};
+ghost use Rattle.uc_model.specs.Prelude.{commitment_of};
 ghost use Rattle.hull_function.specs.Problems.{IsLawfulProblem};
 ghost use Rattle.unit_runs.specs.RunsToGo.{whole_way};
 ghost use Rattle.unit_exact.specs.inside.Switches.{IsPlan, IsTableFrom, next_after};

@@ -1,18 +1,13 @@
 -- A pattern that attains the least value by a unit's terms attains the unit's value at the table that the terms are of.
 use Rattle.std.proofs.Common.{◌≡◌, ℕ, sym, ap, subst, ◌∙◌, ℤ, Some}
-use Rattle.uc_model.specs.Commitment.{Commitment}
-use Rattle.uc_model.specs.Schedule.{thermal_unit}
+use Rattle.uc_model.specs.Prelude.{Commitment, thermal_unit, period_count}
 use Rattle.uc_model.specs.declared.instance.Thermal.{Thermal}
 use Rattle.uc_model.specs.declared.instance.Instance.{Instance}
 use Rattle.uc_model.specs.declared.terms.Terms.{Terms}
-use Rattle.dual_model.specs.Fixings.{IsFixOf}
-use Rattle.dual_model.specs.UnitValue.{IsBestPattern, IsPatternValue, IsUnitValue}
+use Rattle.dual_model.specs.Prelude.{IsFixOf, IsBestPattern, IsPatternValue, IsUnitValue, IsPattern, IsLeastValue, pattern_value, AreTermsOf}
 use Rattle.dual_model.specs.declared.node.Fix.{Fix}
 use Rattle.dual_model.specs.declared.node.Node.{Node}
 use Rattle.dual_model.specs.declared.table.Table.{Table}
-use Rattle.uc_model.specs.Terms.{period_count}
-use Rattle.dual_model.specs.PatternValue.{IsPattern, IsLeastValue, pattern_value}
-use Rattle.dual_model.specs.TableValue.{AreTermsOf}
 use Rattle.dual_model.proofs.TableValues.{to_table, unit_value-of}
 
 pub best-of : (instance : Instance) (node : Node) (table : Table) (g : ℕ) (unit : Thermal) (terms : Terms) (fix : Fix) (v : ℤ) (on : Commitment)

@@ -1,19 +1,13 @@
 -- A pattern whose way is the least one is allowed and as is decided, and its value is the way's cost.
 use Rattle.std.proofs.Common.{◌≡◌, ℕ, ◌≤◌, false, sym, subst, ◌∙◌, arith, ℤ, Option, Some, None, MatchOption, IfSome, IfNone, unsigned_abs}
-use Rattle.uc_model.specs.Limits.{IsLawfulThermal}
-use Rattle.uc_model.specs.PatternBits.{commitment_of}
-use Rattle.uc_model.specs.Schedule.{thermal_unit}
+use Rattle.uc_model.specs.Prelude.{IsLawfulThermal, commitment_of, thermal_unit, period_count}
 use Rattle.uc_model.specs.declared.instance.Instance.{Instance}
 use Rattle.dual_model.specs.declared.node.Node.{Node}
 use Rattle.dual_model.specs.declared.table.Table.{Table}
-use Rattle.dual_model.specs.Fixings.{HasNoPattern as HasNoPatternAt, IsFixOf}
-use Rattle.dual_model.specs.UnitValue.{IsBestPattern}
-use Rattle.dual_model.specs.TableValue.{AreTermsOf}
+use Rattle.dual_model.specs.Prelude.{IsFixOf, IsBestPattern, AreTermsOf, IsLeastValue, IsPattern, pattern_value, AreSizedTerms, IsWithin, MAX_COST_TO_GO}
+use Rattle.dual_model.specs.Fixings.{HasNoPattern as HasNoPatternAt}
 use Rattle.dual_model.proofs.TableValues.{unit_value-of}
-use Rattle.dual_model.specs.PatternValue.{HasNoPattern, IsLeastValue, IsPattern, pattern_value}
-use Rattle.uc_model.specs.Terms.{period_count}
-use Rattle.dual_model.specs.UnitTerms.{AreSizedTerms}
-use Rattle.dual_model.specs.CostToGo.{IsWithin, MAX_COST_TO_GO}
+use Rattle.dual_model.specs.PatternValue.{HasNoPattern}
 use Rattle.dual_model.proofs.CostSizes.{cost_to_go-fits}
 use Rattle.dual_model.proofs.LeastValues.{from_start, least-from_start, none-from_start}
 use Rattle.dual_model.proofs.Allowed.{pattern-all_right}

@@ -1,9 +1,8 @@
 -- What the table says of a period from which a way goes on, be it one of the horizon or its end.
 use Rattle.std.proofs.Common.{◌≡◌, ℕ, ◌<◌, ◌≤◌, ⊎_elim, true, Bool, List, sym, ap, subst, ◌∙◌, arith}
 use Rattle.std.proofs.lemmas.Bool.{cases_lt}
-use Rattle.uc_model.specs.Terms.{period_count}
-use Rattle.dual_model.specs.Moves.{may_be_off, may_be_on}
-use Rattle.uc_model.specs.Switches.{may_start, may_stop}
+use Rattle.uc_model.specs.Prelude.{period_count, may_start, may_stop}
+use Rattle.dual_model.specs.Prelude.{may_be_off, may_be_on}
 use Rattle.unit_path.specs.inside.Choices.{Fix, Terms, Thermal, IsLeastStart, IsLeastStop}
 use Rattle.unit_path.specs.inside.Hours.{Hour, hour_in, IsCold, IsTableFrom, IsUntil}
 

@@ -4,10 +4,9 @@ use Rattle.std.proofs.Common.{◌≡◌, ℕ, zero, suc, ◌+◌, ◌-◌, ◌<�
 use Rattle.std.specs.Int.{int_min}
 use Rattle.std.proofs.lemmas.Int.{ints}
 use Rattle.std.proofs.lemmas.Bool.{cases_lt, le-leb, lt-leb, lt-ltb, le-ltb, ltb-true}
-use Rattle.uc_model.specs.Sums.{least_below}
-use Rattle.uc_model.specs.StartCategory.{category_cost, category_count, category_lag, is_barred, may_cost_as, sigma}
+use Rattle.uc_model.specs.Prelude.{least_below, category_cost, category_count, category_lag, is_barred, may_cost_as, sigma}
 use Rattle.uc_model.specs.declared.instance.Thermal.{Thermal}
-use Rattle.dual_model.specs.Moves.{stop_since}
+use Rattle.dual_model.specs.Prelude.{stop_since}
 use Rattle.unit_path.specs.inside.StartCosts.{is_within_lags, row_of}
 
 -- ---- least values by two tests

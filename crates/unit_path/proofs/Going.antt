@@ -1,11 +1,9 @@
 -- One period of the least cost of going on, with the period in place of the number of periods left.
 use Rattle.std.proofs.Common.{◌≡◌, ℕ, suc, ◌-◌, ◌<◌, ◌≤◌, Bool, true, false, sym, ap, ◌∙◌, arith, ℤ, Option}
 use Rattle.std.proofs.lemmas.Bool.{cond-true, cond-false, eq-eqb, ne_eqb}
-use Rattle.uc_model.specs.Limits.{IsLawfulThermal}
-use Rattle.uc_model.specs.Terms.{period_count}
-use Rattle.dual_model.specs.UnitTerms.{AreSizedTerms}
-use Rattle.dual_model.specs.Moves.{move}
-use Rattle.dual_model.specs.CostToGo.{cost_to_go, end_cost, lesser_of, since_after, total_of, IsWithin, MAX_COST_TO_GO}
+use Rattle.uc_model.specs.Prelude.{IsLawfulThermal, period_count}
+use Rattle.dual_model.specs.Prelude.{AreSizedTerms, move, cost_to_go, end_cost, IsWithin, MAX_COST_TO_GO}
+use Rattle.dual_model.specs.CostToGo.{lesser_of, since_after, total_of}
 use Rattle.dual_model.proofs.CostSizes.{cost_to_go-fits}
 use Rattle.unit_path.specs.inside.Choices.{Fix, Terms, Thermal, start_total, stop_cost}
 

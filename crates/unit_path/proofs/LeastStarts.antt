@@ -1,13 +1,9 @@
 -- The least way of a unit that is off: of one that has just been switched off, and of one whose starts are cold.
 use Rattle.std.proofs.Common.{◌≡◌, ℕ, suc, ◌+◌, ◌-◌, ◌<◌, ◌≤◌, ◌⊎◌, ⊎_elim, true, false, sym, ap, subst, ◌∙◌, arith, ℤ, pos, ◌*ℤ◌, Option, Some, None, IfSome}
 use Rattle.std.proofs.lemmas.Bool.{cases_Bool}
-use Rattle.uc_model.specs.Limits.{IsLawfulThermal}
-use Rattle.uc_model.specs.StartCategory.{sigma}
-use Rattle.uc_model.specs.Terms.{period_count}
-use Rattle.dual_model.specs.UnitTerms.{AreSizedTerms}
-use Rattle.dual_model.specs.Moves.{may_be_off, stop_since}
-use Rattle.uc_model.specs.Switches.{may_start}
-use Rattle.dual_model.specs.CostToGo.{lesser_of, total_of, IsWithin, MAX_COST_TO_GO}
+use Rattle.uc_model.specs.Prelude.{IsLawfulThermal, sigma, period_count, may_start}
+use Rattle.dual_model.specs.Prelude.{AreSizedTerms, may_be_off, stop_since, IsWithin, MAX_COST_TO_GO}
+use Rattle.dual_model.specs.CostToGo.{lesser_of, total_of}
 use Rattle.unit_path.specs.inside.Choices.{Fix, Terms, Thermal, Choice, choice_cost, rests, start_total, IsLeastStart, IsOneOf, IsStart}
 use Rattle.unit_path.specs.inside.Hours.{IsCold, IsColdStart, IsStartIn}
 use Rattle.dual_model.proofs.BestChoices.{some-of}

@@ -1,12 +1,9 @@
 -- The least way of a unit that is on: of one that has just been switched on, and of one that has been on for long enough.
 use Rattle.std.proofs.Common.{◌≡◌, ℕ, suc, ◌+◌, ◌-◌, ◌<◌, ◌≤◌, ◌⊎◌, ⊎_elim, true, false, refl, sym, ap, subst, ◌∙◌, arith, ℤ, pos, ◌+ℤ◌, Option, Some, None, IfSome, ◌==◌}
 use Rattle.std.proofs.lemmas.Bool.{cases_Bool, ne_eqb}
-use Rattle.uc_model.specs.Limits.{IsLawfulThermal}
-use Rattle.uc_model.specs.Terms.{period_count}
-use Rattle.dual_model.specs.UnitTerms.{AreSizedTerms}
-use Rattle.dual_model.specs.Moves.{hour_before, may_be_on, move}
-use Rattle.uc_model.specs.Switches.{may_stop}
-use Rattle.dual_model.specs.CostToGo.{lesser_of, total_of, IsWithin, MAX_COST_TO_GO}
+use Rattle.uc_model.specs.Prelude.{IsLawfulThermal, period_count, may_stop}
+use Rattle.dual_model.specs.Prelude.{AreSizedTerms, hour_before, may_be_on, move, IsWithin, MAX_COST_TO_GO}
+use Rattle.dual_model.specs.CostToGo.{lesser_of, total_of}
 use Rattle.unit_path.specs.inside.Choices.{Fix, Terms, Thermal, Choice, choice_cost, longer_of, stays, stop_cost, IsLeastStop, IsOneOf, IsStop, IsStopAtOnce}
 use Rattle.unit_path.specs.inside.Hours.{leave_cost, IsOnward, IsStopIn}
 use Rattle.dual_model.proofs.BestChoices.{some-of}

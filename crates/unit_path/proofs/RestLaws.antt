@@ -2,9 +2,8 @@
 use Rattle.std.proofs.Common.{◌≡◌, ℕ, zero, suc, ◌+◌, ◌-◌, ◌<◌, ◌≤◌, true, false, ◌&&◌, refl, sym, ap, ◌∙◌, arith, pos, Some, None, if◌then◌else◌}
 use mathlib.Core.Bool.{and-false}
 use Rattle.std.proofs.lemmas.Bool.{cond-true, cond-false, le-leb, leb-true}
-use Rattle.uc_model.specs.Terms.{period_count}
-use Rattle.dual_model.specs.Moves.{may_be_off, may_be_on, move}
-use Rattle.uc_model.specs.Switches.{has_lasted, may_start}
+use Rattle.uc_model.specs.Prelude.{period_count, has_lasted, may_start}
+use Rattle.dual_model.specs.Prelude.{may_be_off, may_be_on, move}
 use Rattle.dual_model.specs.CostToGo.{lesser_of, total_of}
 use Rattle.unit_path.specs.inside.Choices.{Fix, Terms, Thermal, rests, start_total}
 use Rattle.dual_model.proofs.Costs.{lesser-none, total-assoc, total-none, total-zero, zero-total}

@@ -5,11 +5,11 @@ use Rattle.std.specs.Int.{w128}
 use Rattle.std.proofs.lemmas.Int.{fits_signed_from_abs}
 use Rattle.std.proofs.lemmas.Bool.{and_from, cond-true, cond-false, lt-ltb, ne_eqb, or_left}
 use Rattle.uc_model.specs.declared.limits.TheConstants.{MAX_PERIODS}
-use Rattle.uc_model.proofs.Sizes.{abs_add, wide}
-use Rattle.uc_model.specs.Terms.{period_count}
-use Rattle.dual_model.specs.Moves.{holds_initially, hour_before, may_be_off, may_be_on, move}
-use Rattle.uc_model.specs.Switches.{may_stop}
-use Rattle.dual_model.specs.CostToGo.{lesser_of, total_of, MAX_MOVE}
+use Rattle.uc_model.proofs.Common.{abs_add}
+use Rattle.uc_model.proofs.Sizes.{wide}
+use Rattle.uc_model.specs.Prelude.{period_count, may_stop}
+use Rattle.dual_model.specs.Prelude.{holds_initially, hour_before, may_be_off, may_be_on, move, MAX_MOVE}
+use Rattle.dual_model.specs.CostToGo.{lesser_of, total_of}
 use Rattle.unit_path.specs.inside.Choices.{Fix, Terms, Thermal, stays, stop_cost}
 use Rattle.unit_path.specs.inside.Hours.{leave_cost, stay_cost}
 use Rattle.dual_model.proofs.Costs.{lesser-comm, lesser-none, total-assoc, total-none, total-zero, zero-total}

@@ -1,15 +1,12 @@
 -- Terms that are sized for a unit are rows of terms, with one at the full cap.
 use Rattle.std.proofs.Common.{ℕ, ◌≤◌, false, arith, ℤ, pos, ◌-ℤ◌, ◌*ℤ◌, ◌≤ℤ◌, Option, Some, None, IfSome, unsigned_abs}
-use Rattle.uc_model.specs.Commitment.{start_reduction, stop_reduction, cell_cap}
-use Rattle.uc_model.specs.Limits.{IsLawfulThermal}
+use Rattle.uc_model.specs.Prelude.{start_reduction, stop_reduction, cell_cap, IsLawfulThermal, period_count}
 use Rattle.uc_model.specs.declared.instance.Thermal.{Thermal}
 use Rattle.uc_model.specs.declared.terms.Terms.{Terms}
-use Rattle.uc_model.proofs.Ring.{linear, mul-zero}
-use Rattle.uc_model.specs.Terms.{period_count}
-use Rattle.dual_model.specs.UnitTerms.{AreSizedTerms, IsSized}
+use Rattle.uc_model.proofs.Common.{linear, mul-zero, min_nonneg}
+use Rattle.dual_model.specs.Prelude.{AreSizedTerms, IsSized}
 use Rattle.dual_model.proofs.Allowed.{sized-there}
 use Rattle.uc_model.specs.declared.limits.TheConstants.{MAX_TERM}
-use Rattle.uc_model.proofs.Obeyed.{min_nonneg}
 use Rattle.interval_graph.specs.Intervals.{AreTermRows}
 
 sized-size : (cap : ℤ) (term : Option ℤ) → IsSized cap term → IfSome term (λ m. unsigned_abs m ≤ MAX_TERM)

@@ -1,11 +1,9 @@
 -- The entries of a switch in the table, as the least ways behind them.
 use Rattle.std.proofs.Common.{◌≡◌, ℕ, suc, ◌<◌, ⊎_elim, Bool, true, false, ◌&&◌, sym, ap, subst, ◌∙◌, ℤ, ◌*ℤ◌, Option, Some, None, ◌==◌}
 use Rattle.std.proofs.lemmas.Bool.{cases_Bool, cond-true, cond-false}
-use Rattle.uc_model.specs.StartCategory.{sigma}
-use Rattle.uc_model.specs.Terms.{period_count}
-use Rattle.dual_model.specs.Moves.{holds_initially, may_be_off, may_be_on, move, stop_since}
-use Rattle.uc_model.specs.Switches.{may_start, may_stop}
-use Rattle.dual_model.specs.CostToGo.{total_of, IsWithin, MAX_COST_TO_GO}
+use Rattle.uc_model.specs.Prelude.{sigma, period_count, may_start, may_stop}
+use Rattle.dual_model.specs.Prelude.{holds_initially, may_be_off, may_be_on, move, stop_since, IsWithin, MAX_COST_TO_GO}
+use Rattle.dual_model.specs.CostToGo.{total_of}
 use Rattle.unit_path.specs.inside.Choices.{Fix, Terms, Thermal, Choice, choice_cost, start_total, stop_cost}
 use Rattle.unit_path.specs.inside.Hours.{leave_cost, IsStartIn, IsStopIn}
 use Rattle.unit_path.proofs.Going.{start_total-at, stop_cost-at, to_go}

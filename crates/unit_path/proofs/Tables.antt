@@ -2,13 +2,11 @@
 use Rattle.std.proofs.Common.{◌≡◌, ℕ, suc, ◌+◌, ◌-◌, ◌*◌, ◌^◌, ◌<◌, ◌≤◌, ⊎_elim, Bool, true, false, List, length, refl, sym, ap, subst, ◌∙◌, arith, ℤ, ◌*ℤ◌, Option, Some, None, slice_set, unsigned_abs, get_or-set_other, get_or-set_same, length-set}
 use Rattle.std.proofs.lemmas.Int.{ints}
 use Rattle.std.proofs.lemmas.Bool.{cases_Bool, cases_lt}
-use Rattle.uc_model.specs.Limits.{IsLawfulThermal}
+use Rattle.uc_model.specs.Prelude.{IsLawfulThermal, period_count}
 use Rattle.uc_model.specs.declared.limits.TheConstants.{MAX_COST}
-use Rattle.uc_model.proofs.Sizes.{abs_mul}
-use Rattle.uc_model.specs.Terms.{period_count}
-use Rattle.dual_model.specs.UnitTerms.{AreSizedTerms}
-use Rattle.dual_model.specs.Moves.{may_be_off, may_be_on}
-use Rattle.dual_model.specs.CostToGo.{lesser_of, total_of, IsWithin, MAX_COST_TO_GO, MAX_MOVE}
+use Rattle.uc_model.proofs.Common.{abs_mul}
+use Rattle.dual_model.specs.Prelude.{AreSizedTerms, may_be_off, may_be_on, IsWithin, MAX_COST_TO_GO, MAX_MOVE}
+use Rattle.dual_model.specs.CostToGo.{lesser_of, total_of}
 use Rattle.dual_model.proofs.CostSizes.{cost_to_go-size, more_room, lesser_of-size, total_of-size}
 use Rattle.unit_path.specs.inside.Choices.{Fix, Terms, Thermal, Choice, choice_cost}
 use Rattle.unit_path.specs.inside.Hours.{Hour, hour_in, IsEnd, IsHour, IsStartIn, IsStopIn, IsTableFrom, IsUntil, IsWithinMoves}

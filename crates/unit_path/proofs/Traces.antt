@@ -1,12 +1,9 @@
 -- The pattern that is read from the table, from switch to switch: what it has of the least way so far, and one switch more.
 use Rattle.std.proofs.Common.{◌≡◌, ℕ, suc, ◌-◌, ◌<◌, ◌≤◌, ⊎_elim, Bool, true, false, not, ◌&&◌, refl, sym, ap, subst, ◌∙◌, arith, ℤ, Option, Some, None, IfSome, if◌then◌else◌}
 use Rattle.std.proofs.lemmas.Bool.{cases_Bool, cond-false}
-use Rattle.uc_model.specs.Commitment.{Commitment}
-use Rattle.uc_model.specs.PatternBits.{commitment_of}
-use Rattle.uc_model.specs.Terms.{period_count}
-use Rattle.dual_model.specs.Moves.{holds_initially, may_be_off, may_be_on, move}
-use Rattle.uc_model.specs.Switches.{may_start, may_stop}
-use Rattle.dual_model.specs.CostToGo.{end_cost, total_of, way}
+use Rattle.uc_model.specs.Prelude.{Commitment, commitment_of, period_count, may_start, may_stop}
+use Rattle.dual_model.specs.Prelude.{holds_initially, may_be_off, may_be_on, move, end_cost, way}
+use Rattle.dual_model.specs.CostToGo.{total_of}
 use Rattle.dual_model.proofs.Optimum.{total_of-parts}
 use Rattle.unit_path.specs.inside.Choices.{Fix, Terms, Thermal, Choice, choice_cost, rests, start_total, stays, stop_cost, next_after, IsStart, IsStop, IsSwitch}
 use Rattle.unit_path.specs.inside.Hours.{Hour, IsHour}

@@ -1,9 +1,8 @@
 -- The way of a commitment along a run of on hours or a rest, and over the switch behind it.
 use Rattle.std.proofs.Common.{◌≡◌, ℕ, zero, suc, ◌+◌, ◌-◌, ◌<◌, ◌≤◌, Bool, true, false, not, refl, sym, ap, ◌∙◌, arith, ℤ, Option}
-use Rattle.uc_model.specs.Commitment.{Commitment}
-use Rattle.uc_model.specs.Terms.{period_count}
-use Rattle.dual_model.specs.Moves.{move}
-use Rattle.dual_model.specs.CostToGo.{end_cost, since_after, total_of, way}
+use Rattle.uc_model.specs.Prelude.{Commitment, period_count}
+use Rattle.dual_model.specs.Prelude.{move, end_cost, way}
+use Rattle.dual_model.specs.CostToGo.{since_after, total_of}
 use Rattle.unit_path.specs.inside.Choices.{Fix, Terms, Thermal, rests, stays}
 use Rattle.dual_model.proofs.Costs.{total-assoc, total-zero}
 

@@ -1,11 +1,8 @@
 //! What the hour before a period costs a unit that was on in it, by what it does in the period.
 
 ghost use Rattle.std.specs.Prelude.{◌≡◌, ◌<◌, ◌≤◌, Some, false, unsigned_abs, if◌then◌else◌};
-ghost use Rattle.uc_model.specs.Limits.{IsLawfulThermal};
-ghost use Rattle.uc_model.specs.Terms.{period_count};
-ghost use Rattle.dual_model.specs.UnitTerms.{AreSizedTerms};
-ghost use Rattle.dual_model.specs.CostToGo.{IsWithin, MAX_MOVE};
-ghost use Rattle.dual_model.specs.Moves.{hour_before as hour_of};
+ghost use Rattle.uc_model.specs.Prelude.{IsLawfulThermal, period_count};
+ghost use Rattle.dual_model.specs.Prelude.{AreSizedTerms, IsWithin, MAX_MOVE, hour_before as hour_of};
 ghost use Rattle.unit_path.specs.inside.Hours.{leave_cost, stay_cost};
 
 use dual_model::Fix;

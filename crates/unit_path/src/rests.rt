@@ -1,14 +1,9 @@
 //! The least way of a unit that is off: where its rest ends.
 
 ghost use Rattle.std.specs.Prelude.{◌≡◌, ℕ, ◌-◌, ◌<◌, ◌≤◌, ◌*ℤ◌, Some, None, true, false, IfSome};
-ghost use Rattle.uc_model.specs.Limits.{IsCost, IsLawfulThermal};
-ghost use Rattle.uc_model.specs.StartCategory.{sigma};
-ghost use Rattle.dual_model.specs.TableValue.{IsLawfulScale};
-ghost use Rattle.uc_model.specs.Terms.{period_count};
-ghost use Rattle.dual_model.specs.UnitTerms.{AreSizedTerms};
-ghost use Rattle.dual_model.specs.CostToGo.{cost_to_go, lesser_of, total_of, IsWithin, MAX_COST_TO_GO};
-ghost use Rattle.dual_model.specs.Moves.{may_be_off, stop_since};
-ghost use Rattle.uc_model.specs.Switches.{may_start};
+ghost use Rattle.uc_model.specs.Prelude.{IsCost, IsLawfulThermal, sigma, period_count, may_start};
+ghost use Rattle.dual_model.specs.Prelude.{IsLawfulScale, AreSizedTerms, cost_to_go, IsWithin, MAX_COST_TO_GO, may_be_off, stop_since};
+ghost use Rattle.dual_model.specs.CostToGo.{lesser_of, total_of};
 ghost use Rattle.unit_path.specs.inside.Choices.{choice_cost, IsLeastStart, IsOneOf, IsStart};
 ghost use Rattle.unit_path.specs.inside.Hours.{IsTableFrom};
 

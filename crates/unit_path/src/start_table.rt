@@ -2,9 +2,8 @@
 
 ghost use Rattle.std.specs.Prelude.{◌≡◌, ℕ, suc, ◌+◌, ◌-◌, ◌<◌, ◌≤◌, Some, None, length, if◌then◌else◌};
 ghost use Rattle.std.specs.Int.{int_min};
-ghost use Rattle.uc_model.specs.Limits.{IsLawfulThermal};
-ghost use Rattle.uc_model.specs.StartCategory.{sigma as least_start_cost};
-ghost use Rattle.dual_model.specs.Moves.{stop_since};
+ghost use Rattle.uc_model.specs.Prelude.{IsLawfulThermal, sigma as least_start_cost};
+ghost use Rattle.dual_model.specs.Prelude.{stop_since};
 ghost use Rattle.unit_path.specs.inside.StartCosts.{is_within_lags, row_of};
 
 use uc_model::limits::{MAX_PERIODS, MAX_TIME};

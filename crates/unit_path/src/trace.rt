@@ -1,9 +1,8 @@
 //! The pattern of the least way, read from the table from switch to switch.
 
 ghost use Rattle.std.specs.Prelude.{◌≡◌, ◌<◌, ◌≤◌, ℕ, suc, true, false, if◌then◌else◌};
-ghost use Rattle.uc_model.specs.Limits.{IsLawfulThermal};
-ghost use Rattle.uc_model.specs.PatternBits.{commitment_of};
-ghost use Rattle.dual_model.specs.UnitTerms.{AreSizedTerms};
+ghost use Rattle.uc_model.specs.Prelude.{IsLawfulThermal, commitment_of};
+ghost use Rattle.dual_model.specs.Prelude.{AreSizedTerms};
 ghost use Rattle.unit_path.specs.inside.Choices.{next_after, IsFirst};
 ghost use Rattle.unit_path.specs.inside.Hours.{IsTableFrom};
 ghost use Rattle.unit_path.specs.inside.Ways.{IsWay};

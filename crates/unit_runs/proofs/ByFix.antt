@@ -1,8 +1,7 @@
 -- Where a fix says what a node decides of a unit, the unit's patterns at the node are those that are as the fix decides.
 use Rattle.std.proofs.Common.{ℕ, sym, ◌∙◌}
-use Rattle.uc_model.specs.Schedule.{thermal_unit}
-use Rattle.dual_model.specs.Fixings.{IsFixOf, IsPatternAt}
-use Rattle.dual_model.specs.PatternValue.{IsPattern}
+use Rattle.uc_model.specs.Prelude.{thermal_unit}
+use Rattle.dual_model.specs.Prelude.{IsFixOf, IsPatternAt, IsPattern}
 use Rattle.dual_model.proofs.ExactExists.{least_whole_values_are_exact}
 use Rattle.unit_runs.specs.Patterns.{Instance, Node, Commitment}
 use Rattle.unit_runs.specs.RunsToGo.{Fix}

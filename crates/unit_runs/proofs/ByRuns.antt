@@ -2,11 +2,9 @@
 -- runs, and trajectories that attain these make up a schedule.
 use Rattle.std.proofs.Common.{◌≡◌, ℕ, ◌<◌, Bool, true, false, nat_lt, refl, subst, arith, ℤ, pos, ◌≤ℤ◌, IsTrue, []}
 use Rattle.std.proofs.lemmas.Bool.{lt-ltb, ltb-true}
-use Rattle.uc_model.specs.Schedule.{thermal_unit, thermal_count}
-use Rattle.uc_model.specs.Limits.{IsLawfulInstance, IsLawfulThermal}
-use Rattle.uc_model.proofs.Ring.{linear, le_antisymm}
-use Rattle.dual_model.specs.Fixings.{IsPatternAt}
-use Rattle.dual_model.specs.ExactValue.{UnitSchedule, IsUnitSchedule, unit_schedule_value, IsLeastWholeValue}
+use Rattle.uc_model.specs.Prelude.{thermal_unit, thermal_count, IsLawfulInstance, IsLawfulThermal}
+use Rattle.uc_model.proofs.Common.{linear, le_antisymm}
+use Rattle.dual_model.specs.Prelude.{IsPatternAt, UnitSchedule, IsUnitSchedule, unit_schedule_value, IsLeastWholeValue}
 use Rattle.dual_model.proofs.WholeWatts.{whole_watts_exist}
 use Rattle.unit_runs.specs.Runs.{Table, Thermal, Trajectory, IsTrajectory, trajectory_value}
 use Rattle.unit_runs.specs.Patterns.{Instance, Node, Commitment, begins, run_hours, EachRun, IsValueByRuns, HasTrajectories, IsLeastByRuns}

@@ -6,16 +6,11 @@ use Rattle.std.specs.List.{range_with_len}
 use Rattle.std.proofs.lemmas.Bool.{cases_Bool, cond-true, cond-false, false_from_ne_true}
 use Rattle.std.proofs.lemmas.List.{get_or-replicate, length-replicate}
 use Rattle.std.proofs.lemmas.List.FromFn.{get_or-map-range_with_len, length-map-range_with_len}
-use Rattle.uc_model.specs.Terms.{period_count, term_at, place, price_at}
-use Rattle.uc_model.specs.Commitment.{cap, cell_cap}
-use Rattle.uc_model.specs.Limits.{IsLawfulThermal}
-use Rattle.uc_model.proofs.Ring.{linear, le_or_lt}
-use Rattle.uc_model.proofs.Tests.{le-int_le, int_le-true}
+use Rattle.uc_model.specs.Prelude.{period_count, term_at, place, price_at, cap, cell_cap, IsLawfulThermal}
+use Rattle.uc_model.proofs.Common.{linear, le_or_lt, le-int_le, int_le-true}
 use Rattle.uc_model.specs.declared.terms.Terms.{Terms}
-use Rattle.dual_model.specs.Moves.{hour_cost}
-use Rattle.dual_model.specs.UnitTerms.{MAX_PERIODS, IsSized, AreSizedTerms}
+use Rattle.dual_model.specs.Prelude.{hour_cost, MAX_PERIODS, IsSized, AreSizedTerms, IsPattern, is_followed}
 use Rattle.dual_model.specs.declared.limits.TheConstants.{MAX_UNIT_PRICE}
-use Rattle.dual_model.specs.PatternValue.{IsPattern, is_followed}
 use Rattle.dual_model.proofs.CellCaps.{cell_cap-cap}
 use Rattle.dual_model.proofs.Ways.{IsRight, IsThere, hour, hour-off}
 use Rattle.dual_model.proofs.Allowed.{all_right-pattern, pattern-all_right}

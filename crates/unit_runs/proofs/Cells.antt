@@ -4,12 +4,9 @@ use Rattle.std.proofs.Common.{◌≡◌, ℕ, zero, suc, ◌+◌, ◌<◌, ◌�
 use Rattle.std.specs.Int.{int_min}
 use Rattle.std.proofs.lemmas.Int.{ints}
 use Rattle.std.proofs.lemmas.Bool.{cases_Bool, cases_lt, cond-true, cond-false, and_from, and_left, and_right, not_from_false, eq-eqb, ne_eqb, lt-ltb, le-ltb}
-use Rattle.uc_model.specs.Sums.{bit}
-use Rattle.uc_model.specs.Commitment.{was_on, stops, start_cap, stop_cap, start_reduction, stop_reduction, initial_p, cap}
-use Rattle.uc_model.proofs.Ring.{linear, one-mul, mul-zero, le_trans}
-use Rattle.uc_model.proofs.Tests.{int_min_left, int_min_right}
-use Rattle.dual_model.specs.PatternValue.{is_followed}
-use Rattle.dual_model.specs.ExactValue.{UnitSchedule, greatest_output, output_before, IsUnitScheduleAt}
+use Rattle.uc_model.specs.Prelude.{bit, was_on, stops, start_cap, stop_cap, start_reduction, stop_reduction, initial_p, cap}
+use Rattle.uc_model.proofs.Common.{linear, one-mul, mul-zero, le_trans, int_min_left, int_min_right}
+use Rattle.dual_model.specs.Prelude.{is_followed, UnitSchedule, greatest_output, output_before, IsUnitScheduleAt}
 use Rattle.dual_model.proofs.CellCaps.{cell_cap-cap}
 use Rattle.unit_runs.specs.Runs.{Thermal, Trajectory, entry_output, output_before_hour, hour_cap, KeepsRamps, IsHourOf}
 use Rattle.unit_runs.specs.Patterns.{Commitment, starts, begins, run_hours}

@@ -2,10 +2,7 @@
 -- Cite from a crate above by `use Rattle.unit_runs.proofs.Costs.{least_between-at_most}`.
 use Rattle.std.proofs.Common.{◌≡◌, ℕ, zero, suc, ◌<◌, ⊎_elim, Bool, true, false, refl, sym, subst, ◌∙◌, arith, ℤ, pos, ◌+ℤ◌, ◌-ℤ◌, ◌≤ℤ◌, int_le, unsigned_abs, Option, Some, None}
 use Rattle.std.proofs.lemmas.Bool.{cond-true, cond-false}
-use Rattle.uc_model.proofs.Ring.{linear, le_trans, pos_of_nonneg}
-use Rattle.uc_model.proofs.Sums.{below_or_last}
-use Rattle.uc_model.proofs.Tests.{int_le-true, le-int_le}
-use Rattle.uc_model.proofs.HullPoints.{abs_is}
+use Rattle.uc_model.proofs.Common.{linear, le_trans, pos_of_nonneg, below_or_last, int_le-true, le-int_le, abs_is}
 use Rattle.dual_model.proofs.Optimum.{AtMost, lesser_left, lesser_right, lesser_one}
 use Rattle.unit_runs.specs.CostThrough.{least_from, least_between}
 

@@ -3,7 +3,7 @@
 -- Cite from a crate above by `use Rattle.unit_runs.proofs.Hours.{in_run}`.
 use Rattle.std.proofs.Common.{◌≡◌, ℕ, zero, suc, ◌+◌, ◌-◌, ◌<◌, ◌≤◌, ⊎_elim, true, false, not, ◌&&◌, ◌==◌, true≢false, refl, sym, ap, ◌∙◌, arith, IsTrue, if◌then◌else◌}
 use Rattle.std.proofs.lemmas.Bool.{cases_Bool, cases_lt, cond_both, cond-true, cond-false, and_parts, and_from, or_cases, or_left, or_right, not-true, not_from_false, eqb-true}
-use Rattle.uc_model.specs.Commitment.{was_on}
+use Rattle.uc_model.specs.Prelude.{was_on}
 use Rattle.unit_runs.specs.Runs.{Thermal}
 use Rattle.unit_runs.specs.Patterns.{Commitment, starts, begins, hours_on, run_hours}
 

@@ -2,17 +2,10 @@
 -- Cite from a crate above by `use Rattle.unit_runs.proofs.Joined.{joined}`.
 use Rattle.std.proofs.Common.{◌≡◌, ℕ, zero, suc, ◌+◌, ◌-◌, ◌<◌, ◌≤◌, ⊎_elim, Bool, true, false, cond, true≢false, refl, sym, ap, subst, ◌∙◌, arith, ℤ, pos, ◌+ℤ◌, ◌-ℤ◌, ◌*ℤ◌, ◌≤ℤ◌, IsTrue, length}
 use Rattle.std.proofs.lemmas.Bool.{cases_Bool, cases_lt, cond-true, cond-false}
-use Rattle.uc_model.specs.Sums.{sum_below, bit}
-use Rattle.uc_model.specs.Commitment.{initial_p}
-use Rattle.uc_model.specs.StartCategory.{last_stop, sigma}
-use Rattle.uc_model.specs.Schedule.{thermal_unit}
-use Rattle.uc_model.specs.Limits.{IsLawfulThermal}
-use Rattle.uc_model.proofs.Ring.{linear, one-mul, zero-mul}
-use Rattle.uc_model.proofs.Sums.{sum_below-same, sum_below-add}
-use Rattle.uc_model.proofs.HullSegments.{Rises, outputs_rise}
-use Rattle.dual_model.specs.Prices.{pi_at, mu_at}
-use Rattle.dual_model.specs.Fixings.{IsPatternAt}
-use Rattle.dual_model.specs.ExactValue.{UnitSchedule, greatest_output, floored_cost, output_before, IsUnitScheduleAt, IsUnitSchedule, exact_cell_value, unit_schedule_value}
+use Rattle.uc_model.specs.Prelude.{sum_below, bit, initial_p, last_stop, sigma, thermal_unit, IsLawfulThermal}
+use Rattle.uc_model.proofs.Common.{linear, one-mul, zero-mul, sum_below-same, sum_below-add, Rises, outputs_rise}
+use Rattle.dual_model.specs.Prelude.{pi_at, mu_at, IsPatternAt, UnitSchedule, greatest_output, output_before, IsUnitScheduleAt, IsUnitSchedule, exact_cell_value, unit_schedule_value}
+use Rattle.dual_model.specs.ExactValue.{floored_cost}
 use Rattle.unit_runs.specs.Runs.{Table, Thermal, Trajectory, output_before_hour, KeepsRamps, IsTrajectory, hour_value, trajectory_value}
 use Rattle.unit_runs.specs.Patterns.{Instance, Node, Commitment, starts, begins, run_hours, EachRun, sum_over_runs, start_costs}
 use Rattle.unit_runs.proofs.Hours.{InRun, in_run, run-within, run-on, begins-first, origin, origin-is}

@@ -1,7 +1,7 @@
 -- The least values of runs that have a trajectory, and what a commitment costs by these.
 -- Cite from a crate above by `use Rattle.unit_runs.proofs.LeastValues.{value_there}`.
 use Rattle.std.proofs.Common.{◌≡◌, ℕ, ◌<◌, refl, ap, arith, ℤ, pos, ◌+ℤ◌, unwrap_or, Option, Some, None}
-use Rattle.uc_model.proofs.Ring.{linear, le_antisymm}
+use Rattle.uc_model.proofs.Common.{linear, le_antisymm}
 use Rattle.unit_runs.specs.Runs.{Table, Thermal, HasTrajectory, IsLeastRunValue, IsRunValueOf}
 use Rattle.unit_runs.specs.Patterns.{Commitment, run_hours, EachRun, sum_over_runs, start_costs, IsValueByRuns, HasTrajectories}
 use Rattle.unit_runs.specs.CostThrough.{run_cost}

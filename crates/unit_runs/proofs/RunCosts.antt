@@ -6,13 +6,10 @@ use Rattle.std.specs.Int.{int_min, int_max}
 use Rattle.std.specs.Ordering.{int_eq}
 use Rattle.std.proofs.lemmas.Int.{ints, clamps}
 use Rattle.std.proofs.lemmas.Bool.{cond-true, cond-false, and_parts, and_from, eq-eqb, ne_eqb, lt-ltb, le-ltb, cases_lt}
-use Rattle.uc_model.proofs.Ring.{linear, le_or_lt, mul-add, mul-sub, sub-mul, zero-mul, mul-zero, mul-le-mul_left, mul-le-mul_right}
-use Rattle.uc_model.proofs.Sums.{sum_below-same}
-use Rattle.uc_model.proofs.Tests.{int_le-true, le-int_le, int_eq-true, eq-int_eq, int_min_left, int_min_right}
-use Rattle.uc_model.proofs.HullPoints.{abs_is}
-use Rattle.dual_model.specs.Prices.{pi_at, mu_at}
+use Rattle.uc_model.proofs.Common.{linear, le_or_lt, mul-add, mul-sub, sub-mul, zero-mul, mul-zero, mul-le-mul_left, mul-le-mul_right, sum_below-same, int_le-true, le-int_le, int_eq-true, eq-int_eq, int_min_left, int_min_right, abs_is}
+use Rattle.dual_model.specs.Prelude.{pi_at, mu_at, greatest_output}
 use Rattle.dual_model.specs.CostToGo.{total_of}
-use Rattle.dual_model.specs.ExactValue.{greatest_output, floored_cost}
+use Rattle.dual_model.specs.ExactValue.{floored_cost}
 use Rattle.dual_model.proofs.Optimum.{AtMost, Parts, total_of-parts}
 use Rattle.unit_runs.specs.Runs.{Table, Thermal, Trajectory, entry_output, output_before_hour, hour_cap, IsHourOf, IsTrajectory, hour_value, trajectory_value, IsRunValueOf}
 use Rattle.unit_runs.specs.CostThrough.{least_between, reserve_worth, output_cost, reserve_cost, is_output, cost_through, run_cost}

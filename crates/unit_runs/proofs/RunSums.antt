@@ -1,10 +1,8 @@
 -- A sum over the on periods of a commitment is one over its runs, of the sum over each run's hours.
 -- Cite from a crate above by `use Rattle.unit_runs.proofs.RunSums.{sum_of_runs}`.
 use Rattle.std.proofs.Common.{◌≡◌, ℕ, zero, suc, ◌+◌, ◌-◌, ◌<◌, ◌≤◌, Bool, true, false, cond, not, ◌&&◌, ◌||◌, ne_eqb, refl, sym, ap, ◌∙◌, arith, ℤ, pos, ◌+ℤ◌, ◌≤ℤ◌, IsTrue}
-use Rattle.uc_model.specs.Sums.{sum_below}
-use Rattle.uc_model.specs.Commitment.{was_on}
-use Rattle.uc_model.proofs.Ring.{linear, le_refl}
-use Rattle.uc_model.proofs.Sums.{sum_below-first, sum_below-same, sum_below-le}
+use Rattle.uc_model.specs.Prelude.{sum_below, was_on}
+use Rattle.uc_model.proofs.Common.{linear, le_refl, sum_below-first, sum_below-same, sum_below-le}
 use Rattle.unit_runs.specs.Runs.{Thermal}
 use Rattle.unit_runs.specs.Patterns.{Commitment, starts, begins, hours_on, run_hours, EachRun, sum_over_runs}
 

@@ -2,14 +2,10 @@
 -- runs. So the recursion over periods gives the least such value.
 use Rattle.std.proofs.Common.{◌≡◌, ℕ, zero, suc, ◌+◌, ◌-◌, ◌<◌, ◌≤◌, ⊎_elim, Bool, true, false, cond, not, ◌&&◌, true≢false, refl, sym, ap, subst, ◌∙◌, arith, ℤ, pos, ◌+ℤ◌, ◌*ℤ◌, IsTrue, unwrap_or, Option, Some, None, MatchOption}
 use Rattle.std.proofs.lemmas.Bool.{cases_Bool, cases_lt, cond-true, cond-false, and_from, and_right, not_from_false}
-use Rattle.uc_model.specs.Commitment.{was_on}
-use Rattle.uc_model.specs.StartCategory.{last_stop, sigma}
-use Rattle.uc_model.specs.Limits.{IsLawfulThermal}
-use Rattle.uc_model.proofs.Ring.{linear}
-use Rattle.dual_model.specs.Bellman.{MoveCosts, EndCosts, since_after}
-use Rattle.dual_model.specs.Moves.{allowed, stop_since}
-use Rattle.dual_model.specs.PatternValue.{IsPattern}
-use Rattle.dual_model.specs.UnitTerms.{MAX_PERIODS}
+use Rattle.uc_model.specs.Prelude.{was_on, last_stop, sigma, IsLawfulThermal}
+use Rattle.uc_model.proofs.Common.{linear}
+use Rattle.dual_model.specs.Prelude.{MoveCosts, EndCosts, allowed, stop_since, IsPattern, MAX_PERIODS}
+use Rattle.dual_model.specs.Bellman.{since_after}
 use Rattle.dual_model.proofs.Optimum.{way-at_most, attained}
 use Rattle.dual_model.proofs.Switches.{since, since-le, last_stop-since}
 use Rattle.dual_model.proofs.Ways.{IsRight, IsThere, Moved, moved, way-moved, right-from, right-may}

@@ -2,12 +2,8 @@
 -- Frangioni and C. Gentile, "Solving Nonlinear Single-Unit Commitment Problems with Ramping Constraints" (Operations
 -- Research 54, 2006), and Bellman's principle of optimality (Dynamic Programming, 1957).
 use Rattle.std.specs.Prelude.{◌≡◌, ℕ, ◌<◌, ◌≤◌, ℤ, Some, MatchOption}
-use Rattle.uc_model.specs.Schedule.{thermal_unit, thermal_count}
-use Rattle.uc_model.specs.Limits.{IsLawfulThermal, IsLawfulInstance}
-use Rattle.dual_model.specs.ExactValue.{IsExactUnitValue, IsLeastWholeValue, HasNoUnitSchedule}
-use Rattle.dual_model.specs.Fixings.{IsFixOf}
-use Rattle.dual_model.specs.PatternValue.{IsPattern}
-use Rattle.dual_model.specs.UnitTerms.{MAX_PERIODS}
+use Rattle.uc_model.specs.Prelude.{thermal_unit, thermal_count, IsLawfulThermal, IsLawfulInstance}
+use Rattle.dual_model.specs.Prelude.{IsExactUnitValue, IsLeastWholeValue, HasNoUnitSchedule, IsFixOf, IsPattern, MAX_PERIODS}
 use Rattle.unit_runs.specs.Runs.{Table, Thermal, IsRunValueOf}
 use Rattle.unit_runs.specs.Patterns.{Instance, Node, Commitment, IsValueByRuns, IsLeastByRuns, HasNoRuns}
 use Rattle.unit_runs.specs.CostThrough.{run_cost}

@@ -4,11 +4,9 @@
 --
 -- Units and periods count from 0 here.
 use Rattle.std.specs.Prelude.{ℕ, zero, suc, ◌-◌, ◌<◌, Bool, ◌&&◌, ◌||◌, ◌==◌, ℤ, pos, ◌+ℤ◌, ◌*ℤ◌, ◌≤ℤ◌, IsTrue, if◌then◌else◌, ◌≡◌}
-use Rattle.uc_model.specs.Sums.{sum_below}
-pub use Rattle.uc_model.specs.Commitment.{Commitment, starts}
-use Rattle.uc_model.specs.StartCategory.{last_stop, sigma}
-use Rattle.uc_model.specs.Schedule.{thermal_unit}
-use Rattle.dual_model.specs.Fixings.{IsPatternAt}
+use Rattle.uc_model.specs.Prelude.{sum_below, last_stop, sigma, thermal_unit}
+pub use Rattle.uc_model.specs.Prelude.{Commitment, starts}
+use Rattle.dual_model.specs.Prelude.{IsPatternAt}
 pub use Rattle.uc_model.specs.declared.instance.Instance.{Instance}
 pub use Rattle.dual_model.specs.declared.node.Node.{Node}
 use Rattle.unit_runs.specs.Runs.{Thermal, Table, HasTrajectory, IsLeastRunValue}

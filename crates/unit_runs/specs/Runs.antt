@@ -6,12 +6,11 @@
 -- A run is told by the period in which it begins and by the number of its hours. One that the unit was in before the first
 -- period begins in that period, and may have no hour left. Units and periods count from 0 here, and hours within the run.
 use Rattle.std.specs.Prelude.{◌≡◌, ℕ, zero, suc, ◌+◌, ◌<◌, ◌==◌, ℤ, pos, ◌+ℤ◌, ◌-ℤ◌, ◌*ℤ◌, ◌≤ℤ◌, Option, MatchOption}
-use Rattle.uc_model.specs.Sums.{sum_below}
-use Rattle.uc_model.specs.Commitment.{initial_p, cell_cap}
-use Rattle.dual_model.specs.Prices.{pi_at, mu_at}
+use Rattle.uc_model.specs.Prelude.{sum_below, initial_p, cell_cap}
+use Rattle.dual_model.specs.Prelude.{pi_at, mu_at, greatest_output}
 pub use Rattle.uc_model.specs.declared.instance.Thermal.{Thermal}
 pub use Rattle.dual_model.specs.declared.table.Table.{Table}
-use Rattle.dual_model.specs.ExactValue.{greatest_output, floored_cost}
+use Rattle.dual_model.specs.ExactValue.{floored_cost}
 
 -- output above the minimum, and reserve, in each hour of a run, in watts
 pub record Trajectory : Type 0 where

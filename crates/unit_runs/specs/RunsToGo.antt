@@ -4,10 +4,8 @@
 --
 -- Periods count from 0 here.
 use Rattle.std.specs.Prelude.{ℕ, zero, suc, ◌-◌, Bool, true, false, not, ℤ, pos, ◌*ℤ◌, ◌≤ℤ◌, Option, Some}
-use Rattle.uc_model.specs.StartCategory.{sigma}
-use Rattle.dual_model.specs.Bellman.{MoveCosts, least_cost, way_cost}
-use Rattle.dual_model.specs.Moves.{allowed, may_move, stop_since}
-use Rattle.dual_model.specs.PatternValue.{IsPattern}
+use Rattle.uc_model.specs.Prelude.{sigma}
+use Rattle.dual_model.specs.Prelude.{MoveCosts, least_cost, way_cost, allowed, may_move, stop_since, IsPattern}
 pub use Rattle.dual_model.specs.declared.node.Fix.{Fix}
 use Rattle.unit_runs.specs.Runs.{Table, Thermal}
 use Rattle.unit_runs.specs.Patterns.{Commitment, IsValueByRuns, HasTrajectories}

@@ -1,7 +1,7 @@
 //! The output from which a run rises or falls.
 
 ghost use Rattle.std.specs.Prelude.{◌≡◌, ◌*◌, ◌≤◌, unsigned_abs};
-ghost use Rattle.uc_model.specs.Limits.{IsLawfulThermal};
+ghost use Rattle.uc_model.specs.Prelude.{IsLawfulThermal};
 ghost use Rattle.unit_runs.specs.Runs.{entry_output as output_at_entry};
 
 use uc_model::Thermal;

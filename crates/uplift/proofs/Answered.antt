@@ -2,17 +2,9 @@
 use Rattle.std.proofs.Common.{◌≡◌, ℕ, ◌<◌, Bool, true, false, sym, ap, subst, ◌∙◌, arith, ℤ, pos, ◌+ℤ◌, ◌-ℤ◌, ◌*ℤ◌, neg_ℤ, ◌≤ℤ◌, int_lt, slice_index_or, if◌then◌else◌}
 use Rattle.std.specs.Int.{int_max}
 use Rattle.std.proofs.lemmas.List.{get_or_default}
-use Rattle.uc_model.specs.Sums.{sum_below}
-use Rattle.uc_model.specs.Schedule.{thermal_count, renewable_count, renewable_maximum, renewable_minimum}
-use Rattle.uc_model.specs.PatternBits.{commitment_of}
-use Rattle.uc_model.specs.PrintedSchedule.{printed_cost}
-use Rattle.uc_model.proofs.Ring.{linear, mul-sub}
-use Rattle.uc_model.proofs.Sums.{sum_below-same, sum_below-sub}
-use Rattle.dual_model.specs.NodeAnswer.{IsValued}
-use Rattle.dual_model.specs.NodeValue.{constant_at, node_total, renewable_value}
-use Rattle.dual_model.specs.Prices.{IsLawfulTable, pi_at}
-use Rattle.dual_model.specs.Tree.{root}
-use Rattle.dual_model.specs.UnitValue.{IsUnitValue}
+use Rattle.uc_model.specs.Prelude.{sum_below, thermal_count, renewable_count, renewable_maximum, renewable_minimum, commitment_of, printed_cost}
+use Rattle.uc_model.proofs.Common.{linear, mul-sub, sum_below-same, sum_below-sub}
+use Rattle.dual_model.specs.Prelude.{IsValued, constant_at, node_total, renewable_value, IsLawfulTable, pi_at, root, IsUnitValue}
 use Rattle.dual_model.specs.declared.valued.Valued.{Valued}
 use Rattle.dual_model.proofs.NodeValues.{unit_value_unique}
 use Rattle.schedule_check.specs.SizedNumbers.{output_at}

@@ -2,16 +2,9 @@
 use Rattle.std.proofs.Common.{◌≡◌, ℕ, ◌<◌, ◌≤◌, false, refl, ap, ◌∙◌, arith, ⊎_elim, length, ℤ, pos, ◌+ℤ◌, ◌-ℤ◌, ◌*ℤ◌, neg_ℤ, IsTrue, nat_lt}
 use Rattle.std.specs.Int.{int_min}
 use Rattle.std.proofs.lemmas.Bool.{cases_Bool, cond-true, cond-false, ltb-false}
-use Rattle.uc_model.specs.Sums.{sum_below, bit}
-use Rattle.uc_model.specs.Schedule.{thermal_unit, thermal_count, renewable_count, demand_at, reserve_at, most_shed, most_short}
-use Rattle.uc_model.specs.PrintedSchedule.{cell_at, shed_at, short_at, printed_cost, printed_shortage_cost}
-use Rattle.uc_model.specs.Division.{quotient_up}
-use Rattle.uc_model.proofs.Ring.{linear, mul-add, mul-zero, mul_assoc, sub-mul}
-use Rattle.uc_model.proofs.Sums.{sum_below-add, sum_below-sub, sum_below-neg, sum_below-mul_left, sum_below-same}
-use Rattle.uc_model.proofs.Quotients.{quotient_up-one}
-use Rattle.uc_model.proofs.Shortages.{IsShortage}
-use Rattle.dual_model.specs.NodeValue.{constant_at, node_total, renewable_part, renewables_value, shortage_value, shortages_value, system_value, unit_part}
-use Rattle.dual_model.specs.Prices.{HasSizeOf, pi_at, mu_at, up_at, down_at}
+use Rattle.uc_model.specs.Prelude.{sum_below, bit, thermal_unit, thermal_count, renewable_count, demand_at, reserve_at, most_shed, most_short, cell_at, shed_at, short_at, printed_cost, printed_shortage_cost, quotient_up}
+use Rattle.uc_model.proofs.Common.{linear, mul-add, mul-zero, mul_assoc, sub-mul, sum_below-add, sum_below-sub, sum_below-neg, sum_below-mul_left, sum_below-same, quotient_up-one, IsShortage}
+use Rattle.dual_model.specs.Prelude.{constant_at, node_total, renewable_part, renewables_value, shortage_value, shortages_value, system_value, unit_part, HasSizeOf, pi_at, mu_at, up_at, down_at}
 use Rattle.dual_model.proofs.Multipliers.{up_at_past, down_at_past}
 use Rattle.schedule_check.specs.SizedNumbers.{output_at}
 use Rattle.schedule_check.specs.WholeWatts.{output_before, row_of, thermal_supply}

@@ -2,8 +2,8 @@
 use Rattle.std.proofs.Common.{◌≡◌, ℕ, ◌+◌, ◌<◌, ◌≤◌, ⊎_elim, List, length, sym, ap, subst, ◌∙◌, arith, ℤ, pos, slice_set, unsigned_abs, get_or-set_other, get_or-set_same, length-set, All}
 use Rattle.std.proofs.lemmas.Bool.{cases_lt}
 use Rattle.std.proofs.lemmas.List.{get_or_default}
-use Rattle.uc_model.specs.Sums.{sum_below}
-use Rattle.uc_model.proofs.Sums.{sum_below-same}
+use Rattle.uc_model.specs.Prelude.{sum_below}
+use Rattle.uc_model.proofs.Common.{sum_below-same}
 use Rattle.uplift.specs.Sizes.{MAX_UNITS, MAX_UPLIFT}
 use Rattle.uplift.specs.inside.Lists.{AreFirst, number_in, sum_in}
 

@@ -1,9 +1,8 @@
 -- The duality gap over plain functions of periods, units and renewable units: what is charged and what the priced rules leave of
 -- their limits, regrouped by unit and period.
 use Rattle.std.proofs.Common.{◌≡◌, ℕ, zero, suc, ◌<◌, sym, ap, ◌∙◌, arith, ℤ, pos, ◌+ℤ◌, ◌-ℤ◌, ◌*ℤ◌, neg_ℤ}
-use Rattle.uc_model.specs.Sums.{sum_below}
-use Rattle.uc_model.proofs.Ring.{linear, spread, mul-add, mul-sub, zero-mul}
-use Rattle.uc_model.proofs.Sums.{sum_below-add, sum_below-mul_left, sum_below-same, sum_below-swap}
+use Rattle.uc_model.specs.Prelude.{sum_below}
+use Rattle.uc_model.proofs.Common.{linear, spread, mul-add, mul-sub, zero-mul, sum_below-add, sum_below-mul_left, sum_below-same, sum_below-swap}
 
 -- a cell's charge and what its ramps leave are what carries over from the period before to the next, less what its limits and its
 -- output and reserve are paid

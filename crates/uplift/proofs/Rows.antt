@@ -2,9 +2,7 @@
 use Rattle.std.proofs.Common.{◌≡◌, ℕ, ◌<◌, List, [], length, sym, ap, ◌∙◌, arith, get_or, ◌+ℤ◌, ◌*ℤ◌}
 use Rattle.std.proofs.lemmas.List.{get_or_read}
 use Rattle.std.proofs.lemmas.List.Elements.{All-get_or}
-use Rattle.uc_model.specs.PrintedSchedule.{HasShapeOf, cell_at, printed_cell_cost}
-use Rattle.uc_model.specs.Schedule.{thermal_unit, thermal_count}
-use Rattle.uc_model.specs.Sums.{sum_below}
+use Rattle.uc_model.specs.Prelude.{HasShapeOf, cell_at, printed_cell_cost, thermal_unit, thermal_count, sum_below}
 use Rattle.schedule_check.specs.WholeWatts.{cell, row_of}
 use Rattle.uplift.specs.Uplift.{Cell, Instance, Printed, Table, Thermal, cell_charge, charge, printed_unit_cost}
 use Rattle.uplift.specs.inside.Lists.{reduced_cost}

@@ -3,15 +3,9 @@ use Rattle.std.proofs.Common.{ℕ, ◌<◌, arith, ℤ, pos, ◌+ℤ◌, ◌-ℤ
 use Rattle.std.specs.Int.{int_min, int_max}
 use Rattle.std.proofs.lemmas.Int.{ints}
 use Rattle.std.proofs.lemmas.Bool.{cond_both}
-use Rattle.uc_model.specs.Sums.{sum_below}
-use Rattle.uc_model.specs.Schedule.{thermal_unit, thermal_count, renewable_count, renewable_minimum, renewable_maximum, most_shed, most_short}
-use Rattle.uc_model.specs.PrintedSchedule.{cell_at, shed_at, short_at}
-use Rattle.uc_model.proofs.Ring.{linear, le_refl, mul-le-mul_left, mul-le-mul_right, mul-le-mul_turned, mul_nonneg, one-mul}
-use Rattle.uc_model.proofs.Sums.{sum_below-le, sum_below_nonneg}
-use Rattle.uc_model.proofs.Tests.{int_min_left, int_min_right}
-use Rattle.uc_model.proofs.Shortages.{IsShortage}
-use Rattle.dual_model.specs.NodeValue.{renewable_value}
-use Rattle.dual_model.specs.Prices.{HasLawfulSigns, pi_at, mu_at, up_at, down_at}
+use Rattle.uc_model.specs.Prelude.{sum_below, thermal_unit, thermal_count, renewable_count, renewable_minimum, renewable_maximum, most_shed, most_short, cell_at, shed_at, short_at}
+use Rattle.uc_model.proofs.Common.{linear, le_refl, mul-le-mul_left, mul-le-mul_right, mul-le-mul_turned, mul_nonneg, one-mul, sum_below-le, sum_below_nonneg, int_min_left, int_min_right, IsShortage}
+use Rattle.dual_model.specs.Prelude.{renewable_value, HasLawfulSigns, pi_at, mu_at, up_at, down_at}
 use Rattle.dual_model.proofs.Multipliers.{mu_at_nonneg, signed_at}
 use Rattle.schedule_check.specs.SizedNumbers.{output_at}
 use Rattle.schedule_check.specs.WholeWatts.{output_before, row_of}

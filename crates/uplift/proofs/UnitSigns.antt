@@ -2,28 +2,15 @@
 -- is, as the weights of least cost at the cell's output show.
 use Rattle.std.proofs.Common.{◌≡◌, ℕ, ◌<◌, false, refl, sym, ap, subst, ◌∙◌, arith, ⊎_elim, List, ℤ, pos, ◌+ℤ◌, ◌-ℤ◌, ◌*ℤ◌, ◌≤ℤ◌, ◌<ℤ◌, IsTrue, if◌then◌else◌}
 use Rattle.std.proofs.lemmas.Bool.{cases_Bool, cond-true, cond-false}
-use Rattle.uc_model.specs.Sums.{sum_below, bit}
-use Rattle.uc_model.specs.Commitment.{cap, starts}
-use Rattle.uc_model.specs.StartCategory.{category_cost, last_stop, sigma}
-use Rattle.uc_model.specs.Schedule.{thermal_unit, thermal_count}
-use Rattle.uc_model.specs.Points.{weighted_cost, weighted_output}
-use Rattle.uc_model.specs.Hull.{hull_cost, segment_cost}
-use Rattle.uc_model.specs.Rules.{Category}
-use Rattle.uc_model.specs.PrintedSchedule.{cell_at, printed_cell_cost, printed_denominator, printed_schedule}
+use Rattle.uc_model.specs.Prelude.{sum_below, bit, cap, starts, category_cost, last_stop, sigma, thermal_unit, thermal_count, weighted_cost, weighted_output, hull_cost, segment_cost, Category, cell_at, printed_cell_cost, printed_denominator, printed_schedule}
 use Rattle.uc_model.specs.declared.instance.Point.{Point}
-use Rattle.uc_model.proofs.Ring.{linear, spread, le_from_mul, mul-add, mul-le-mul_left, mul-one, mul-zero, mul_left_comm, mul_nonneg, one-mul, pos_nonneg, scale-le-scale}
-use Rattle.uc_model.proofs.Sums.{sum_below-add, sum_below-le, sum_below-mul_left}
-use Rattle.uc_model.proofs.HullPoints.{segment_at-holds}
-use Rattle.uc_model.proofs.Obeyed.{rule_at}
+use Rattle.uc_model.proofs.Common.{linear, spread, le_from_mul, mul-add, mul-le-mul_left, mul-one, mul-zero, mul_left_comm, mul_nonneg, one-mul, pos_nonneg, scale-le-scale, sum_below-add, sum_below-le, sum_below-mul_left, segment_at-holds, rule_at}
 use Rattle.cost_curves.specs.LeastCost.{CostsAtMost}
 use Rattle.cost_curves.specs.LowerHull.{AreLawfulPoints, width_of}
 use Rattle.cost_curves.proofs.FirstSegments.{segment_least}
 use Rattle.cost_curves.proofs.HullExists.{segment-there}
 use Rattle.cost_curves.proofs.UnitPoints.{lawful_points}
-use Rattle.dual_model.specs.Prices.{pi_at}
-use Rattle.dual_model.specs.Term.{IsCellBound, output_price, reserve_price}
-use Rattle.dual_model.specs.Tree.{root}
-use Rattle.dual_model.specs.UnitValue.{IsUnitValue, period_value}
+use Rattle.dual_model.specs.Prelude.{pi_at, IsCellBound, output_price, reserve_price, root, IsUnitValue, period_value}
 use Rattle.dual_model.proofs.Agreement.{pattern-obeying}
 use Rattle.dual_model.proofs.PricedRules.{start_priced}
 use Rattle.dual_model.proofs.UnitValues.{allowed_value}

@@ -3,15 +3,9 @@ use Rattle.std.proofs.Common.{◌≡◌, ℕ, suc, ◌<◌, ◌≤◌, not, ◌&
 use Rattle.std.specs.Int.{int_min, int_max}
 use Rattle.std.specs.Ordering.{int_eq}
 use Rattle.std.proofs.lemmas.Bool.{and_parts, or_cases, cond_both, not_from_true, true≢false}
-use Rattle.uc_model.specs.Commitment.{cap, start_cap, stop_cap}
-use Rattle.uc_model.specs.Schedule.{thermal_unit, thermal_count, renewable_count, renewable_minimum, renewable_maximum, demand_at, reserve_at, most_shed, most_short}
+use Rattle.uc_model.specs.Prelude.{cap, start_cap, stop_cap, thermal_unit, thermal_count, renewable_count, renewable_minimum, renewable_maximum, demand_at, reserve_at, most_shed, most_short, cell_at, shed_at, short_at, printed_denominator, printed_schedule, IsLawfulInstance}
 use Rattle.uc_model.specs.Rules as model
-use Rattle.uc_model.specs.PrintedSchedule.{cell_at, shed_at, short_at, printed_denominator, printed_schedule}
-use Rattle.uc_model.specs.Limits.{IsLawfulInstance}
-use Rattle.uc_model.proofs.Ring.{one-mul}
-use Rattle.uc_model.proofs.Tests.{int_le-true, int_eq-true}
-use Rattle.uc_model.proofs.Obeyed.{rule_at}
-use Rattle.uc_model.proofs.Shortages.{IsShortage, shortage_parts}
+use Rattle.uc_model.proofs.Common.{one-mul, int_le-true, int_eq-true, rule_at, IsShortage, shortage_parts}
 use Rattle.schedule_check.specs.SizedNumbers.{output_at}
 use Rattle.schedule_check.specs.WholeWatts as watts
 use Rattle.schedule_check.proofs.Measures.{over_one}

@@ -6,16 +6,10 @@
 -- Schedules are in whole watts, and every number is K times micro-dollars. Units and periods count from 0 here.
 use Rattle.std.specs.Prelude.{◌≡◌, ℕ, ◌<◌, nat_lt, ℤ, pos, ◌+ℤ◌, ◌-ℤ◌, ◌*ℤ◌, neg_ℤ, ◌≤ℤ◌, length, slice_index_or, All, if◌then◌else◌}
 use Rattle.std.specs.Int.{int_min}
-use Rattle.uc_model.specs.Sums.{sum_below, bit}
-use Rattle.uc_model.specs.Schedule.{thermal_unit, thermal_count, renewable_count, reserve_at, most_shed, most_short}
-use Rattle.uc_model.specs.PrintedSchedule.{watt_denominator, cell_at, shed_at, short_at, printed_cell_cost, printed_cost}
+use Rattle.uc_model.specs.Prelude.{sum_below, bit, thermal_unit, thermal_count, renewable_count, reserve_at, most_shed, most_short, watt_denominator, cell_at, shed_at, short_at, printed_cell_cost, printed_cost}
 pub use Rattle.uc_model.specs.declared.schedule.Cell.{Cell}
 pub use Rattle.uc_model.specs.declared.schedule.Printed.{Printed}
-use Rattle.dual_model.specs.Prices.{pi_at, mu_at, up_at, down_at}
-use Rattle.dual_model.specs.Term.{output_price, reserve_price}
-use Rattle.dual_model.specs.UnitValue.{IsUnitValue}
-use Rattle.dual_model.specs.NodeValue.{renewable_part, IsNodeValue}
-use Rattle.dual_model.specs.Tree.{root}
+use Rattle.dual_model.specs.Prelude.{pi_at, mu_at, up_at, down_at, output_price, reserve_price, IsUnitValue, renewable_part, IsNodeValue, root}
 pub use Rattle.dual_model.specs.declared.table.Table.{Table}
 use Rattle.schedule_check.specs.SizedNumbers.{output_at}
 use Rattle.schedule_check.specs.WholeWatts.{output_before, reserve_supply_at, row_of}

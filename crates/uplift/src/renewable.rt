@@ -1,11 +1,8 @@
 //! The uplifts of the renewable units.
 
 ghost use Rattle.std.specs.Prelude.{◌≡◌, ◌*◌, ◌<◌, ◌≤◌, [], ◌-ℤ◌, ◌*ℤ◌, IfOk, length, slice_index_or, unsigned_abs};
-ghost use Rattle.uc_model.specs.Limits.{IsLawfulInstance, IsPower};
-ghost use Rattle.uc_model.specs.PrintedSchedule.{HasShapeOf};
-ghost use Rattle.uc_model.specs.Schedule.{renewable_count};
-ghost use Rattle.uc_model.specs.Sums.{sum_below};
-ghost use Rattle.dual_model.specs.Prices.{HasSizeOf, IsPrice, IsWithinLimits};
+ghost use Rattle.uc_model.specs.Prelude.{IsLawfulInstance, IsPower, HasShapeOf, renewable_count, sum_below};
+ghost use Rattle.dual_model.specs.Prelude.{HasSizeOf, IsPrice, IsWithinLimits};
 ghost use Rattle.schedule_check.specs.SizedNumbers.{HasSizedNumbers, IsSized, output_at};
 ghost use Rattle.uplift.specs.Sizes.{MAX_PRICED};
 ghost use Rattle.uplift.specs.inside.Lists.{AreRenewableUplifts, best_output, renewable_uplift_at};

@@ -1,10 +1,8 @@
 //! What the reserve beyond what is required is worth.
 
 ghost use Rattle.std.specs.Prelude.{◌≡◌, ◌*◌, ◌^◌, ◌<◌, ◌≤◌, ◌+ℤ◌, ◌-ℤ◌, ◌*ℤ◌, length, unsigned_abs};
-ghost use Rattle.uc_model.specs.Limits.{IsLawfulInstance};
-ghost use Rattle.uc_model.specs.PrintedSchedule.{HasShapeOf, cell_at, short_at};
-ghost use Rattle.uc_model.specs.Schedule.{reserve_at};
-ghost use Rattle.dual_model.specs.Prices.{HasSizeOf, IsPrice, IsWithinLimits};
+ghost use Rattle.uc_model.specs.Prelude.{IsLawfulInstance, HasShapeOf, cell_at, short_at, reserve_at};
+ghost use Rattle.dual_model.specs.Prelude.{HasSizeOf, IsPrice, IsWithinLimits};
 ghost use Rattle.schedule_check.specs.SizedNumbers.{HasSizedNumbers};
 ghost use Rattle.schedule_check.specs.WholeWatts.{reserve_supply_at, row_of};
 ghost use Rattle.uplift.specs.Sizes.{MAX_SLACK, MAX_SPARE, MAX_WATTS};

@@ -2,9 +2,8 @@
 
 ghost use Rattle.std.specs.Prelude.{◌≡◌, ◌*◌, ◌^◌, ◌<◌, ◌≤◌, ◌-ℤ◌, ◌*ℤ◌, pos, ◌≤ℤ◌, unsigned_abs};
 ghost use Rattle.std.specs.Int.{int_max, int_min};
-ghost use Rattle.uc_model.specs.Limits.{IsLawfulInstance, IsPower};
-ghost use Rattle.uc_model.specs.PrintedSchedule.{HasShapeOf};
-ghost use Rattle.dual_model.specs.Prices.{HasSizeOf, IsPrice, IsWithinLimits};
+ghost use Rattle.uc_model.specs.Prelude.{IsLawfulInstance, IsPower, HasShapeOf};
+ghost use Rattle.dual_model.specs.Prelude.{HasSizeOf, IsPrice, IsWithinLimits};
 ghost use Rattle.uplift.specs.Sizes.{MAX_SHORTAGE};
 ghost use Rattle.uplift.specs.Uplift.{shed_uplift as uplift_of, shortage_uplift, shortage_uplift_at};
 

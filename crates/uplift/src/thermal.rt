@@ -1,14 +1,8 @@
 //! The uplifts of the thermal units.
 
 ghost use Rattle.std.specs.Prelude.{◌≡◌, ℕ, ◌+◌, ◌*◌, ◌<◌, ◌≤◌, ◌+ℤ◌, ◌-ℤ◌, ◌*ℤ◌, pos, ◌≤ℤ◌, IfOk, length, unsigned_abs, All};
-ghost use Rattle.uc_model.specs.Limits.{IsLawfulInstance, IsLawfulThermal, IsPower};
-ghost use Rattle.uc_model.specs.PrintedSchedule.{HasShapeOf, cell_at};
-ghost use Rattle.uc_model.specs.Schedule.{thermal_count, thermal_unit};
-ghost use Rattle.uc_model.specs.Sums.{bit, sum_below};
-ghost use Rattle.dual_model.specs.NodeAnswer.{MAX_PART};
-ghost use Rattle.dual_model.specs.NodeValue.{constant_at};
-ghost use Rattle.dual_model.specs.Prices.{HasSizeOf, IsWithinLimits};
-ghost use Rattle.dual_model.specs.Term.{output_price, reserve_price};
+ghost use Rattle.uc_model.specs.Prelude.{IsLawfulInstance, IsLawfulThermal, IsPower, HasShapeOf, cell_at, thermal_count, thermal_unit, bit, sum_below};
+ghost use Rattle.dual_model.specs.Prelude.{MAX_PART, constant_at, HasSizeOf, IsWithinLimits, output_price, reserve_price};
 ghost use Rattle.schedule_check.specs.SizedNumbers.{HasSizedNumbers, IsSized, IsSizedCell};
 ghost use Rattle.schedule_check.specs.WholeWatts.{HasPrice, IsSizedRow, cell as cell_of};
 ghost use Rattle.uplift.specs.Sizes.{MAX_CHARGE, MAX_PRICED, MAX_UNIT_COST, MAX_UPLIFT};

@@ -1,11 +1,8 @@
 //! The duality gap, and what some numbers leave of it.
 
 ghost use Rattle.std.specs.Prelude.{◌≡◌, ◌*◌, ◌≤◌, ◌+ℤ◌, ◌-ℤ◌, ◌*ℤ◌, length, unsigned_abs, All};
-ghost use Rattle.uc_model.specs.Limits.{IsLawfulInstance};
-ghost use Rattle.uc_model.specs.PrintedSchedule.{HasShapeOf, printed_cost, printed_denominator, printed_schedule};
-ghost use Rattle.uc_model.specs.Rules.{Obeys};
-ghost use Rattle.dual_model.specs.NodeAnswer.{MAX_VALUE};
-ghost use Rattle.dual_model.specs.Prices.{IsLawfulTable};
+ghost use Rattle.uc_model.specs.Prelude.{IsLawfulInstance, HasShapeOf, printed_cost, printed_denominator, printed_schedule, Obeys};
+ghost use Rattle.dual_model.specs.Prelude.{MAX_VALUE, IsLawfulTable};
 ghost use Rattle.uplift.specs.Sizes.{MAX_GAP, MAX_KNOWN, MAX_UPLIFT};
 ghost use Rattle.uplift.specs.inside.Lists.{sum_in};
 

@@ -1,12 +1,8 @@
 //! The uplifts of a schedule at a price table, and that they add up to the duality gap.
 
 ghost use Rattle.std.specs.Prelude.{◌≡◌, IfOk};
-ghost use Rattle.uc_model.specs.Limits.{IsLawfulInstance};
-ghost use Rattle.uc_model.specs.PrintedSchedule.{HasShapeOf, printed_denominator, printed_schedule};
-ghost use Rattle.uc_model.specs.Rules.{Obeys};
-ghost use Rattle.dual_model.specs.NodeAnswer.{IsValued};
-ghost use Rattle.dual_model.specs.Prices.{IsLawfulTable};
-ghost use Rattle.dual_model.specs.Tree.{root};
+ghost use Rattle.uc_model.specs.Prelude.{IsLawfulInstance, HasShapeOf, printed_denominator, printed_schedule, Obeys};
+ghost use Rattle.dual_model.specs.Prelude.{IsValued, IsLawfulTable, root};
 ghost use Rattle.dual_value.specs.NodeAnswer.{HasSizes};
 ghost use Rattle.schedule_check.specs.SizedNumbers.{HasSizedNumbers};
 ghost use Rattle.uplift.specs.Uplift.{AreUplifts};

@@ -1,6 +1,6 @@
 -- The steps of a roll, from what the calls of a step give.
 use Rattle.std.proofs.Common.{◌≡◌, false, suc, ◌+◌, ◌<◌, sym, subst, arith, length, Result, Ok, Err, IfOk}
-use Rattle.uc_model.specs.Limits.{IsLawfulInstance}
+use Rattle.uc_model.specs.Prelude.{IsLawfulInstance}
 use Rattle.branch_tree.specs.declared.found.Found.{Found}
 use Rattle.roll.specs.Kept.{IsKept}
 use Rattle.roll.specs.NextWindow.{IsNextWindow}

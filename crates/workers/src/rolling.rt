@@ -1,7 +1,7 @@
 //! Rolling windows: one search after another, each from the state that the periods kept before it leave.
 
 ghost use Rattle.std.specs.Prelude.{◌≡◌, ◌≤◌, ◌<◌, ℕ, false, IfOk, IfSome, None};
-ghost use Rattle.uc_model.specs.Limits.{IsLawfulInstance};
+ghost use Rattle.uc_model.specs.Prelude.{IsLawfulInstance};
 ghost use Rattle.uc_model.specs.declared.limits.TheConstants.{MAX_PERIODS};
 ghost use Rattle.roll.specs.Rolling.{IsNextPlace};
 ghost use Rattle.tree_search.specs.Options.{AreOptions};

@@ -1,8 +1,8 @@
 //! The search.
 
 ghost use Rattle.std.specs.Prelude.{IfOk};
-ghost use Rattle.uc_model.specs.Limits.{IsLawfulInstance};
-ghost use Rattle.dual_model.specs.Tree.{HasEachPattern};
+ghost use Rattle.uc_model.specs.Prelude.{IsLawfulInstance};
+ghost use Rattle.dual_model.specs.Prelude.{HasEachPattern};
 ghost use Rattle.opening.specs.Blocked.{HasNoBlockedUnit};
 ghost use Rattle.opening.specs.Rays.{HasNoRay};
 ghost use Rattle.search_answers.specs.Pivoted.{IsPivotedFound};

@@ -4,8 +4,8 @@ use Rattle.std.specs.Prelude.{◌≡◌, ◌≢◌, ℕ, suc, ◌<◌, ◌≤◌
 use Rattle.std.specs.Int.{int_max}
 pub use Rattle.branch_tree.specs.declared.found.Entry.{Entry}
 pub use Rattle.dual_model.specs.declared.table.Table.{Table}
-use Rattle.search_machine.specs.Machine.{entries_of}
-pub use Rattle.search_machine.specs.Steps.{IsElsewhere}
+use Rattle.search_machine.specs.Prelude.{entries_of}
+pub use Rattle.search_machine.specs.Prelude.{IsElsewhere}
 
 -- what contracts see of the log: its entries, for how many there is room, for how many nodes, and of each node the greatest scale
 pub record LogView : Type 0 where

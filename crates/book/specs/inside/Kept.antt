@@ -1,8 +1,7 @@
 -- What the fields of a book keep. This project's own form.
 use Rattle.std.specs.Prelude.{◌≡◌, ℕ, suc, ◌<◌, ◌≤◌, Bool, true, false, List, length, slice_index_or, All, ℤ}
-use Rattle.branch_tree.specs.NumberedTree.{node_count}
-use Rattle.search_machine.specs.Machine.{IsHeldIn}
-use Rattle.branch_tree.specs.TreeView.{TreeView}
+use Rattle.branch_tree.specs.Prelude.{node_count, TreeView}
+use Rattle.search_machine.specs.Prelude.{IsHeldIn}
 use Rattle.book.specs.BookView.{BookView, Table}
 use Rattle.book.specs.Claims.{Claim, holders}
 use Rattle.book.specs.Opening.{Opening, IsTrueOpening}

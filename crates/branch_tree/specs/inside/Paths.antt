@@ -2,7 +2,7 @@
 -- project's own form.
 use Rattle.std.specs.Prelude.{◌≡◌, ℕ, ◌<◌, Bool, false, not, [], ◌∷◌, ◌++◌, Some}
 use Rattle.std.specs.Option.{option_map_or}
-use Rattle.dual_model.specs.Tree.{is_decided}
+use Rattle.dual_model.specs.Prelude.{is_decided}
 use Rattle.dual_model.specs.declared.node.Fixing.{Fixing}
 use Rattle.branch_tree.specs.NumberedTree.{Node, NumberedTree, node_at}
 

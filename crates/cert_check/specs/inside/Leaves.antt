@@ -1,9 +1,8 @@
 -- What the checks of leaves keep for one another, and the tests of a leaf's numbers. This project's own.
 use Rattle.std.specs.Prelude.{◌≡◌, ℕ, ◌<◌, ◌⊎◌, ◌↔◌, Bool, ℤ, pos, ◌*ℤ◌, ◌≤ℤ◌, ◌<ℤ◌, Option, Some, None, List, IsTrue, slice_get, length}
-use Rattle.uc_model.specs.Schedule.{thermal_count}
+use Rattle.uc_model.specs.Prelude.{thermal_count}
 use Rattle.uc_model.specs.declared.instance.Instance.{Instance}
-use Rattle.dual_model.specs.Cover.{HasBoundOf, HasPositiveValue}
-use Rattle.dual_model.specs.ValueKind.{HasBlockedUnit}
+use Rattle.dual_model.specs.Prelude.{HasBoundOf, HasPositiveValue, HasBlockedUnit}
 use Rattle.dual_model.specs.declared.node.Node.{Node}
 pub use Rattle.dual_model.specs.declared.table.Table.{Table}
 use Rattle.leaf_values.specs.Entries.{AreEntriesOf}

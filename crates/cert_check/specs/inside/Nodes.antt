@@ -1,6 +1,6 @@
 -- What the walk over the nodes of a certificate asks of it, and answers. This project's own.
 use Rattle.std.specs.Prelude.{◌≡◌, ℕ, suc, Option, Some, None, All, map, length}
-use Rattle.dual_model.specs.Prices.{IsLawfulTable}
+use Rattle.dual_model.specs.Prelude.{IsLawfulTable}
 use Rattle.cert_text.specs.CertificateText.{IsNodeWithin}
 use Rattle.cert_text.specs.Reading.{node_of}
 use Rattle.cert_check.specs.Visits.{Instance, Visit, IsSound}

@@ -1,6 +1,6 @@
 -- The signs and sizes of a table's numbers. This project's own.
 use Rattle.std.specs.Prelude.{◌≡◌, ℕ, List, ℤ, pos, ◌≤ℤ◌, Option, Some, None, All, take, slice_get}
-use Rattle.dual_model.specs.Prices.{HasLawfulSigns, IsWithinLimits, IsPrice, IsRowSigned, IsRowPriced}
+use Rattle.dual_model.specs.Prelude.{HasLawfulSigns, IsWithinLimits, IsPrice, IsRowSigned, IsRowPriced}
 pub use Rattle.dual_model.specs.declared.table.Table.{Table}
 use Rattle.dual_model.specs.declared.table.RampRow.{RampRow}
 

@@ -1,8 +1,8 @@
 -- What the check of a certificate's schedule answers. This project's own.
 use Rattle.std.specs.Prelude.{◌≡◌, ℤ, Option, Some, None}
-use Rattle.uc_model.specs.PrintedSchedule.{printed_denominator, printed_schedule}
+use Rattle.uc_model.specs.Prelude.{printed_denominator, printed_schedule}
 use Rattle.uc_model.specs.declared.refusal.Refusal.TheVariants as codes
-use Rattle.dual_model.specs.Certificate.{WrittenSchedule, ScheduleHolds}
+use Rattle.dual_model.specs.Prelude.{WrittenSchedule, ScheduleHolds}
 use Rattle.schedule_check.specs.FirstBroken.{IsFirstBroken}
 use Rattle.cert_check.specs.Refusals.{Instance, Refusal, Miscosts}
 

@@ -1,9 +1,9 @@
 -- What a certificate meets once its text is read and some steps of the check have passed. This project's own.
 use Rattle.std.specs.Prelude.{◌≡◌, Bool, true, false, ℤ, Option, Some, None, IsTrue}
 use Rattle.std.specs.List.{list_any}
-use Rattle.uc_model.specs.Schedule.{thermal_count, renewable_count}
+use Rattle.uc_model.specs.Prelude.{thermal_count, renewable_count}
 use Rattle.uc_model.specs.declared.instance.Instance.{Instance}
-use Rattle.branch_tree.specs.Claims.{written_of}
+use Rattle.branch_tree.specs.Prelude.{written_of}
 pub use Rattle.cert_text.specs.declared.cert.Cert.{Cert}
 pub use Rattle.cert_text.specs.declared.cert.CertNode.{CertNode}
 use Rattle.cert_text.specs.declared.cert.CertNode.TheVariants as nodes

@@ -2,8 +2,7 @@
 -- This project's own.
 use Rattle.std.specs.Prelude.{◌≡◌, ℕ, Bool, not, IsTrue, All, true, false, List, [], ◌∷◌, ◌++◌, ℤ, Option, length, map, if◌then◌else◌}
 pub use Rattle.uc_model.specs.declared.instance.Instance.{Instance}
-use Rattle.dual_model.specs.Fixings.{IsCell, IsNodeOf}
-use Rattle.dual_model.specs.Tree.{child, root, is_decided}
+use Rattle.dual_model.specs.Prelude.{IsCell, IsNodeOf, child, root, is_decided}
 pub use Rattle.dual_model.specs.declared.node.Fixing.{Fixing}
 use Rattle.cert_text.specs.CertificateText.{TreeNode, LeafNode, SplitNode}
 use Rattle.cert_text.specs.Reading.{node_of}

@@ -1,7 +1,7 @@
 -- What contracts see of a table that is read, and of the changes that make it of the one before it.
 use Rattle.std.specs.Prelude.{◌≡◌, ℕ, ◌<◌, Bool, true, false, not, ◌&&◌, ◌||◌, List, [], ◌∷◌, ◌++◌, Option, Some, Ok, length, pos}
 use Rattle.std.specs.Ordering.{int_eq}
-use Rattle.dual_model.specs.Prices.{row_of, AreRising}
+use Rattle.dual_model.specs.Prelude.{row_of, AreRising}
 use Rattle.table_list.specs.Changes.{Table, RampRow, Change, OfDemand, OfReserve, OfRamps, is_before, with_row, changed}
 use Rattle.table_list.specs.TableChanges.{last_table}
 use Rattle.cert_text.specs.CertificateText.{told_from}

@@ -5,8 +5,7 @@ use Rattle.std.specs.List.{starts_with, prefix_len}
 use Rattle.std.specs.Str.Parse.{digits_value}
 use Rattle.std.specs.Char.{digit_value}
 use Rattle.std.specs.Ordering.{int_eq}
-use Rattle.dual_model.specs.Cover.{Leaf, Bound, Ray, Empty}
-use Rattle.dual_model.specs.Prices.{pi_at, mu_at, up_at, down_at}
+use Rattle.dual_model.specs.Prelude.{Leaf, Bound, Ray, Empty, pi_at, mu_at, up_at, down_at}
 use Rattle.table_list.specs.Changes.{Table, Change, OfDemand, OfReserve, OfRamps, is_before}
 use Rattle.cert_text.specs.CertificateText.{Version, First, Second, Third, TreeNode, LeafNode, SplitNode, has_price}
 use Rattle.cert_text.specs.Grammar.{Cell, RampRow, Sizes, ScheduleHead, PlanLine, Priced, Unpriced}

@@ -2,7 +2,7 @@
 -- the first line on that may not stand there.
 use Rattle.std.specs.Prelude.{◌≡◌, ℕ, zero, suc, Bool, true, false, List, [], ◌∷◌, length, Option, Some, None, Result, Ok, Err, ℤ, pos, codes, replicate}
 use Rattle.std.specs.Option.{ok_or, option_map}
-use Rattle.dual_model.specs.Certificate.{WrittenSchedule}
+use Rattle.dual_model.specs.Prelude.{WrittenSchedule}
 use Rattle.table_list.specs.Changes.{Change, changed, all_changed}
 use Rattle.cert_text.specs.CertificateText.{Version, told_from, Cell, Printed, RampRow, Table, Listing, TreeNode, LeafNode, SplitNode}
 use Rattle.cert_text.specs.Grammar.{Sizes, ScheduleHead, PlanLine, Priced, Unpriced, IsRampAfter, IsChangeAfter, rescaled}

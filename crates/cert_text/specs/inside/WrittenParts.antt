@@ -2,12 +2,9 @@
 use Rattle.std.specs.Prelude.{ℕ, Bool, true, false, List, [], ◌∷◌, ◌++◌, ℤ, Option, Some, None, length, flat_map, codes, if◌then◌else◌}
 use Rattle.std.specs.Ordering.{int_eq}
 pub use Rattle.uc_model.specs.declared.instance.Instance.{Instance}
-use Rattle.dual_model.specs.Certificate.{WrittenSchedule}
+use Rattle.dual_model.specs.Prelude.{WrittenSchedule, map_leaves}
 pub use Rattle.branch_tree.specs.declared.found.Found.{Found}
-use Rattle.dual_model.specs.Tree.{map_leaves}
-use Rattle.branch_tree.specs.TreeView.{tree_of}
-use Rattle.branch_tree.specs.UsedTables.{used_tables}
-use Rattle.branch_tree.specs.Claims.{leaf_claim, certificate_of}
+use Rattle.branch_tree.specs.Prelude.{tree_of, used_tables, leaf_claim, certificate_of}
 pub use Rattle.branch_tree.specs.declared.tree.Spot.{Spot}
 use Rattle.branch_tree.specs.declared.tree.Spot.TheVariants as spot
 use Rattle.branch_tree.specs.declared.tree.Tree.{Tree}

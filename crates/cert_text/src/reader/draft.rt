@@ -1,7 +1,7 @@
 //! A table that is being read.
 
 ghost use Rattle.std.specs.Prelude.{◌≡◌, ◌<◌, ◌^◌, IfOk};
-ghost use Rattle.dual_model.specs.Prices.{IsWellFormed};
+ghost use Rattle.dual_model.specs.Prelude.{IsWellFormed};
 ghost use Rattle.cert_text.specs.inside.Drafts.{drafted};
 
 use dual_model::{RampRow, Table};

@@ -2,7 +2,7 @@
 
 ghost use Rattle.std.specs.Prelude.{◌≡◌, Ok, Err, IfOk, true, codes};
 ghost use Rattle.std.specs.Option.{option_map};
-ghost use Rattle.branch_tree.specs.Claims.{written_of};
+ghost use Rattle.branch_tree.specs.Prelude.{written_of};
 ghost use Rattle.cert_text.specs.inside.Forms.{signed_at};
 ghost use Rattle.cert_text.specs.inside.Parts.{GivesPart, nothing, then, rows_of, missing_part, powers_part, shortages_part, printed_part, rows_behind, schedule_part, first_of, head_of, prices_of, behind_first, plan_part, sizes};
 

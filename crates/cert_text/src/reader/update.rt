@@ -2,7 +2,7 @@
 
 ghost use Rattle.std.specs.Prelude.{◌≡◌, ◌<◌, ◌∷◌, [], ◌++◌, ◌&&◌, pos, not, false, true, None, length, slice_index_or, slice_set, option_map, IfOk, OnOk, MatchOption, Ok, Err};
 ghost use Rattle.std.specs.Ordering.{int_eq};
-ghost use Rattle.dual_model.specs.Prices.{AreRising, row_of};
+ghost use Rattle.dual_model.specs.Prelude.{AreRising, row_of};
 ghost use Rattle.table_list.specs.Changes.{is_before, is_none, placed, with_row};
 ghost use Rattle.cert_text.specs.inside.Forms.{comes_behind, is_other, change_at};
 ghost use Rattle.cert_text.specs.inside.Drafts.{drafted, so_far, LieBefore, starts_before, differs, IsPassed, IsRowSet, HasPrice, ArePriced, IsUnderway, IsMade};

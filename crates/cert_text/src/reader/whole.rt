@@ -3,7 +3,7 @@
 ghost use Rattle.std.specs.Prelude.{◌≡◌, IfOk, Ok, Err, map};
 ghost use Rattle.cert_text.specs.Grammar.{AreSizes};
 ghost use Rattle.cert_text.specs.Reading.{listing_read, node_of};
-ghost use Rattle.branch_tree.specs.Claims.{written_of};
+ghost use Rattle.branch_tree.specs.Prelude.{written_of};
 ghost use Rattle.cert_text.specs.inside.Forms.{end_at};
 ghost use Rattle.cert_text.specs.inside.Parts.{GivesPart, heading_part, line_of, listing_from, plan_part, proof_part, certificate_part, sizes, then, tree_part};
 

@@ -1,14 +1,12 @@
 -- At which table the closing pass evaluates a node.
 use Rattle.std.specs.Prelude.{◌≡◌, ◌≢◌, ◌⊎◌, ℕ, ◌+◌, ◌≤◌, Bool, true, [], pos}
 pub use Rattle.uc_model.specs.declared.instance.Instance.{Instance}
-use Rattle.uc_model.specs.Limits.{IsLawfulInstance}
-use Rattle.dual_model.specs.Fixings.{IsNodeOf, HasEmptyUnit}
-use Rattle.dual_model.specs.Prices.{IsLawfulTable}
+use Rattle.uc_model.specs.Prelude.{IsLawfulInstance}
+use Rattle.dual_model.specs.Prelude.{IsNodeOf, HasEmptyUnit, IsLawfulTable}
 pub use Rattle.dual_model.specs.declared.node.Node.{Node}
 pub use Rattle.dual_model.specs.declared.table.Table.{Table}
-use Rattle.branch_tree.specs.TreeView.{HasFreeCell}
-use Rattle.search_machine.specs.Machine.{entries_of}
-use Rattle.search_machine.specs.Steps.{IsFresh, IsStoredTable}
+use Rattle.branch_tree.specs.Prelude.{HasFreeCell}
+use Rattle.search_machine.specs.Prelude.{entries_of, IsFresh, IsStoredTable}
 pub use Rattle.book.specs.BookView.{BookView}
 use Rattle.book.specs.BookView.{state_of}
 use Rattle.book.specs.Calls.{IsStoredAt}

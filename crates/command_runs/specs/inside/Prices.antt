@@ -1,6 +1,6 @@
 -- The instance that is given, and when the prices of shortages are too high for it. This project's own.
 use Rattle.std.specs.Prelude.{◌≡◌, ⊤, Bool, ℕ, List, pos, ◌<ℤ◌}
-use Rattle.uc_model.specs.Limits.{greatest_shortage_cost}
+use Rattle.uc_model.specs.Prelude.{greatest_shortage_cost}
 use Rattle.uc_model.specs.declared.limits.TheConstants.{MAX_SHORTAGE_COST}
 pub use Rattle.instance.specs.Bytes.{StandFor, StandForCounted}
 use Rattle.instance.specs.declared.from_bytes.ReadFault.TheVariants as read_fault

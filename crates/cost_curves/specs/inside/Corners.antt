@@ -1,6 +1,6 @@
 -- How a point joins the corners of the lower hull of the points before it.
 use Rattle.std.specs.Prelude.{◌≡◌, ℕ, suc, ◌<◌, Bool, false, List, ◌≤ℤ◌, ◌<ℤ◌, int_le, if◌then◌else◌}
-use Rattle.uc_model.specs.Points.{point_of}
+use Rattle.uc_model.specs.Prelude.{point_of}
 use Rattle.cost_curves.specs.LowerHull.{Point, IsAbove, IsBelow}
 
 -- a corner lies no further left than a point, and costs no more

@@ -1,6 +1,6 @@
 -- Where an output lies among the corners.
 use Rattle.std.specs.Prelude.{◌≡◌, ℕ, suc, ◌<◌, List, ℤ, pos, ◌≤ℤ◌, ◌<ℤ◌, ◌⊎◌, length}
-use Rattle.uc_model.specs.Points.{output_of}
+use Rattle.uc_model.specs.Prelude.{output_of}
 use Rattle.uc_model.specs.declared.instance.Point.{Point}
 
 -- the output lies between two corners that follow one another, or at the one that is alone; right of the left one unless it is 0

@@ -1,9 +1,7 @@
 -- Periods of a commitment as they are filled, each from the amounts before it: from nothing, or from how the period of a
 -- commitment that differs in one unit alone was filled. This project's own.
 use Rattle.std.specs.Prelude.{◌≡◌, ◌≢◌, ℕ, suc, ◌+◌, ◌*◌, ◌<◌, ◌≤◌, List, ℤ, pos, ◌+ℤ◌, ◌-ℤ◌, ◌*ℤ◌, ◌≤ℤ◌, IsTrue, length, unsigned_abs, slice_set}
-use Rattle.uc_model.specs.Commitment.{Commitment}
-use Rattle.uc_model.specs.Schedule.{renewable_count, thermal_count, thermal_unit}
-use Rattle.uc_model.specs.Sums.{bit, sum_below}
+use Rattle.uc_model.specs.Prelude.{Commitment, renewable_count, thermal_count, thermal_unit, bit, sum_below}
 use Rattle.dispatch_repair.specs.Amounts.{AreBeforePeriod, AreHeadsOf, IsSizedEnd, amount_at, next_period, thermal_amount}
 use Rattle.dispatch_repair.specs.Filled.{IsDispatchedFrom}
 use Rattle.dispatch_repair.specs.Filling.{IsStart}

@@ -2,11 +2,7 @@
 --
 -- Units and periods count from 0 here.
 use Rattle.std.specs.Prelude.{◌≡◌, ◌⊎◌, ℕ, Bool, true, false, None, Some, IfSome, zero, suc, ◌*◌, ◌^◌, ◌<◌, ◌≤◌, List, [], ℤ, pos, IsTrue, length, map, slice_index_or, slice_set, unsigned_abs}
-use Rattle.uc_model.specs.Commitment.{initial_p}
-use Rattle.uc_model.specs.Limits.{IsLawfulInstance}
-use Rattle.uc_model.specs.PrintedSchedule.{cell_at, printed_cell_cost, shed_at, short_at}
-use Rattle.uc_model.specs.Schedule.{thermal_count, thermal_unit}
-use Rattle.uc_model.specs.Sums.{sum_below}
+use Rattle.uc_model.specs.Prelude.{initial_p, IsLawfulInstance, cell_at, printed_cell_cost, shed_at, short_at, thermal_count, thermal_unit, sum_below}
 pub use Rattle.uc_model.specs.declared.schedule.Cell.{Cell}
 use Rattle.schedule_check.specs.WholeWatts.{cell}
 use Rattle.dispatch_repair.specs.Amounts.{next_period, thermal_amount}

@@ -1,6 +1,6 @@
 -- The first broken rule among the first units. This project's own.
 use Rattle.std.specs.Prelude.{◌≡◌, ℕ, ◌<◌, ◌≤◌, List, Option, Some, None}
-use Rattle.uc_model.specs.Rules.{Rule, rule_number}
+use Rattle.uc_model.specs.Prelude.{Rule, rule_number}
 use Rattle.uc_model.specs.declared.instance.Instance.{Instance}
 use Rattle.uc_model.specs.declared.pattern.Pattern.{Pattern}
 use Rattle.dispatch_repair.specs.Stuck.{IsCommitmentRule, KeepsRule}

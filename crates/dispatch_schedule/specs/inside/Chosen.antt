@@ -1,18 +1,16 @@
 -- What a basis chooses of each amount, in whole numerators over a denominator, and the schedule that this is printed as. This project's own.
 use Rattle.std.specs.Prelude.{◌≡◌, ℕ, ◌<◌, List, [], length, slice_index_or, ℤ, pos, ◌+ℤ◌, ◌*ℤ◌, ◌≤ℤ◌, ◌<ℤ◌, int_div, false}
 use Rattle.std.specs.Int.{int_max}
-use Rattle.uc_model.specs.Sums.{sum_below}
-use Rattle.uc_model.specs.Schedule.{thermal_unit, thermal_count, renewable_count, renewable_minimum}
+use Rattle.uc_model.specs.Prelude.{sum_below, thermal_unit, thermal_count, renewable_count, renewable_minimum}
 use Rattle.uc_model.specs.declared.instance.Instance.{Instance}
 use Rattle.uc_model.specs.declared.pattern.Pattern.{Pattern}
 use Rattle.uc_model.specs.declared.schedule.Cell.{Cell}
 use Rattle.uc_model.specs.declared.schedule.Printed.{Printed}
 use Rattle.start_costs.specs.Cheapest.{HasLeastCategory}
 use Rattle.fractions.specs.declared.fraction.Fraction.{Fraction}
-use Rattle.dispatch_rules.specs.CommitmentTask.{commitment_at}
+use Rattle.dispatch_rules.specs.Prelude.{commitment_at, output_in, held_in, given_in, shed_in, short_in}
 use Rattle.dispatch_rules.specs.declared.amount.Amount.{Amount}
 use Rattle.dispatch_rules.specs.declared.amount.Amount.TheVariants.{Shed}
-use Rattle.dispatch_rules.specs.Primals.{output_in, held_in, given_in, shed_in, short_in}
 use Rattle.dispatch_schedule.specs.inside.Values.{fraction_at}
 pub use Rattle.dispatch_schedule.specs.declared.chosen.Chosen.{Chosen}
 pub use Rattle.dispatch_schedule.specs.declared.power.Power.{Power}

@@ -1,9 +1,8 @@
 -- What a node decides of one unit, fixing by fixing. Source: branch and bound on the commitment variables of the
 -- reference model by Knueven, Ostrowski and Watson.
 use Rattle.std.specs.Prelude.{◌≡◌, ℕ, ◌<◌, Bool, true, false, ◌&&◌, Option, Some, None, All}
-use Rattle.uc_model.specs.Commitment.{Commitment}
-use Rattle.uc_model.specs.PatternBits.{commitment_of}
-use Rattle.dual_model.specs.Fixings.{fix_agrees, keeps, unit_agrees}
+use Rattle.uc_model.specs.Prelude.{Commitment, commitment_of}
+use Rattle.dual_model.specs.Prelude.{fix_agrees, keeps, unit_agrees}
 pub use Rattle.dual_model.specs.declared.node.Fix.{Fix}
 pub use Rattle.dual_model.specs.declared.node.Fixing.{Fixing}
 pub use Rattle.dual_model.specs.declared.node.Node.{Node}

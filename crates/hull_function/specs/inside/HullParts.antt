@@ -1,8 +1,7 @@
 -- L as a function that is made segment by segment.
 use Rattle.std.specs.Prelude.{◌≡◌, ℕ, ◌+◌, ◌*◌, ◌^◌, ◌<◌, ◌≤◌, List, ℤ, pos, ◌*ℤ◌, length}
-use Rattle.uc_model.specs.Points.{output_of}
-use Rattle.uc_model.specs.Hull.{hull_cost}
-use Rattle.dual_model.specs.ExactValue.{slope_from}
+use Rattle.uc_model.specs.Prelude.{output_of, hull_cost}
+use Rattle.dual_model.specs.Prelude.{slope_from}
 use Rattle.step_functions.specs.Functions.{last_place, run_count}
 use Rattle.step_functions.specs.Runs.{slope_at, steps_of}
 use Rattle.hull_function.specs.Hulls.{Point, Steps, IsBounded}

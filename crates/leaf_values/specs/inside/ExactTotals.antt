@@ -1,13 +1,8 @@
 -- What the exact values of units add to a node's value, one after the other. This project's own form.
 use Rattle.std.specs.Prelude.{◌≡◌, ℕ, ◌+◌, ◌<◌, List, ℤ, ◌+ℤ◌, ◌-ℤ◌, Option, Some, None}
 use Rattle.std.specs.Int.{int_max}
-use Rattle.uc_model.specs.Sums.{sum_below}
-use Rattle.uc_model.specs.Schedule.{thermal_count}
-use Rattle.dual_model.specs.CostToGo.{MAX_COST_TO_GO}
-use Rattle.dual_model.specs.ExactValue.{IsExactUnitValue, exact_part}
-use Rattle.dual_model.specs.Fixings.{IsFixOf}
-use Rattle.dual_model.specs.NodeValue.{unit_part}
-use Rattle.dual_model.specs.UnitValue.{IsUnitValue}
+use Rattle.uc_model.specs.Prelude.{sum_below, thermal_count}
+use Rattle.dual_model.specs.Prelude.{MAX_COST_TO_GO, IsExactUnitValue, exact_part, IsFixOf, unit_part, IsUnitValue}
 use Rattle.dual_model.specs.declared.table.Table.{Table}
 use Rattle.leaf_values.specs.Entries.{UnitEntry, MAX_CONSTANT, entry_in}
 use Rattle.leaf_values.specs.Paths.{Instance, Node}

@@ -1,7 +1,6 @@
 -- How entries change as their values are reckoned for other decisions, and what they add up to. This project's own form.
 use Rattle.std.specs.Prelude.{◌≡◌, ℕ, ◌<◌, List, ℤ, pos, ◌+ℤ◌, length, Option, Some, None, MatchOption, unwrap_or}
-use Rattle.uc_model.specs.Sums.{sum_below}
-use Rattle.uc_model.specs.Schedule.{thermal_unit}
+use Rattle.uc_model.specs.Prelude.{sum_below, thermal_unit}
 use Rattle.leaf_values.specs.Entries.{TableEntries, Thermal, UnitEntry, IsReckoned, entry_at, entry_in}
 use Rattle.uc_model.specs.declared.instance.Instance.{Instance}
 use Rattle.leaf_values.specs.Paths.{Fix, fix_at}

@@ -1,9 +1,8 @@
 -- What the choice of a table gives.
 use Rattle.std.specs.Prelude.{◌≡◌, ◌⊎◌, Bool, true, pos}
 use Rattle.uc_model.specs.declared.instance.Instance.{Instance}
-use Rattle.dual_model.specs.Prices.{IsLawfulTable}
+use Rattle.dual_model.specs.Prelude.{IsLawfulTable, HasEmptyUnit}
 use Rattle.dual_model.specs.declared.table.Table.{Table}
-use Rattle.dual_model.specs.Fixings.{HasEmptyUnit}
 use Rattle.decided_nodes.specs.Decided.{DecidesEach, IsDispatched, IsWideAt}
 use Rattle.found_schedule.specs.Found.{IsFoundIfAny}
 use Rattle.search_desk.specs.declared.desk.Claim.{Claim}

@@ -1,6 +1,6 @@
 -- What the evaluations of an instance share.
 use Rattle.std.specs.Prelude.{◌≡◌, ℕ}
-use Rattle.uc_model.specs.Limits.{IsLawfulInstance}
+use Rattle.uc_model.specs.Prelude.{IsLawfulInstance}
 pub use Rattle.uc_model.specs.declared.instance.Instance.{Instance}
 use Rattle.dual_value.specs.Rooms.{IsRoomOf, RoomOf}
 

@@ -1,7 +1,7 @@
 -- What the code's rays name.
 use Rattle.std.specs.Prelude.{Bool}
 pub use Rattle.uc_model.specs.declared.instance.Thermal.{Thermal}
-use Rattle.dual_model.specs.Opening.{OpeningRay, nowhere, rises_short, falls_short, stays_below}
+use Rattle.dual_model.specs.Prelude.{OpeningRay, nowhere, rises_short, falls_short, stays_below}
 use Rattle.opening_tables.specs.declared.rays.Ramps.{Ramps}
 use Rattle.opening_tables.specs.declared.rays.Ramps.TheVariants.{Free, RiseShort, FallShort, StayBelow}
 pub use Rattle.opening_tables.specs.declared.rays.Ray.{Ray}

@@ -1,14 +1,13 @@
 -- The slopes of units while the greatest is looked for.
 use Rattle.std.specs.Prelude.{ℕ, ◌<◌, IsTrue, List, ℤ, pos, ◌*ℤ◌, ◌≤ℤ◌, int_lt, slice_index_or, Option, Some, None, MatchOption, if◌then◌else◌}
-use Rattle.uc_model.specs.PrintedSchedule.{cell_at}
-use Rattle.uc_model.specs.Schedule.{thermal_count, thermal_unit}
+use Rattle.uc_model.specs.Prelude.{cell_at, thermal_count, thermal_unit}
 pub use Rattle.uc_model.specs.declared.instance.Instance.{Instance}
 pub use Rattle.uc_model.specs.declared.instance.Point.{Point}
 pub use Rattle.uc_model.specs.declared.schedule.Cell.{Cell}
 pub use Rattle.uc_model.specs.declared.schedule.Printed.{Printed}
 use Rattle.cost_curves.specs.LowerHull.{IsLowerHull, width_of}
 use Rattle.cost_curves.specs.LeastCost.{IsLeftSlope}
-use Rattle.dual_model.specs.Prices.{IsPrice}
+use Rattle.dual_model.specs.Prelude.{IsPrice}
 use Rattle.opening_tables.specs.Marginal.{Slope, IsGreatestSlope, IsMarginalPrice, IsNoneRunning, IsRunning}
 
 -- the outputs of on cells are on their units' curves

@@ -3,7 +3,7 @@
 -- or all of it.
 use Rattle.std.specs.Prelude.{◌≡◌, ◌*◌, ◌≤◌, ℤ, pos, ◌-ℤ◌, unsigned_abs}
 use Rattle.std.specs.Int.{int_min}
-use Rattle.dual_model.specs.TableValue.{IsLawfulScale}
+use Rattle.dual_model.specs.Prelude.{IsLawfulScale}
 use Rattle.dual_model.specs.declared.limits.TheConstants.{MAX_UNIT_PRICE}
 
 -- the scale, the price of output above that of the reserve whose room it takes, and the price of the reserve

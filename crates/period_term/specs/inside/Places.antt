@@ -1,6 +1,6 @@
 -- The corner of least reduced cost on a lower hull, and the segment that holds a cap.
 use Rattle.std.specs.Prelude.{◌≡◌, ℕ, suc, ◌*◌, ◌^◌, ◌<◌, ◌≤◌, List, ℤ, ◌+ℤ◌, ◌-ℤ◌, ◌*ℤ◌, ◌≤ℤ◌, ◌<ℤ◌, length}
-use Rattle.uc_model.specs.Points.{point_of, output_of}
+use Rattle.uc_model.specs.Prelude.{point_of, output_of}
 pub use Rattle.uc_model.specs.declared.instance.Point.{Point}
 
 -- the reduced cost of corner i without reserve

@@ -2,10 +2,8 @@
 use Rattle.std.specs.Prelude.{◌≡◌, ℕ, Bool, List, length, map, pos, int_lt, ◌≤ℤ◌}
 use Rattle.pivot_run.specs.Pivots.{IsNarrow}
 use Rattle.pivot_run.specs.Tables.{Table, right_side}
-use Rattle.dispatch_rules.specs.CommitmentTask.{IsTaskOf, MakingForms, limit_of}
+use Rattle.dispatch_rules.specs.Prelude.{IsTaskOf, MakingForms, limit_of, Task, amounts, limits, program, right_of, IsTask, scale_of}
 use Rattle.dispatch_rules.specs.declared.limit.LimitAt.{LimitAt}
-use Rattle.dispatch_rules.specs.Dispatch.{Task, amounts, limits, program, right_of}
-use Rattle.dispatch_rules.specs.Duals.{IsTask, scale_of}
 use Rattle.dispatch_prices.specs.ReadOff.{HasSmallMultipliers, ReadingForms}
 use Rattle.dispatch_prices.specs.Readings.{IsPriceTable}
 use Rattle.dual_model.specs.declared.table.Table.{Table as Prices}

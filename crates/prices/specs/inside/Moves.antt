@@ -1,6 +1,6 @@
 -- Prices while they are moved, and the rows of a table while they are made.
 use Rattle.std.specs.Prelude.{ℕ, suc, ◌+◌, ◌<◌, ◌≡◌, List, ℤ, pos, ◌≤ℤ◌, All, length, slice_index_or}
-use Rattle.dual_model.specs.Prices.{IsPrice, IsRowBefore, IsRowPriced, IsRowSigned, IsRowWithin}
+use Rattle.dual_model.specs.Prelude.{IsPrice, IsRowBefore, IsRowPriced, IsRowSigned, IsRowWithin}
 pub use Rattle.dual_model.specs.declared.table.RampRow.{RampRow}
 
 -- the multiplier of an inequality, which is at least 0

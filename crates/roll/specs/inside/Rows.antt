@@ -1,7 +1,6 @@
 -- What the functions on single rows are called with. This project's own.
 use Rattle.std.specs.Prelude.{◌≡◌, ℕ, ◌-◌, ◌<◌, false, List, [], pos, ◌+ℤ◌, ◌-ℤ◌, ◌≤ℤ◌, length, slice_index_or}
-use Rattle.uc_model.specs.Schedule.{no_unit}
-use Rattle.uc_model.specs.Limits.{IsLawfulThermal}
+use Rattle.uc_model.specs.Prelude.{no_unit, IsLawfulThermal}
 use Rattle.schedule_check.specs.WholeWatts.{cell}
 use Rattle.roll.specs.Left.{Thermal, Cell, CarriedUnit, IsLawfulState, IsLeftBy, initial_state}
 

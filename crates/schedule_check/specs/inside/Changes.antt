@@ -1,6 +1,6 @@
 -- How often a unit starts or stops before each period. This project's own.
 use Rattle.std.specs.Prelude.{◌≡◌, ℕ, zero, suc, ◌+◌, ◌<◌, Bool, List, length, slice_index, if◌then◌else◌}
-use Rattle.uc_model.specs.Commitment.{Commitment, starts, stops}
+use Rattle.uc_model.specs.Prelude.{Commitment, starts, stops}
 use Rattle.uc_model.specs.declared.instance.Thermal.{Thermal}
 use Rattle.schedule_check.specs.declared.counts.Change.{Change}
 pub use Rattle.schedule_check.specs.declared.counts.Change.TheVariants.{Start, Stop}

@@ -1,7 +1,6 @@
 -- What is summed over units in a period. This project's own.
 use Rattle.std.specs.Prelude.{ℕ, ℤ}
-use Rattle.uc_model.specs.PrintedSchedule.{cell_at}
-use Rattle.uc_model.specs.Schedule.{thermal_count, renewable_count}
+use Rattle.uc_model.specs.Prelude.{cell_at, thermal_count, renewable_count}
 use Rattle.schedule_check.specs.SizedNumbers.{Printed, output_at}
 use Rattle.schedule_check.specs.WholeWatts.{over, thermal_supply_by}
 use Rattle.uc_model.specs.declared.instance.Instance.{Instance}

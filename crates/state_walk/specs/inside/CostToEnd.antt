@@ -5,9 +5,9 @@
 --
 -- Outputs are watts above the minimum, and costs 1/K micro-dollars; None is what may not be.
 use Rattle.std.specs.Prelude.{ℕ, zero, suc, Bool, false, ◌&&◌, ◌==◌, nat_lt, ℤ, pos, ◌+ℤ◌, ◌-ℤ◌, neg_ℤ, int_le, Option, Some, None, if◌then◌else◌}
+use Rattle.dual_model.specs.Prelude.{greatest_output}
 use Rattle.dual_model.specs.CostToGo.{total_of}
-use Rattle.dual_model.specs.ExactValue.{greatest_output}
-use Rattle.uc_model.specs.Commitment.{cell_cap}
+use Rattle.uc_model.specs.Prelude.{cell_cap}
 use Rattle.unit_runs.specs.CostThrough.{least_between, reserve_cost}
 use Rattle.hull_function.specs.Hours.{with_output}
 pub use Rattle.unit_runs.specs.Runs.{Table, Thermal}

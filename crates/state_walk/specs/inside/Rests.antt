@@ -1,6 +1,6 @@
 -- What is left of a run, by the output before it, as a convex function.
 use Rattle.std.specs.Prelude.{ℕ, suc, ◌+◌, ◌*◌, ◌≤◌, false, ◌==◌}
-use Rattle.uc_model.specs.Commitment.{cell_cap}
+use Rattle.uc_model.specs.Prelude.{cell_cap}
 use Rattle.step_functions.specs.Functions.{run_count}
 use Rattle.hull_function.specs.Hours.{IsCostsOf, with_output}
 use Rattle.state_walk.specs.inside.CostToEnd.{cost_to_end}

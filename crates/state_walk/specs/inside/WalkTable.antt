@@ -3,7 +3,7 @@ use Rattle.std.specs.Prelude.{◌≡◌, ℕ, ◌≤◌, true, false, List, slic
 pub use Rattle.uc_model.specs.declared.instance.Thermal.{Thermal}
 pub use Rattle.uc_model.specs.declared.terms.Terms.{Terms}
 pub use Rattle.dual_model.specs.declared.node.Fix.{Fix}
-use Rattle.dual_model.specs.CostToGo.{cost_to_go}
+use Rattle.dual_model.specs.Prelude.{cost_to_go}
 pub use Rattle.state_walk.specs.declared.walk.CostToGo.{CostToGo}
 
 -- the table of the walk before period t, with n periods left: an entry for each time since which a state may last

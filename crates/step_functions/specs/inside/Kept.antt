@@ -1,6 +1,6 @@
 -- What each function keeps: its runs have steps, whose slopes rise, and its places and values are within the limits.
 use Rattle.std.specs.Prelude.{ℕ, ◌<◌, ◌≤◌, List, All, ◌*◌, ℤ, ◌+ℤ◌, ◌≤ℤ◌, unsigned_abs}
-use Rattle.uc_model.specs.Sums.{sum_below}
+use Rattle.uc_model.specs.Prelude.{sum_below}
 pub use Rattle.step_functions.specs.declared.runs.Run.{Run}
 use Rattle.step_functions.specs.Runs.{slope_at, steps_of}
 pub use Rattle.step_functions.specs.Functions.{Steps, MAX_VALUE, last_place, IsWithin, IsSmall}

@@ -1,7 +1,7 @@
 -- How a list keeps its tables: some whole, the changes of each one against the one before it, and for each table of which whole one and
 -- by which changes it is rebuilt.
 use Rattle.std.specs.Prelude.{◌≡◌, ℕ, suc, ◌-◌, ◌<◌, ◌≤◌, List, [], ◌∷◌, ◌++◌, Option, MatchOption, length, map, take, drop, slice_get, slice_index_or, ℤ, pos, All}
-use Rattle.dual_model.specs.Prices.{IsWellFormed}
+use Rattle.dual_model.specs.Prelude.{IsWellFormed}
 use Rattle.table_list.specs.Changes.{Table, Change, all_changed, table_changes}
 use Rattle.table_list.specs.TableChanges.{changes_of}
 pub use Rattle.table_list.specs.declared.kept.Entry.{Entry}

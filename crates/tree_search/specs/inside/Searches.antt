@@ -3,7 +3,7 @@ use Rattle.std.specs.Prelude.{◌≡◌, ℕ, None}
 use Rattle.atomic_table.specs.Seated.{TableId}
 use Rattle.uc_model.specs.declared.instance.Instance.{Instance}
 use Rattle.incumbent.specs.Passes.{Incumbent, Known}
-use Rattle.search_machine.specs.Moves.{bound_of}
+use Rattle.search_machine.specs.Prelude.{bound_of}
 use Rattle.book.specs.Opening.{Opening}
 use Rattle.opening.specs.declared.root_tables.Priced.{Priced}
 

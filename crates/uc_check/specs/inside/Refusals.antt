@@ -1,7 +1,7 @@
 -- Why a certificate was not accepted.
 use Rattle.std.specs.Prelude.{◌≡◌}
 use Rattle.uc_model.specs.declared.instance.Instance.{Instance}
-use Rattle.dual_model.specs.Certificate.{Certificate, CertificateHolds}
+use Rattle.dual_model.specs.Prelude.{Certificate, CertificateHolds}
 use Rattle.cert_text.specs.CertificateText.{listing_of}
 use Rattle.cert_text.specs.Reading.{listing_read}
 use Rattle.cert_text.specs.declared.cert.Cert.{Cert}

@@ -1,11 +1,9 @@
 -- What is picked for uplifts from a certificate that was read. This project's own.
 use Rattle.std.specs.Prelude.{◌≡◌, ℕ}
-use Rattle.uc_model.specs.Limits.{IsLawfulInstance}
-use Rattle.uc_model.specs.PrintedSchedule.{HasShapeOf, printed_denominator, printed_schedule}
-use Rattle.uc_model.specs.Rules.{Obeys}
+use Rattle.uc_model.specs.Prelude.{IsLawfulInstance, HasShapeOf, printed_denominator, printed_schedule, Obeys}
 pub use Rattle.uc_model.specs.declared.instance.Instance.{Instance}
-use Rattle.dual_model.specs.Prices.{IsLawfulTable}
-use Rattle.branch_tree.specs.Claims.{written_of}
+use Rattle.dual_model.specs.Prelude.{IsLawfulTable}
+use Rattle.branch_tree.specs.Prelude.{written_of}
 use Rattle.schedule_check.specs.SizedNumbers.{HasSizedNumbers}
 pub use Rattle.cert_text.specs.declared.cert.Cert.{Cert}
 use Rattle.uplift.specs.Uplift.{AreUplifts}

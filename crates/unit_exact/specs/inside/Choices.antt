@@ -2,7 +2,7 @@
 use Rattle.std.specs.Prelude.{◌≡◌, ◌⊎◌, ℤ, ◌≤ℤ◌, Option, Some, None}
 pub use Rattle.uc_model.specs.declared.pattern.Pattern.{Pattern}
 pub use Rattle.dual_model.specs.declared.choices.Choice.{Choice}
-pub use Rattle.dual_model.specs.Choices.{choice_cost, IsOneOf}
+pub use Rattle.dual_model.specs.Prelude.{choice_cost, IsOneOf}
 
 -- the cost is not below the limit: where it is there, so is the limit
 abbrev pub IsReached : Option ℤ → Option ℤ → Type 0

@@ -1,12 +1,10 @@
 -- The hours of a commitment, each at what is best in it by itself. Source: the single-unit problems of the Lagrangian relaxation
 -- of the reference model by Knueven, Ostrowski and Watson, whose hours nothing ties once ramps are priced.
 use Rattle.std.specs.Prelude.{◌≡◌, ℕ, zero, suc, ◌*◌, ◌<◌, true, false, ℤ, pos, ◌+ℤ◌, ◌-ℤ◌, ◌*ℤ◌, ◌≤ℤ◌, ◌<ℤ◌, unsigned_abs, Some}
-use Rattle.uc_model.specs.Commitment.{Commitment, starts, cap, initial_p}
-use Rattle.uc_model.specs.Terms.{term_at}
+use Rattle.uc_model.specs.Prelude.{Commitment, starts, cap, initial_p, term_at}
 use Rattle.uc_model.specs.declared.terms.Terms.{Terms}
-use Rattle.dual_model.specs.ExactValue.{floored_cost, greatest_output}
-use Rattle.dual_model.specs.PatternValue.{is_followed}
-use Rattle.dual_model.specs.Prices.{pi_at, mu_at}
+use Rattle.dual_model.specs.Prelude.{greatest_output, is_followed, pi_at, mu_at}
+use Rattle.dual_model.specs.ExactValue.{floored_cost}
 use Rattle.step_functions.specs.Functions.{IsPlace, value_at}
 use Rattle.unit_runs.specs.Runs.{KeepsRamps}
 use Rattle.hull_function.specs.Hulls.{Steps}

@@ -1,6 +1,6 @@
 -- The state of a run that goes on: its function gives the costs of its hours so far by the last output.
 use Rattle.std.specs.Prelude.{◌≡◌, ℕ, suc, ◌+◌, ◌*◌, ◌≤◌, true, ℤ, pos, neg_ℤ, nat_lt, Option, if◌then◌else◌}
-use Rattle.dual_model.specs.ExactValue.{greatest_output}
+use Rattle.dual_model.specs.Prelude.{greatest_output}
 use Rattle.step_functions.specs.Functions.{run_count}
 use Rattle.hull_function.specs.Hours.{IsCostsOf, IsNear, MAX_HOUR}
 use Rattle.hull_function.specs.Hulls.{Steps, IsBounded}

@@ -2,12 +2,12 @@
 -- (Dynamic Programming, 1957), over the graph of A. Frangioni and C. Gentile, "Solving Nonlinear Single-Unit Commitment
 -- Problems with Ramping Constraints" (Operations Research 54, 2006).
 use Rattle.std.specs.Prelude.{◌≡◌, ℕ, suc, ◌-◌, ◌*◌, ◌<◌, ◌≤◌, Bool, true, false, not, ◌==◌, List, ℤ, length, slice_index_or, unsigned_abs, IsTrue, Option, Some, None, IfSome, if◌then◌else◌}
-use Rattle.dual_model.specs.Moves.{may_be_off, may_be_on}
+use Rattle.dual_model.specs.Prelude.{may_be_off, may_be_on}
 use Rattle.dual_model.specs.CostToGo.{lesser_of, total_of}
 use Rattle.unit_runs.specs.RunsToGo.{Fix, last_cost, may_stay, runs_to_go, switch_cost}
 use Rattle.unit_exact.specs.inside.Choices.{Choice, choice_cost}
 use Rattle.unit_exact.specs.inside.Problems.{Table, Thermal, MAX_SWITCH}
-pub use Rattle.dual_model.specs.Choices.{next_after}
+pub use Rattle.dual_model.specs.Prelude.{next_after}
 pub use Rattle.unit_exact.specs.declared.choices.Switches.{Switches}
 
 -- what a switch in period t costs with all that follows; at the end of the horizon what is left to pay

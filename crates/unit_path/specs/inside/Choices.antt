@@ -3,12 +3,12 @@
 use Rattle.std.specs.Prelude.{◌≡◌, ℕ, zero, suc, ◌+◌, ◌-◌, ◌≤◌, Bool, true, false, ◌==◌, ℤ, pos, ◌+ℤ◌, Option, Some, None, IfSome, if◌then◌else◌}
 pub use Rattle.uc_model.specs.declared.instance.Thermal.{Thermal}
 pub use Rattle.uc_model.specs.declared.terms.Terms.{Terms}
-use Rattle.uc_model.specs.Terms.{period_count}
+use Rattle.uc_model.specs.Prelude.{period_count}
 pub use Rattle.dual_model.specs.declared.node.Fix.{Fix}
-use Rattle.dual_model.specs.Moves.{may_be_off, move}
-use Rattle.dual_model.specs.CostToGo.{cost_to_go, end_cost, total_of, IsWithin, MAX_COST_TO_GO}
+use Rattle.dual_model.specs.Prelude.{may_be_off, move, cost_to_go, end_cost, IsWithin, MAX_COST_TO_GO}
+use Rattle.dual_model.specs.CostToGo.{total_of}
 pub use Rattle.dual_model.specs.declared.choices.Choice.{Choice}
-pub use Rattle.dual_model.specs.Choices.{choice_cost, next_after, IsOneOf}
+pub use Rattle.dual_model.specs.Prelude.{choice_cost, next_after, IsOneOf}
 
 -- the choice with a cost before it
 abbrev pub longer_of : ℤ → Option Choice → Option Choice

@@ -1,11 +1,8 @@
 -- What the path knows of the periods from one on: the moves there, and the least ways from there. Source: Bellman's
 -- principle of optimality (Dynamic Programming, 1957).
 use Rattle.std.specs.Prelude.{◌≡◌, ℕ, suc, ◌+◌, ◌-◌, ◌*◌, ◌<◌, ◌≤◌, Bool, true, false, ◌&&◌, List, ℤ, pos, unsigned_abs, length, slice_index_or, Option, Some, None, if◌then◌else◌}
-use Rattle.uc_model.specs.StartCategory.{sigma}
-use Rattle.uc_model.specs.Terms.{period_count}
-use Rattle.dual_model.specs.Moves.{holds_initially, hour_before, may_be_off, may_be_on, stop_since}
-use Rattle.uc_model.specs.Switches.{may_start, may_stop}
-use Rattle.dual_model.specs.CostToGo.{IsWithin, MAX_MOVE}
+use Rattle.uc_model.specs.Prelude.{sigma, period_count, may_start, may_stop}
+use Rattle.dual_model.specs.Prelude.{holds_initially, hour_before, may_be_off, may_be_on, stop_since, IsWithin, MAX_MOVE}
 use Rattle.unit_path.specs.inside.Choices.{Fix, Terms, Thermal, Choice, choice_cost, IsLeastStart, IsLeastStop}
 pub use Rattle.unit_path.specs.declared.hour.Hour.{Hour}
 

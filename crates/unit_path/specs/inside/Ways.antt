@@ -1,12 +1,11 @@
 -- The way of a pattern from the initial state to the end of the horizon.
 use Rattle.std.specs.Prelude.{◌≡◌, ℕ, ◌≤◌, false, ℤ, Some}
-use Rattle.uc_model.specs.PatternBits.{commitment_of}
+use Rattle.uc_model.specs.Prelude.{commitment_of, period_count}
 pub use Rattle.uc_model.specs.declared.instance.Thermal.{Thermal}
 pub use Rattle.uc_model.specs.declared.pattern.Pattern.{Pattern}
 pub use Rattle.uc_model.specs.declared.terms.Terms.{Terms}
-use Rattle.uc_model.specs.Terms.{period_count}
 pub use Rattle.dual_model.specs.declared.node.Fix.{Fix}
-use Rattle.dual_model.specs.CostToGo.{way}
+use Rattle.dual_model.specs.Prelude.{way}
 
 -- the pattern's way from the initial state on has this cost, and past the last period the pattern is off
 pub record IsWay (terms : Terms) (unit : Thermal) (fix : Fix) (cost : ℤ) (pattern : Pattern) : Type 0 where

@@ -1,11 +1,8 @@
 -- What the functions of this crate answer: lists of numbers, and a unit's numbers by its row.
 use Rattle.std.specs.Prelude.{◌≡◌, ℕ, ◌<◌, ◌≤◌, List, ℤ, pos, ◌+ℤ◌, ◌-ℤ◌, ◌*ℤ◌, int_lt, length, slice_index_or, unsigned_abs, if◌then◌else◌}
 use Rattle.std.specs.Int.{int_max}
-use Rattle.uc_model.specs.Sums.{sum_below}
-use Rattle.uc_model.specs.Schedule.{thermal_count, renewable_count, renewable_minimum, renewable_maximum}
-use Rattle.uc_model.specs.PrintedSchedule.{printed_cell_cost}
-use Rattle.dual_model.specs.NodeValue.{constant_at}
-use Rattle.dual_model.specs.Prices.{pi_at}
+use Rattle.uc_model.specs.Prelude.{sum_below, thermal_count, renewable_count, renewable_minimum, renewable_maximum, printed_cell_cost}
+use Rattle.dual_model.specs.Prelude.{constant_at, pi_at}
 use Rattle.schedule_check.specs.SizedNumbers.{output_at}
 use Rattle.schedule_check.specs.WholeWatts.{cell}
 use Rattle.uplift.specs.Sizes.{MAX_UPLIFT}

@@ -1,6 +1,6 @@
 -- What the steps of a roll are for each other.
 use Rattle.std.specs.Prelude.{◌≡◌, ℕ, ◌<◌, ◌≤◌, ℤ, false, Some}
-use Rattle.uc_model.specs.Limits.{IsLawfulInstance}
+use Rattle.uc_model.specs.Prelude.{IsLawfulInstance}
 use Rattle.schedule_check.specs.Accepted.{IsAccepted, IsAcceptedIfFound}
 use Rattle.branch_tree.specs.declared.found.Found.{Found}
 use Rattle.roll.specs.NextWindow.{IsNextWindow}

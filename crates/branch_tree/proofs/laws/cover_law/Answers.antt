@@ -1,5 +1,5 @@
 -- The laws over definitions, at the tree that is stored.
-use Rattle.dual_model.specs.Tree.{root}
+use Rattle.dual_model.specs.Prelude.{root}
 use Rattle.dual_model.proofs.Covers.{agreeing_below, covers_bound, covers_exclude}
 use Rattle.branch_tree.specs.TreeView.{tree_of}
 use Rattle.branch_tree.specs.TreeLaws.{claims_of}

@@ -1,8 +1,8 @@
 -- Each step says what it says of any certificate that has the listing that was read.
 use Rattle.std.proofs.Common.{◌+◌, arith, sym, ap, subst, ◌∙◌, true≢false}
-use Rattle.dual_model.specs.Laws.{IsClaimTrue}
+use Rattle.dual_model.specs.Prelude.{IsClaimTrue}
 use Rattle.dual_model.proofs.Covers.{certificates_claim_truly}
-use Rattle.branch_tree.specs.Claims.{written_of}
+use Rattle.branch_tree.specs.Prelude.{written_of}
 use Rattle.cert_check.specs.Answers.{is_none}
 use Rattle.cert_check.specs.inside.Nodes.{IsFirstCode}
 use Rattle.cert_check.specs.inside.Numbers.{IsFirstOffOf}

@@ -1,6 +1,6 @@
 -- Each turn makes one visit, of the node at hand.
 use Rattle.std.proofs.Common.{◌≡◌, ◌↔◌, ℕ, suc, ◌+◌, ◌<◌, ◌≤◌, Bool, IsTrue, List, length, arith, sym, ap, subst, ◌∙◌, map, true, false, true≢false}
-use Rattle.uc_model.specs.Schedule.{thermal_count}
+use Rattle.uc_model.specs.Prelude.{thermal_count}
 use Rattle.cert_text.specs.CertificateText.{IsNodeWithin, TreeNode}
 use Rattle.cert_text.specs.Reading.{node_of}
 use Rattle.cert_text.specs.declared.cert.Cert.{Cert}

@@ -1,7 +1,7 @@
 -- Each way out of the match, from what reading the whole gives.
 use Rattle.std.proofs.Common.{◌≡◌, ◌≢◌, ℕ, List, [], Result, Ok, Err, IfOk, IfErr, MatchResult, refl, sym, ap, ◌∙◌}
 use Rattle.std.proofs.lemmas.Result.{IfOk-weaker, IfErr-weaker}
-use Rattle.dual_model.specs.Certificate.{Certificate}
+use Rattle.dual_model.specs.Prelude.{Certificate}
 use Rattle.cert_text.specs.CertificateText.{Version, listing_of, certificate_text}
 use Rattle.cert_text.specs.TextConditions.{HasText}
 use Rattle.cert_text.specs.Reading.{listing_read, IsTextOf}

@@ -1,7 +1,7 @@
 -- Each turn puts the table of its number behind the one before it.
 use Rattle.std.proofs.Common.{◌≡◌, map, get_or, sym, ◌∙◌, arith}
 use Rattle.std.proofs.lemmas.List.{get_or-map, get_or_read, length-map}
-use Rattle.branch_tree.specs.Claims.{table_at, no_table}
+use Rattle.branch_tree.specs.Prelude.{table_at, no_table}
 use Rattle.cert_text.proofs.Written.{next_table, last_table}
 use Rattle.cert_text.proofs.tables.put_numbered.Goals as goal
 

@@ -1,6 +1,6 @@
 -- What ends with the tables that are still to be put has all tables.
 use Rattle.std.proofs.Common.{drop, map, None, option_copied}
-use Rattle.branch_tree.specs.Claims.{table_at}
+use Rattle.branch_tree.specs.Prelude.{table_at}
 use Rattle.cert_text.specs.inside.WrittenParts.{tables_part}
 use Rattle.cert_text.proofs.tables.put_numbered.Given as goal
 

@@ -3,7 +3,7 @@ use Rattle.std.proofs.Common.{◌≡◌, get_or, w64, of_z, to_z, ◌++◌, [], 
 use Rattle.std.specs.Option.{option_map_or}
 use Rattle.std.proofs.lemmas.Int.{to_z-of_z}
 use Rattle.table_list.specs.TableChanges.{changes_of}
-use Rattle.branch_tree.specs.Claims.{no_table}
+use Rattle.branch_tree.specs.Prelude.{no_table}
 use Rattle.cert_text.specs.inside.WrittenParts.{table_part, tables_part}
 use Rattle.cert_text.proofs.Written.{first_table, next_told, last_table}
 use Rattle.cert_text.proofs.tables.put_tables.Goals as goal

@@ -3,9 +3,7 @@ use Rattle.std.proofs.Common.{◌≡◌, ℕ, ◌<◌, true, false, List, Option
 use Rattle.std.specs.List.{list_any}
 use Rattle.std.specs.Option.{option_map_or}
 use Rattle.std.proofs.lemmas.List.Folds.{list_any_at}
-use Rattle.branch_tree.specs.NumberedTree.{node_count}
-use Rattle.branch_tree.specs.TreeView.{tree_of}
-use Rattle.branch_tree.specs.UsedTables.{used_tables}
+use Rattle.branch_tree.specs.Prelude.{node_count, tree_of, used_tables}
 use Rattle.branch_tree.proofs.Preorder.{whole_part, numbers_within}
 use Rattle.cert_text.specs.CertificateText.{is_exact_node}
 use Rattle.cert_text.specs.inside.WrittenParts.{Spot, spot_node}

@@ -1,8 +1,7 @@
 -- None of the leaves so far claims by exact values.
 use Rattle.std.proofs.Common.{◌≡◌, false, take}
 use Rattle.std.specs.List.{list_any}
-use Rattle.branch_tree.specs.TreeView.{tree_of}
-use Rattle.branch_tree.specs.UsedTables.{used_tables}
+use Rattle.branch_tree.specs.Prelude.{tree_of, used_tables}
 use Rattle.cert_text.proofs.Parts.{exact_at}
 use Rattle.cert_text.proofs.tree.has_exact_leaf.Given as goal
 

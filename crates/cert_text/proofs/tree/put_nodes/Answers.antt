@@ -1,12 +1,10 @@
 -- The nodes in preorder are those of the tree, so their lines are.
 use Rattle.std.proofs.Common.{◌≡◌, ℕ, ◌<◌, List, length, get_or, take, subst, sym, ap, ◌∙◌, take_all}
 use Rattle.std.specs.List.{flat_map}
-use Rattle.branch_tree.specs.NumberedTree.{node_count}
-use Rattle.branch_tree.specs.TreeView.{tree_of}
-use Rattle.branch_tree.specs.Claims.{leaf_claim}
+use Rattle.branch_tree.specs.Prelude.{node_count, tree_of, leaf_claim}
 use Rattle.cert_text.specs.CertificateText.{preorder, node_line}
 use Rattle.cert_text.specs.inside.WrittenParts.{tree_part}
-use Rattle.dual_model.specs.Tree.{map_leaves}
+use Rattle.dual_model.specs.Prelude.{map_leaves}
 use Rattle.branch_tree.proofs.Preorder.{whole_part, numbers_within}
 use Rattle.cert_text.proofs.Parts.{line_at, lines_listed}
 use Rattle.cert_text.proofs.tree.put_nodes.Goals as goal

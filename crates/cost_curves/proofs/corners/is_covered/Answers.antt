@@ -1,6 +1,6 @@
 -- The corners are the last two of those that are kept.
 use Rattle.std.proofs.Common.{◌≡◌, suc, ◌-◌, arith, ◌∙◌}
-use Rattle.uc_model.specs.Points.{point_of}
+use Rattle.uc_model.specs.Prelude.{point_of}
 use Rattle.cost_curves.specs.LowerHull.{is_above}
 use Rattle.cost_curves.proofs.corners.is_covered.Goals as goal
 

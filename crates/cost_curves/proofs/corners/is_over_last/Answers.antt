@@ -1,6 +1,6 @@
 -- The last corner is the one before the end.
 use Rattle.std.proofs.Common.{◌≡◌, ◌-◌, arith, length, ◌∙◌}
-use Rattle.uc_model.specs.Points.{point_of}
+use Rattle.uc_model.specs.Prelude.{point_of}
 use Rattle.cost_curves.specs.inside.Corners.{is_over}
 use Rattle.cost_curves.proofs.corners.is_over_last.Goals as goal
 

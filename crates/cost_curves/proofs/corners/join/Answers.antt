@@ -1,7 +1,7 @@
 -- The corners with the next point: the same where it lies over the last one, else those that stay, and the point.
 use Rattle.std.proofs.Common.{◌≡◌, ◌+◌, sym, ap, subst, arith, suc, [], ◌∷◌, ◌++◌, take, length, ◌∙◌, slice_set}
 use Rattle.std.proofs.lemmas.List.{take_more_set, take-take, length-take-le}
-use Rattle.uc_model.specs.Points.{point_of}
+use Rattle.uc_model.specs.Prelude.{point_of}
 use Rattle.cost_curves.specs.LowerHull.{HullOfFirst}
 use Rattle.cost_curves.proofs.JoinedCorners.{next-from, hull_over, hull_joined, extended}
 use Rattle.cost_curves.proofs.corners.join.Goals as goal

@@ -1,6 +1,6 @@
 -- The kept corners cover the points, and the test that ends the loop leaves those that stay.
 use Rattle.std.proofs.Common.{arith, sym, subst}
-use Rattle.uc_model.specs.Points.{point_of}
+use Rattle.uc_model.specs.Prelude.{point_of}
 use Rattle.cost_curves.specs.LowerHull.{IsLawfulPoint}
 use Rattle.cost_curves.proofs.JoinedCorners.{covers_start, covers_next, joins}
 use Rattle.cost_curves.proofs.corners.kept_corners.Goals as goal

@@ -1,6 +1,6 @@
 -- The kept corners' last one sees no point right of it below the line to the next point.
 use Rattle.cost_curves.proofs.JoinedCorners.{Covers}
-use Rattle.uc_model.specs.Points.{point_of}
+use Rattle.uc_model.specs.Prelude.{point_of}
 use Rattle.cost_curves.proofs.corners.kept_corners.Given as goal
 
 abbrev pub invariant-loop-point : goal.invariant-loop-point

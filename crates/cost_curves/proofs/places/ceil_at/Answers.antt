@@ -2,12 +2,8 @@
 use Rattle.std.proofs.Common.{◌≡◌, ℕ, ◌<◌, ◌∙◌, sym, ap, subst, arith, List, ℤ, pos, to_z, of_z, FitsSigned, unsigned_abs, ◌-ℤ◌, ◌*ℤ◌, ◌≤ℤ◌, Some}
 use Rattle.std.specs.Int.{w64}
 use Rattle.std.proofs.lemmas.Int.{to_z-of_z}
-use Rattle.uc_model.specs.Hull.{Segment, segment_cost}
-use Rattle.uc_model.specs.Points.{point_of, output_of}
-use Rattle.uc_model.proofs.HullPoints.{Holds, abs_is}
-use Rattle.uc_model.proofs.Quotients.{IsCeiling-least}
-use Rattle.uc_model.proofs.Ring.{linear, mul_comm, mul-sub, sub_nonneg}
-use Rattle.uc_model.proofs.Sizes.{abs_narrow}
+use Rattle.uc_model.specs.Prelude.{Segment, segment_cost, point_of, output_of}
+use Rattle.uc_model.proofs.Common.{Holds, abs_is, IsCeiling-least, linear, mul_comm, mul-sub, sub_nonneg, abs_narrow}
 use Rattle.cost_curves.specs.LowerHull.{Point, IsLowerHull, width_of}
 use Rattle.cost_curves.specs.LeastCost.{IsLeastCostUp}
 use Rattle.cost_curves.specs.inside.Places.{HoldsOutput}

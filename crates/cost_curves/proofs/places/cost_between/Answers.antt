@@ -2,10 +2,9 @@
 use Rattle.std.proofs.Common.{◌*◌, subst, arith, to_z, of_z, ◌-ℤ◌, ◌*ℤ◌}
 use Rattle.std.specs.Int.{w64}
 use Rattle.std.proofs.lemmas.Int.{fits_signed_from_abs, to_z-of_z}
-use Rattle.uc_model.specs.Division.{IsCeiling}
+use Rattle.uc_model.specs.Prelude.{IsCeiling}
 use Rattle.uc_model.specs.declared.limits.TheConstants.{MAX_COST}
-use Rattle.uc_model.proofs.Ring.{linear}
-use Rattle.uc_model.proofs.Sizes.{abs_add, abs_narrow}
+use Rattle.uc_model.proofs.Common.{linear, abs_add, abs_narrow}
 use Rattle.cost_curves.proofs.CornerSizes.{cost-sum}
 use Rattle.cost_curves.proofs.places.cost_between.Goals as goal
 

@@ -2,9 +2,9 @@
 use Rattle.std.proofs.Common.{◌≡◌, ◌*◌, ◌<◌, ◌^◌, ◌∙◌, sym, ap, subst, arith, lit<, to_z, of_z, ◌-ℤ◌, ◌*ℤ◌, unsigned_abs}
 use Rattle.std.specs.Int.{w64}
 use Rattle.std.proofs.lemmas.Int.{fits_signed_from_abs}
-use Rattle.uc_model.specs.Points.{output_of}
+use Rattle.uc_model.specs.Prelude.{output_of}
 use Rattle.uc_model.specs.declared.limits.TheConstants.{MAX_DENOMINATOR, MAX_POWER}
-use Rattle.uc_model.proofs.Sizes.{narrow}
+use Rattle.uc_model.proofs.Common.{narrow}
 use Rattle.cost_curves.proofs.CornerSizes.{IsOver, over-is}
 use Rattle.cost_curves.proofs.places.over_left.Goals as goal
 

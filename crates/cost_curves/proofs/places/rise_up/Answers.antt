@@ -2,10 +2,10 @@
 use Rattle.std.proofs.Common.{◌≡◌, ◌*◌, ◌<◌, ◌≤◌, ◌^◌, ◌∙◌, sym, ap, subst, arith, lit<, to_z, of_z, ◌-ℤ◌, ◌*ℤ◌, unsigned_abs}
 use Rattle.std.specs.Int.{w64, w128}
 use Rattle.std.proofs.lemmas.Int.{fits_signed_from_abs}
-use Rattle.uc_model.specs.Division.{IsCeiling}
+use Rattle.uc_model.specs.Prelude.{IsCeiling}
 use Rattle.uc_model.specs.declared.limits.TheConstants.{MAX_COST}
-use Rattle.uc_model.proofs.Ring.{linear}
-use Rattle.uc_model.proofs.Sizes.{narrow, wide}
+use Rattle.uc_model.proofs.Common.{linear, narrow}
+use Rattle.uc_model.proofs.Sizes.{wide}
 use Rattle.cost_curves.proofs.CornerSizes.{width-positive, ceiling-is}
 use Rattle.cost_curves.proofs.places.rise_up.Goals as goal
 

@@ -1,9 +1,9 @@
 -- The corners at the place, and the next, are the ends of the segment.
 use Rattle.std.proofs.Common.{◌≡◌, ◌+◌, ◌*◌, suc, arith, ◌∙◌, lit<, ◌-ℤ◌}
 use Rattle.std.proofs.lemmas.Int.{to_z-of_z}
-use Rattle.uc_model.specs.Points.{point_of}
+use Rattle.uc_model.specs.Prelude.{point_of}
 use Rattle.uc_model.specs.declared.limits.TheConstants.{MAX_COST, MAX_POWER}
-use Rattle.uc_model.proofs.Sizes.{narrow}
+use Rattle.uc_model.proofs.Common.{narrow}
 use Rattle.cost_curves.proofs.HullValues.{slope_is}
 use Rattle.cost_curves.proofs.places.slope.Goals as goal
 

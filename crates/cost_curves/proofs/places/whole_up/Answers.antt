@@ -2,9 +2,10 @@
 use Rattle.std.proofs.Common.{◌≡◌, ◌*◌, ◌<◌, ◌≤◌, ◌^◌, ◌∙◌, sym, ap, subst, arith, lit<, to_z, of_z, pos, ◌≤ℤ◌, unsigned_abs}
 use Rattle.std.specs.Int.{w64, w128}
 use Rattle.std.proofs.lemmas.Int.{fits_signed_from_abs, to_z-of_z}
-use Rattle.uc_model.specs.Division.{IsCeiling}
+use Rattle.uc_model.specs.Prelude.{IsCeiling}
 use Rattle.uc_model.specs.declared.limits.TheConstants.{MAX_DENOMINATOR, MAX_POWER}
-use Rattle.uc_model.proofs.Sizes.{narrow, wide}
+use Rattle.uc_model.proofs.Common.{narrow}
+use Rattle.uc_model.proofs.Sizes.{wide}
 use Rattle.cost_curves.proofs.CornerSizes.{between-size, whole-is}
 use Rattle.cost_curves.proofs.places.whole_up.Goals as goal
 

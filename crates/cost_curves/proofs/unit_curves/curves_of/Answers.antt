@@ -1,7 +1,7 @@
 -- One curve more.
 use Rattle.std.proofs.Common.{◌≡◌, ◌+◌, ◌<◌, length, List, sym, ap, subst, ◌∙◌, arith, slice_index_or}
 use Rattle.std.proofs.lemmas.List.{get_or_default}
-use Rattle.uc_model.specs.Schedule.{no_unit, thermal_unit}
+use Rattle.uc_model.specs.Prelude.{no_unit, thermal_unit}
 use Rattle.uc_model.specs.declared.instance.Thermal.{Thermal}
 use Rattle.cost_curves.specs.LowerHull.{IsLowerHull}
 use Rattle.cost_curves.specs.UnitCurves.{AreCurvesTo}

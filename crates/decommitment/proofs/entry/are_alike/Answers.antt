@@ -1,7 +1,7 @@
 -- The unit that differs isn't one of the stretch, and the others gave as much before.
 use Rattle.std.proofs.Common.{◌≡◌, ◌∙◌, ap, length, subst, sym}
 use Rattle.std.proofs.lemmas.Bool.{true≢false}
-use Rattle.uc_model.specs.Schedule.{renewable_count}
+use Rattle.uc_model.specs.Prelude.{renewable_count}
 use Rattle.decommitment.specs.inside.Stretches.{IsSameAt}
 use Rattle.decommitment.proofs.entry.are_alike.Goals as goal
 

@@ -1,9 +1,7 @@
 -- The unit's range is empty, or it enters with its least amount at the level.
 use Rattle.std.proofs.Common.{◌≡◌, ◌+◌, ◌*◌, ◌∙◌, length, arith, sym, ap, subst, slice_set, ◌<ℤ◌}
-use Rattle.uc_model.specs.Schedule.{renewable_count}
-use Rattle.uc_model.proofs.Ring.{linear}
-use Rattle.uc_model.proofs.Sizes.{narrow}
-use Rattle.uc_model.proofs.Tests.{int_lt-true}
+use Rattle.uc_model.specs.Prelude.{renewable_count}
+use Rattle.uc_model.proofs.Common.{linear, narrow, int_lt-true}
 use Rattle.dispatch_repair.specs.Amounts.{MAX_POWER}
 use Rattle.dispatch_repair.proofs.Numbers.{at_most}
 use Rattle.dispatch_repair.specs.Rooms.{rows_of}

@@ -1,8 +1,7 @@
 -- The unit is alike, or it enters in the place of its part in the base.
 use Rattle.std.proofs.Common.{◌≡◌, ◌+◌, ◌*◌, ◌∙◌, arith, length, ap, sym, subst, MatchOption}
-use Rattle.uc_model.specs.PatternBits.{commitment_of}
-use Rattle.uc_model.specs.Schedule.{renewable_count}
-use Rattle.uc_model.proofs.Sizes.{narrow}
+use Rattle.uc_model.specs.Prelude.{commitment_of, renewable_count}
+use Rattle.uc_model.proofs.Common.{narrow}
 use Rattle.dispatch_repair.specs.Amounts.{MAX_POWER, IsSizedOutput, amount_at}
 use Rattle.dispatch_repair.specs.Stuck.{HaveRanges, IsFirstObstacle}
 use Rattle.decommitment.specs.inside.Fills.{IsAlike, IsEntered, Part, base_parts, hour_period, unit_part}

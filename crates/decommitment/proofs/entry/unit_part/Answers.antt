@@ -1,9 +1,7 @@
 -- The unit is the instance's, and the bits keep the numbers.
 use Rattle.std.proofs.Common.{◌∙◌, ◌*ℤ◌, sym, subst, w64}
 use Rattle.std.proofs.lemmas.Int.{to_z-of_z}
-use Rattle.uc_model.specs.Limits.{IsLawfulThermal}
-use Rattle.uc_model.specs.PatternBits.{commitment_of}
-use Rattle.uc_model.specs.Sums.{bit}
+use Rattle.uc_model.specs.Prelude.{IsLawfulThermal, commitment_of, bit}
 use Rattle.dispatch_repair.specs.Period.{head, highest, lowest}
 use Rattle.dispatch_repair.proofs.Places.{unit_read}
 use Rattle.decommitment.proofs.entry.unit_part.Goals as goal

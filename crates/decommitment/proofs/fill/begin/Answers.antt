@@ -1,6 +1,6 @@
 -- The sums over the renewable units stand in the period's.
 use Rattle.std.proofs.Common.{◌*◌, arith, refl}
-use Rattle.uc_model.proofs.Sizes.{narrow}
+use Rattle.uc_model.proofs.Common.{narrow}
 use Rattle.dispatch_repair.specs.Totals.{MAX_POWER, MAX_UNITS}
 use Rattle.decommitment.specs.inside.Fills.{hour_period}
 use Rattle.decommitment.proofs.Entries.{begun_all}

@@ -1,7 +1,7 @@
 -- A renewable unit more gives its least.
 use Rattle.std.proofs.Common.{◌*◌, ◌∙◌, ◌<◌, ap, arith, length, pos, slice_set, sym, subst, ◌≤ℤ◌}
-use Rattle.uc_model.specs.Schedule.{renewable_count, renewable_minimum}
-use Rattle.uc_model.proofs.Sizes.{narrow}
+use Rattle.uc_model.specs.Prelude.{renewable_count, renewable_minimum}
+use Rattle.uc_model.proofs.Common.{narrow}
 use Rattle.dispatch_repair.specs.Amounts.{MAX_POWER}
 use Rattle.dispatch_repair.proofs.Filled.{max_right}
 use Rattle.decommitment.specs.inside.Fills.{IsBegunTo, IsSizedAmount, hour_period}

@@ -1,6 +1,6 @@
 -- A unit more enters, with no part before.
 use Rattle.std.proofs.Common.{◌≡◌, length, arith, ap, subst}
-use Rattle.uc_model.specs.Schedule.{thermal_count}
+use Rattle.uc_model.specs.Prelude.{thermal_count}
 use Rattle.decommitment.specs.inside.Fills.{AreEntered, IsEntered, Part, hour_period, no_part}
 use Rattle.decommitment.proofs.Entries.{entered_more, no_sizes, ready_anew}
 use Rattle.decommitment.proofs.fill.enter_all.Goals as goal

@@ -1,6 +1,6 @@
 -- A stretch more enters, in the place of the base's.
 use Rattle.std.proofs.Common.{◌≡◌, length, arith, ap, subst, sym}
-use Rattle.uc_model.specs.Schedule.{thermal_count}
+use Rattle.uc_model.specs.Prelude.{thermal_count}
 use Rattle.decommitment.specs.inside.Fills.{AreEntered, base_parts, hour_period}
 use Rattle.decommitment.proofs.Entries.{ready_again}
 use Rattle.decommitment.proofs.fill.renew_all.Goals as goal

@@ -1,7 +1,7 @@
 -- An amount rises by no more than is missing, and goes on where that isn't all.
 use Rattle.std.proofs.Common.{◌≡◌, ◌∙◌, ◌⊎◌, sym, subst, pos, ◌+ℤ◌, ◌≤ℤ◌, ◌<ℤ◌, w64, to_z, of_z}
 use Rattle.std.proofs.lemmas.Int.{to_z-of_z}
-use Rattle.uc_model.proofs.Tests.{int_lt-true}
+use Rattle.uc_model.proofs.Common.{int_lt-true}
 use Rattle.decommitment.proofs.Steps.{risen_by}
 use Rattle.decommitment.proofs.level.risen.Goals as goal
 

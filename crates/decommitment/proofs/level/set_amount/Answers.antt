@@ -1,7 +1,7 @@
 -- The sums change by what the amount changes.
 use Rattle.std.proofs.Common.{◌≡◌, ◌*◌, ◌∙◌, ◌+ℤ◌, ◌-ℤ◌, arith, length, sym, subst, ap, nat_lt, w64, to_z, of_z, slice_set, if◌then◌else◌}
 use Rattle.std.proofs.lemmas.Int.{to_z-of_z}
-use Rattle.uc_model.proofs.Sizes.{narrow}
+use Rattle.uc_model.proofs.Common.{narrow}
 use Rattle.dispatch_repair.specs.Amounts.{MAX_POWER, amount_at}
 use Rattle.decommitment.specs.inside.Fills.{AreGiven}
 use Rattle.decommitment.proofs.Givens.{given_set}

@@ -1,8 +1,6 @@
 -- The unit is the instance's, and has an allowed pattern.
 use Rattle.std.proofs.Common.{subst, sym}
-use Rattle.uc_model.specs.ExtremePatterns.{HasNoAllowedPattern}
-use Rattle.uc_model.specs.Limits.{IsLawfulThermal}
-use Rattle.uc_model.specs.Schedule.{thermal_unit}
+use Rattle.uc_model.specs.Prelude.{HasNoAllowedPattern, IsLawfulThermal, thermal_unit}
 use Rattle.dispatch_repair.proofs.Places.{unit_read}
 use Rattle.decommitment.proofs.patterns.fewest.Goals as goal
 

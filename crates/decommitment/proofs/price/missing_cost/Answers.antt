@@ -1,7 +1,6 @@
 -- What is missing costs what it does in the schedule.
 use Rattle.std.proofs.Common.{◌*◌, ◌^◌, ◌∙◌, arith}
-use Rattle.uc_model.specs.PrintedSchedule.{printed_shortage_cost}
-use Rattle.uc_model.specs.Sums.{sum_below}
+use Rattle.uc_model.specs.Prelude.{printed_shortage_cost, sum_below}
 use Rattle.uc_model.proofs.Sizes.{wide}
 use Rattle.schedule_check.specs.WholeWatts.{lacking_alone}
 use Rattle.decommitment.proofs.RunCosts.{missing_total}

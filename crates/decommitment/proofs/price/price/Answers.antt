@@ -1,6 +1,7 @@
 -- The units' costs and those of what is missing, as 128 bits keep them.
 use Rattle.std.proofs.Common.{◌≡◌, ◌+◌, ◌*◌, ◌^◌, ◌≤◌, ◌∙◌, sym, subst, arith, ◌+ℤ◌, unsigned_abs}
-use Rattle.uc_model.proofs.Sizes.{abs_add, wide}
+use Rattle.uc_model.proofs.Common.{abs_add}
+use Rattle.uc_model.proofs.Sizes.{wide}
 use Rattle.decommitment.proofs.RunCosts.{whole_cost}
 use Rattle.decommitment.proofs.price.price.Goals as goal
 

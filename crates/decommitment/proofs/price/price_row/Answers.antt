@@ -1,8 +1,6 @@
 -- The unit is the instance's, and its cells have prices.
 use Rattle.std.proofs.Common.{◌*◌, ◌^◌, ◌<◌, ◌∙◌, arith, ap, length, subst, sym}
-use Rattle.uc_model.specs.Limits.{IsLawfulThermal}
-use Rattle.uc_model.specs.PrintedSchedule.{printed_cell_cost}
-use Rattle.uc_model.specs.Sums.{sum_below}
+use Rattle.uc_model.specs.Prelude.{IsLawfulThermal, printed_cell_cost, sum_below}
 use Rattle.uc_model.specs.declared.instance.Thermal.{Thermal}
 use Rattle.uc_model.proofs.Sizes.{wide}
 use Rattle.schedule_check.specs.WholeWatts.{HasPrice, cell}

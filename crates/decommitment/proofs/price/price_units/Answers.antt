@@ -1,6 +1,6 @@
 -- The next unit's cost is written, and is the next term.
 use Rattle.std.proofs.Common.{◌+◌, ◌*◌, ◌^◌, ◌<◌, ◌∙◌, arith, length, length-set, set, subst, sym}
-use Rattle.uc_model.specs.Schedule.{thermal_count}
+use Rattle.uc_model.specs.Prelude.{thermal_count}
 use Rattle.uc_model.proofs.Sizes.{wide}
 use Rattle.decommitment.proofs.RunCosts.{HasCosts, costs_more}
 use Rattle.decommitment.proofs.price.price_units.Goals as goal

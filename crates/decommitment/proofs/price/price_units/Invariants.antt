@@ -1,6 +1,6 @@
 -- What the units so far cost is written, and their sum.
 use Rattle.std.proofs.Common.{◌≡◌, ◌*◌, ◌^◌, ◌≤◌, length, unsigned_abs}
-use Rattle.uc_model.specs.Sums.{sum_below}
+use Rattle.uc_model.specs.Prelude.{sum_below}
 use Rattle.decommitment.specs.inside.Runs.{AreUnitCosts, cost_at}
 use Rattle.decommitment.proofs.price.price_units.Given as goal
 

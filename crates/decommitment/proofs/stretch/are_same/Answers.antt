@@ -1,6 +1,6 @@
 -- One more is the same, unless a difference was found.
 use Rattle.std.proofs.Common.{inl, inr, arith, subst, sym}
-use Rattle.uc_model.proofs.Sums.{below_or_last}
+use Rattle.uc_model.proofs.Common.{below_or_last}
 use Rattle.decommitment.specs.inside.Stretches.{IsSameAt}
 use Rattle.decommitment.proofs.stretch.are_same.Goals as goal
 

@@ -1,6 +1,6 @@
 -- The parts make the instance of the seed, which is lawful and may run throughout.
 use Rattle.std.proofs.Common.{◌*◌, ◌/◌, [], ◌∷◌, sym, ap, subst, ◌∙◌, arith, map, replicate}
-use Rattle.uc_model.specs.Limits.{IsLawfulInstance}
+use Rattle.uc_model.specs.Prelude.{IsLawfulInstance}
 use Rattle.demo_gen.specs.Demo.{MayAllRun, demand_at, demo_instance, millions, percents}
 use Rattle.demo_gen.proofs.FirstUnits.{minimum-size, range-size}
 use Rattle.demo_gen.proofs.Lawful.{demo_lawful, demo_runs}

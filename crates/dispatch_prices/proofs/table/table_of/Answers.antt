@@ -2,7 +2,7 @@
 use Rattle.std.proofs.Common.{◌≤ℤ◌, ◌∙◌, sym, ap, subst, pos, length, All}
 use Rattle.std.specs.Int.{w64}
 use Rattle.std.proofs.lemmas.Int.{to_z-of_z}
-use Rattle.dual_model.specs.Prices.{AreRising, IsRowWithin}
+use Rattle.dual_model.specs.Prelude.{AreRising, IsRowWithin}
 use Rattle.dispatch_prices.specs.PricedLimits.{up_price, down_price}
 use Rattle.dispatch_prices.proofs.RampRows.{rows_within, rows_rising}
 use Rattle.dispatch_prices.proofs.table.table_of.Goals as goal

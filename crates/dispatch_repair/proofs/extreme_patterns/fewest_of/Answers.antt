@@ -1,8 +1,8 @@
 -- A must-run unit's only pattern; else off throughout, or on until the first period in which the unit may stop.
 use Rattle.std.proofs.Common.{arith}
 use Rattle.std.proofs.lemmas.Int.{ints}
-use Rattle.uc_model.specs.ExtremePatterns.{on_during}
-use Rattle.uc_model.proofs.ExtremePatterns.{fewest-from_lowest, lowest-kept_off, none-too_high}
+use Rattle.uc_model.specs.Prelude.{on_during}
+use Rattle.uc_model.proofs.Common.{fewest-from_lowest, lowest-kept_off, none-too_high}
 use Rattle.dispatch_repair.proofs.RunPatterns.{fewest-of_run, fewest-must_run, off-of_run}
 use Rattle.dispatch_repair.proofs.extreme_patterns.fewest_of.Goals as goal
 

@@ -1,8 +1,8 @@
 -- The unit's patterns by whether it is strong enough to start, and whether it must run.
 use Rattle.std.proofs.Common.{◌≡◌, ◌-◌, min, sym, subst, ◌∙◌, arith, true≢false}
 use Rattle.std.proofs.lemmas.Int.{ints}
-use Rattle.uc_model.specs.ExtremePatterns.{IsMostOn, on_during}
-use Rattle.uc_model.proofs.ExtremePatterns.{most-from_highest, highest-started, highest-kept_off, none-held_off, none-too_weak}
+use Rattle.uc_model.specs.Prelude.{IsMostOn, on_during}
+use Rattle.uc_model.proofs.Common.{most-from_highest, highest-started, highest-kept_off, none-held_off, none-too_weak}
 use Rattle.dispatch_repair.proofs.extreme_patterns.first_start.Goals as goal
 use Rattle.dispatch_repair.proofs.extreme_patterns.first_start.Goals.{else-unit-3-via-then-unit-3+else-held-gt0, else-unit-3-via-else-unit-3}
 

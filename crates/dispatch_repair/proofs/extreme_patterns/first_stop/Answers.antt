@@ -1,8 +1,8 @@
 -- The unit's patterns by whether it may stop at once, and whether it may ever.
 use Rattle.std.proofs.Common.{◌≡◌, ◌-◌, ◌<◌, ◌⊎◌, inl, inr, min, max, subst, arith, ◌<ℤ◌}
 use Rattle.std.proofs.lemmas.Int.{ints}
-use Rattle.uc_model.specs.ExtremePatterns.{IsFewestOn, on_during}
-use Rattle.uc_model.proofs.ExtremePatterns.{fewest-from_lowest, lowest-stopped_at_once, lowest-stopped, lowest-kept_on}
+use Rattle.uc_model.specs.Prelude.{IsFewestOn, on_during}
+use Rattle.uc_model.proofs.Common.{fewest-from_lowest, lowest-stopped_at_once, lowest-stopped, lowest-kept_on}
 use Rattle.dispatch_repair.proofs.extreme_patterns.first_stop.Goals as goal
 use Rattle.dispatch_repair.proofs.extreme_patterns.first_stop.Goals.{else-held-eq0-via-then-held-eq0+else-unit, else-held-eq0-via-else-held-eq0}
 

@@ -1,8 +1,8 @@
 -- On throughout, or from the first period in which the unit may start.
 use Rattle.std.proofs.Common.{arith}
 use Rattle.std.proofs.lemmas.Int.{ints}
-use Rattle.uc_model.specs.ExtremePatterns.{on_during}
-use Rattle.uc_model.proofs.ExtremePatterns.{most-from_highest, highest-kept_on, none-too_high}
+use Rattle.uc_model.specs.Prelude.{on_during}
+use Rattle.uc_model.proofs.Common.{most-from_highest, highest-kept_on, none-too_high}
 use Rattle.dispatch_repair.proofs.RunPatterns.{most-of_run, off-of_run}
 use Rattle.dispatch_repair.proofs.extreme_patterns.most_of.Goals as goal
 

@@ -1,9 +1,8 @@
 -- One period more.
 use Rattle.std.proofs.Common.{◌≡◌, ℕ, ◌+◌, ◌<◌, ◌≤◌, ⊎_elim, ◌&&◌, sym, ap, ◌∙◌, arith, nat_le}
 use Rattle.std.proofs.lemmas.Bool.{cases_eq, cases_lt, lt-ltb, le-ltb}
-use Rattle.uc_model.specs.PatternBits.{commitment_of}
-use Rattle.uc_model.specs.ExtremePatterns.{on_during}
-use Rattle.uc_model.proofs.PeriodRuns.{during-from, during-off_before, during-off_past}
+use Rattle.uc_model.specs.Prelude.{commitment_of, on_during}
+use Rattle.uc_model.proofs.Common.{during-from, during-off_before, during-off_past}
 use Rattle.dispatch_repair.proofs.extreme_patterns.pattern_on.Goals as goal
 
 longer : (first t k : ℕ) → (k ≡ t → ⊥) → on_during first t k ≡ on_during first (t + 1) k

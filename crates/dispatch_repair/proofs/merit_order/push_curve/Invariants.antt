@@ -1,6 +1,6 @@
 -- The segments of the sources before, and those between the corners so far.
 use Rattle.std.proofs.Common.{◌≡◌, ℕ, ◌+◌, ◌<◌}
-use Rattle.uc_model.specs.Schedule.{renewable_count, thermal_count, thermal_unit}
+use Rattle.uc_model.specs.Prelude.{renewable_count, thermal_count, thermal_unit}
 use Rattle.cost_curves.specs.LowerHull.{IsLowerHull}
 use Rattle.dispatch_repair.specs.Segments.{Instance, AreSegmentsOf}
 use Rattle.dispatch_repair.proofs.CurveSegments.{ArePushed}

@@ -1,7 +1,7 @@
 -- A thermal unit has the segments of its curve.
 use Rattle.std.proofs.Common.{◌≡◌, ◌+◌, ◌<◌, length, arith, sym, subst, ap, ◌∙◌, slice_index_or}
 use Rattle.std.proofs.lemmas.List.{get_or_read}
-use Rattle.uc_model.specs.Schedule.{thermal_unit, renewable_count, no_unit}
+use Rattle.uc_model.specs.Prelude.{thermal_unit, renewable_count, no_unit}
 use Rattle.uc_model.specs.declared.instance.Thermal.{Thermal}
 use Rattle.cost_curves.specs.LowerHull.{IsLowerHull}
 use Rattle.dispatch_repair.specs.Segments.{AreSegmentsOf}

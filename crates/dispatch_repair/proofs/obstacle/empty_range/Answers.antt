@@ -1,9 +1,7 @@
 -- The range behind the renewable units' is that of the thermal unit.
 use Rattle.std.proofs.Common.{◌≡◌, ℕ, ◌+◌, ◌<◌, arith, sym, subst, ◌∙◌, List, length, ◌≤ℤ◌, ◌<ℤ◌, below_more}
-use Rattle.uc_model.specs.Schedule.{renewable_count, thermal_count}
-use Rattle.uc_model.proofs.Ring.{linear}
-use Rattle.uc_model.proofs.Sizes.{narrow}
-use Rattle.uc_model.proofs.Tests.{int_lt-true}
+use Rattle.uc_model.specs.Prelude.{renewable_count, thermal_count}
+use Rattle.uc_model.proofs.Common.{linear, narrow, int_lt-true}
 use Rattle.dispatch_repair.specs.Period.{Period, FromThermal}
 use Rattle.dispatch_repair.specs.Amounts.{Range, AreRangesOf, range_at}
 use Rattle.dispatch_repair.specs.Segments.{source_count}

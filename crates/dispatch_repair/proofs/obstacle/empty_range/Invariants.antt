@@ -1,6 +1,6 @@
 -- The ranges of the units so far aren't empty.
 use Rattle.std.proofs.Common.{◌≡◌, length}
-use Rattle.uc_model.specs.Schedule.{renewable_count}
+use Rattle.uc_model.specs.Prelude.{renewable_count}
 use Rattle.dispatch_repair.specs.Period.{Period}
 use Rattle.dispatch_repair.specs.Stuck.{HaveRanges}
 use Rattle.dispatch_repair.specs.Amounts.{AreRangesOf}

@@ -1,8 +1,7 @@
 -- A test that fails is the fact that the next obstacle stands on.
 use Rattle.std.proofs.Common.{◌≡◌, ◌≤ℤ◌, ℤ, ◌*◌, ◌≤◌, ap, sym, arith, ◌∙◌, w64, to_z, of_z, unsigned_abs}
-use Rattle.uc_model.specs.Limits.{IsPower}
-use Rattle.uc_model.proofs.Ring.{linear}
-use Rattle.uc_model.proofs.Sizes.{narrow}
+use Rattle.uc_model.specs.Prelude.{IsPower}
+use Rattle.uc_model.proofs.Common.{linear, narrow}
 use Rattle.dispatch_repair.specs.Period.{Instance}
 use Rattle.dispatch_repair.specs.Totals.{MAX_POWER, MAX_UNITS, IsSizedTotal}
 use Rattle.dispatch_repair.proofs.Numbers.{beyond, kept, kept_at_most, not_beyond}

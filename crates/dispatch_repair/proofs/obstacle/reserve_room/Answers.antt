@@ -1,7 +1,7 @@
 -- Each number is that of the sums, and the bits keep it.
 use Rattle.std.proofs.Common.{◌+◌, ◌*◌, ◌∙◌, arith, ◌-ℤ◌, w64, to_z, of_z}
 use Rattle.std.specs.Int.{int_max}
-use Rattle.uc_model.proofs.Sizes.{abs_sub, narrow}
+use Rattle.uc_model.proofs.Common.{abs_sub, narrow}
 use Rattle.dispatch_repair.specs.Totals.{MAX_POWER, MAX_UNITS}
 use Rattle.dispatch_repair.proofs.obstacle.reserve_room.Goals as goal
 

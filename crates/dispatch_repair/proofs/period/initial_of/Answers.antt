@@ -1,9 +1,8 @@
 -- The unit at the place is the instance's.
 use Rattle.std.proofs.Common.{◌∙◌, ◌*◌, ap, lit<, sym, subst}
-use Rattle.uc_model.specs.Commitment.{initial_p}
-use Rattle.uc_model.specs.Limits.{IsLawfulThermal}
+use Rattle.uc_model.specs.Prelude.{initial_p, IsLawfulThermal}
 use Rattle.uc_model.specs.declared.limits.TheConstants.{MAX_POWER}
-use Rattle.uc_model.proofs.Sizes.{narrow}
+use Rattle.uc_model.proofs.Common.{narrow}
 use Rattle.dispatch_repair.proofs.Places.{unit_read}
 use Rattle.dispatch_repair.proofs.period.initial_of.Goals as goal
 

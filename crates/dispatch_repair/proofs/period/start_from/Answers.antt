@@ -1,6 +1,6 @@
 -- Without an obstacle what is left at first isn't below 0.
 use Rattle.std.proofs.Common.{subst, sym}
-use Rattle.uc_model.specs.Limits.{IsLawfulInstance}
+use Rattle.uc_model.specs.Prelude.{IsLawfulInstance}
 use Rattle.dispatch_repair.proofs.Shortages.{started}
 use Rattle.dispatch_repair.proofs.period.start_from.Goals as goal
 

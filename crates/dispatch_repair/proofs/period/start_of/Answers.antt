@@ -1,7 +1,6 @@
 -- What is left is that of the period as it is served.
 use Rattle.std.proofs.Common.{◌*◌, ◌∙◌, arith}
-use Rattle.uc_model.proofs.Ring.{linear}
-use Rattle.uc_model.proofs.Sizes.{narrow}
+use Rattle.uc_model.proofs.Common.{linear, narrow}
 use Rattle.dispatch_repair.specs.Filled.{served_by}
 use Rattle.dispatch_repair.specs.Totals.{MAX_POWER, MAX_UNITS}
 use Rattle.dispatch_repair.proofs.Shortages.{totals_served}

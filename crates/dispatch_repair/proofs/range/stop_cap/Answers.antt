@@ -1,7 +1,6 @@
 -- The stop is looked for in the next period.
 use Rattle.std.proofs.Common.{◌≡◌, suc, ◌+◌, ◌∙◌, ap, arith, rules}
-use Rattle.uc_model.specs.Commitment.{stops}
-use Rattle.uc_model.specs.PatternBits.{commitment_of}
+use Rattle.uc_model.specs.Prelude.{stops, commitment_of}
 use Rattle.dispatch_repair.proofs.range.stop_cap.Goals as goal
 
 pub returns-clause-value : goal.returns-clause-value

@@ -1,6 +1,6 @@
 -- The end is that of the head.
 use Rattle.std.proofs.Common.{◌*◌, arith, rules}
-use Rattle.uc_model.proofs.Sizes.{narrow}
+use Rattle.uc_model.proofs.Common.{narrow}
 use Rattle.dispatch_repair.specs.Amounts.{MAX_POWER}
 use Rattle.dispatch_repair.proofs.range.unit_reach.Goals as goal
 

@@ -1,7 +1,6 @@
 -- The unit is the instance's, and what it gave before is its amount.
 use Rattle.std.proofs.Common.{◌≡◌, ◌+◌, ap, sym, subst, ◌∙◌, length}
-use Rattle.uc_model.specs.Limits.{IsLawfulThermal}
-use Rattle.uc_model.specs.Schedule.{renewable_count}
+use Rattle.uc_model.specs.Prelude.{IsLawfulThermal, renewable_count}
 use Rattle.dispatch_repair.specs.Period.{commitment_at, lowest, highest}
 use Rattle.dispatch_repair.specs.Dispatch.{period_after}
 use Rattle.dispatch_repair.specs.Amounts.{amount_at, thermal_amount}

@@ -1,6 +1,6 @@
 -- A range more.
 use Rattle.std.proofs.Common.{◌≡◌, ◌<◌, arith, pos, length, subst, ap, ◌∙◌}
-use Rattle.uc_model.specs.Schedule.{renewable_count}
+use Rattle.uc_model.specs.Prelude.{renewable_count}
 use Rattle.dispatch_repair.specs.Dispatch.{period_after}
 use Rattle.dispatch_repair.specs.Amounts.{IsRangeOf}
 use Rattle.dispatch_repair.proofs.Places.{renewable_range}

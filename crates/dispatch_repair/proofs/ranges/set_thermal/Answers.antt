@@ -1,8 +1,8 @@
 -- A head more, and a range more behind those of the renewable units.
 use Rattle.std.proofs.Common.{◌≡◌, ℕ, ◌+◌, ◌<◌, pos, subst, sym, ap, ◌∙◌, length, arith, w64, to_z, of_z}
 use Rattle.std.proofs.Math.ListN.{set}
-use Rattle.uc_model.specs.Schedule.{renewable_count, thermal_count}
-use Rattle.uc_model.proofs.Sizes.{narrow}
+use Rattle.uc_model.specs.Prelude.{renewable_count, thermal_count}
+use Rattle.uc_model.proofs.Common.{narrow}
 use Rattle.dispatch_repair.specs.Dispatch.{period_after}
 use Rattle.dispatch_repair.specs.Amounts.{IsHeadOf, IsRangeOf, amount_at, thermal_amount, range_at}
 use Rattle.dispatch_repair.proofs.Listed.{below_set, below_set_after, set_after}

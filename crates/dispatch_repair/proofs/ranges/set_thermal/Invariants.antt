@@ -1,6 +1,6 @@
 -- The ranges of the renewable units are as they were, and those of the thermal units so far their own, as their heads are.
 use Rattle.std.proofs.Common.{◌≡◌, ℕ, ◌+◌, ◌<◌}
-use Rattle.uc_model.specs.Schedule.{renewable_count}
+use Rattle.uc_model.specs.Prelude.{renewable_count}
 use Rattle.dispatch_repair.specs.Dispatch.{period_after}
 use Rattle.dispatch_repair.specs.Amounts.{IsHeadOf, IsRangeOf, amount_at, range_at, thermal_amount}
 use Rattle.dispatch_repair.proofs.ranges.set_thermal.Given as goal

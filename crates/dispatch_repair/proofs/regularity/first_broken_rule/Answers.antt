@@ -3,10 +3,8 @@ use Rattle.std.proofs.Common.{◌≡◌, ℕ, ◌+◌, ◌<◌, ◌≤◌, ⊎_e
 use Rattle.std.proofs.lemmas.List.{get_or_read, get_or-map, length-map}
 use Rattle.std.proofs.lemmas.Bool.{cases_lt}
 use Rattle.std.proofs.Math.ListN.{get_or-eq_default}
-use Rattle.uc_model.specs.Limits.{IsLawfulThermal}
-use Rattle.uc_model.specs.PrintedSchedule.{cell_at}
+use Rattle.uc_model.specs.Prelude.{IsLawfulThermal, cell_at, thermal_unit, thermal_count, no_unit}
 use Rattle.schedule_check.specs.SizedNumbers.{IsSized, IsSizedCell}
-use Rattle.uc_model.specs.Schedule.{thermal_unit, thermal_count, no_unit}
 use Rattle.uc_model.specs.declared.schedule.Cell.{Cell}
 use Rattle.dual_model.proofs.Locality.{SameBelow}
 use Rattle.schedule_check.specs.CommitmentRules.{IsFirstBrokenRule}

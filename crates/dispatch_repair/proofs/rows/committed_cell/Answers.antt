@@ -1,8 +1,7 @@
 -- The unit at the place is the instance's.
 use Rattle.std.proofs.Common.{◌≡◌, ◌<◌, length, sym, ap, subst, ◌∙◌, slice_index_or}
 use Rattle.std.proofs.lemmas.List.{get_or_read}
-use Rattle.uc_model.specs.Limits.{IsLawfulThermal}
-use Rattle.uc_model.specs.Schedule.{thermal_unit, no_unit}
+use Rattle.uc_model.specs.Prelude.{IsLawfulThermal, thermal_unit, no_unit}
 use Rattle.dispatch_repair.proofs.rows.committed_cell.Goals as goal
 
 pub start_category-category-requires-clause-lawful : goal.start_category-category-requires-clause-lawful

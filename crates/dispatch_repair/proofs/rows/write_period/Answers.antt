@@ -4,10 +4,9 @@ use Rattle.std.specs.declared.alloc.Global.{Global}
 use Rattle.std.specs.declared.vec.Vec.{Vec}
 use Rattle.std.proofs.lemmas.Int.{to_z-of_z}
 use Rattle.std.proofs.lemmas.List.Elements.{All-get_or}
-use Rattle.uc_model.specs.Limits.{IsLawfulInstance, IsPower}
-use Rattle.uc_model.specs.Schedule.{reserve_at, thermal_count}
+use Rattle.uc_model.specs.Prelude.{IsLawfulInstance, IsPower, reserve_at, thermal_count}
 use Rattle.uc_model.specs.declared.limits.TheConstants.{MAX_POWER}
-use Rattle.uc_model.proofs.Sizes.{narrow}
+use Rattle.uc_model.proofs.Common.{narrow}
 use Rattle.dispatch_repair.specs.Amounts.{amount_at, thermal_amount}
 use Rattle.dispatch_repair.specs.Dispatch.{Instance}
 use Rattle.dispatch_repair.specs.Rooms.{rows_of}

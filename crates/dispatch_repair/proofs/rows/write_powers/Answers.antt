@@ -1,9 +1,9 @@
 -- The thermal units' amounts are behind the renewable ones', and the need is the one that is passed on.
 use Rattle.std.proofs.Common.{◌≡◌, ◌+◌, ◌-◌, [], ap, arith, drop, get_or-drop, get_or-take, length, pos, slice_set, sym, take, ◌∙◌}
 use Rattle.std.proofs.lemmas.List.{length-drop, length-map, take_all}
-use Rattle.uc_model.specs.Schedule.{renewable_count, thermal_count}
+use Rattle.uc_model.specs.Prelude.{renewable_count, thermal_count}
 use Rattle.uc_model.specs.declared.limits.TheConstants.{MAX_POWER}
-use Rattle.uc_model.proofs.Sizes.{narrow}
+use Rattle.uc_model.proofs.Common.{narrow}
 use Rattle.dispatch_repair.specs.Amounts.{amount_at, thermal_amount}
 use Rattle.dispatch_repair.specs.Rooms.{rows_of}
 use Rattle.dispatch_repair.specs.inside.Rows.{cells_with, list_of, outputs_with, row_at}

@@ -1,8 +1,7 @@
 -- A broken rule comes before any period; a dispatch obeys, and has plain numbers.
 use Rattle.std.proofs.Common.{arith}
 use Rattle.std.proofs.lemmas.Result.{IfOk-weaker}
-use Rattle.uc_model.specs.PrintedSchedule.{printed_denominator, printed_schedule}
-use Rattle.uc_model.specs.Rules.{Obeys}
+use Rattle.uc_model.specs.Prelude.{printed_denominator, printed_schedule, Obeys}
 use Rattle.schedule_check.specs.PlainNumbers.{HasPlainNumbers}
 use Rattle.dispatch_repair.specs.Rooms.{printed_of}
 use Rattle.dispatch_repair.specs.Stuck.{IsDispatchOf}

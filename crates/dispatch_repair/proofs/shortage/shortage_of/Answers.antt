@@ -2,7 +2,7 @@
 use Rattle.std.proofs.Common.{◌≡◌, ◌*◌, ◌==◌, ◌&&◌, ap, sym, ◌∙◌, arith, nat_lt, pos, ◌+ℤ◌, ◌-ℤ◌, if◌then◌else◌}
 use Rattle.std.specs.Int.{int_max}
 use Rattle.uc_model.specs.declared.limits.TheConstants.{MAX_POWER, MAX_UNITS}
-use Rattle.uc_model.proofs.Sizes.{narrow}
+use Rattle.uc_model.proofs.Common.{narrow}
 use Rattle.dispatch_repair.specs.Period.{Instance, demand_of}
 use Rattle.dispatch_repair.specs.Shortage.{lacking, served, unmet as unmet_of}
 use Rattle.dispatch_repair.proofs.Shortages.{totals_served}

@@ -1,6 +1,6 @@
 -- The sum over the heads so far, and its size.
 use Rattle.std.proofs.Common.{◌≡◌, ◌*◌, ◌≤◌, unsigned_abs}
-use Rattle.uc_model.specs.Sums.{sum_below}
+use Rattle.uc_model.specs.Prelude.{sum_below}
 use Rattle.dispatch_repair.specs.Amounts.{MAX_POWER, amount_at}
 use Rattle.dispatch_repair.proofs.totals.sum_of_heads.Given as goal
 

@@ -1,7 +1,6 @@
 -- The sum over the units so far, and its size.
 use Rattle.std.proofs.Common.{◌≡◌, ◌*◌, ◌≤◌, ◌*ℤ◌, unsigned_abs}
-use Rattle.uc_model.specs.Schedule.{thermal_unit}
-use Rattle.uc_model.specs.Sums.{bit, sum_below}
+use Rattle.uc_model.specs.Prelude.{thermal_unit, bit, sum_below}
 use Rattle.uc_model.specs.declared.limits.TheConstants.{MAX_POWER}
 use Rattle.dispatch_repair.specs.Period.{commitment_at}
 use Rattle.dispatch_repair.proofs.totals.sum_of_minimums.Given as goal

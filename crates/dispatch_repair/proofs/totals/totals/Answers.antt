@@ -1,6 +1,6 @@
 -- Each sum is that of its part of the ranges.
 use Rattle.std.proofs.Common.{◌≡◌, ap, ◌∙◌, length}
-use Rattle.uc_model.specs.Schedule.{renewable_count}
+use Rattle.uc_model.specs.Prelude.{renewable_count}
 use Rattle.dispatch_repair.specs.Dispatch.{period_after}
 use Rattle.dispatch_repair.specs.Period.{low_of, high_of}
 use Rattle.dispatch_repair.specs.declared.range.Range.{Range}

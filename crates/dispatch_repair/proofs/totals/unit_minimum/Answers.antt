@@ -1,6 +1,6 @@
 -- The unit is the instance's.
 use Rattle.std.proofs.Common.{sym, subst}
-use Rattle.uc_model.specs.Limits.{IsLawfulThermal}
+use Rattle.uc_model.specs.Prelude.{IsLawfulThermal}
 use Rattle.dispatch_repair.proofs.Places.{unit_read}
 use Rattle.dispatch_repair.proofs.totals.unit_minimum.Goals as goal
 

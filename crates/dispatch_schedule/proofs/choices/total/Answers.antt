@@ -1,7 +1,7 @@
 -- No part is below 0, so the sum stays within that of all.
 use Rattle.std.proofs.Common.{◌≡◌, suc, ◌+◌, pos, ◌≤ℤ◌, sym, ap, subst, ◌∙◌, arith, to_z, of_z, w64}
 use Rattle.std.proofs.lemmas.Int.{ints}
-use Rattle.uc_model.specs.Sums.{sum_below}
+use Rattle.uc_model.specs.Prelude.{sum_below}
 use Rattle.dispatch_schedule.specs.inside.Chosen.{part_of}
 use Rattle.dispatch_schedule.proofs.Totals.{part_read, sum_low, part_low, next_is, next_high, first_nonneg}
 use Rattle.dispatch_schedule.proofs.choices.total.Goals as goal

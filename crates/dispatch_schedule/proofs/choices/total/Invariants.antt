@@ -1,6 +1,6 @@
 -- The sum so far.
 use Rattle.std.proofs.Common.{◌≡◌}
-use Rattle.uc_model.specs.Sums.{sum_below}
+use Rattle.uc_model.specs.Prelude.{sum_below}
 use Rattle.dispatch_schedule.specs.inside.Chosen.{part_of}
 use Rattle.dispatch_schedule.proofs.choices.total.Given as goal
 

@@ -3,7 +3,7 @@ use Rattle.std.proofs.Common.{rules, ◌≡◌, length, pos, ◌≤ℤ◌, ◌<�
 use Rattle.std.specs.Int.{w128}
 use Rattle.std.proofs.lemmas.Int.{ints, to_z-of_z}
 use Rattle.fractions.specs.declared.fraction.Fraction.{Fraction}
-use Rattle.dispatch_rules.specs.Dispatch.{program}
+use Rattle.dispatch_rules.specs.Prelude.{program}
 use Rattle.dispatch_schedule.specs.inside.Values.{AreValuesTo, joined_to}
 use Rattle.dispatch_schedule.specs.inside.Chosen.{AreChosen}
 use Rattle.dispatch_schedule.proofs.ColumnValues.{has_values}

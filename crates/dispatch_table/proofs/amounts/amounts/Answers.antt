@@ -1,6 +1,6 @@
 -- The amounts of a period more.
 use Rattle.std.proofs.Common.{[]}
-use Rattle.dispatch_rules.specs.Dispatch.{amounts_in}
+use Rattle.dispatch_rules.specs.Prelude.{amounts_in}
 use Rattle.dispatch_table.specs.Tasks.{task_of}
 use Rattle.dispatch_table.proofs.Pushed.{push_listed}
 use Rattle.dispatch_table.proofs.amounts.amounts.Goals as goal

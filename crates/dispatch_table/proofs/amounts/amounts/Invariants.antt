@@ -1,6 +1,6 @@
 -- The amounts of the periods so far.
 use Rattle.std.proofs.Common.{◌≡◌}
-use Rattle.dispatch_rules.specs.Dispatch.{amounts_in, listed}
+use Rattle.dispatch_rules.specs.Prelude.{amounts_in, listed}
 use Rattle.dispatch_table.specs.Tasks.{task_of}
 use Rattle.dispatch_table.proofs.amounts.amounts.Given as goal
 

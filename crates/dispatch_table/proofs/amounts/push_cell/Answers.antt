@@ -1,7 +1,7 @@
 -- The length of a segment more, and the reserve.
 use Rattle.std.proofs.Common.{◌≡◌, ℕ, ◌∷◌, [], ◌++◌, ap, ◌∙◌, arith}
 use Rattle.dispatch_rules.specs.declared.amount.Amount.TheVariants.{Held, Length}
-use Rattle.dispatch_rules.specs.Dispatch.{listed}
+use Rattle.dispatch_rules.specs.Prelude.{listed}
 use Rattle.dispatch_table.proofs.Pushed.{push_both, push_listed}
 use Rattle.dispatch_table.proofs.amounts.push_cell.Goals as goal
 

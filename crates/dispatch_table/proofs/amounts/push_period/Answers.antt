@@ -1,11 +1,11 @@
 -- The amounts of a unit more, and those of the system.
 use Rattle.std.proofs.Common.{◌≡◌, ◌≤◌, List, ◌∷◌, [], ◌++◌, ap, ◌∙◌, arith, length, nat_lt}
 use Rattle.std.proofs.lemmas.Result.{on_ok_weaker}
-use Rattle.uc_model.specs.Schedule.{renewable_count, thermal_count}
+use Rattle.uc_model.specs.Prelude.{renewable_count, thermal_count}
 use Rattle.uc_model.specs.declared.limits.TheConstants.{MAX_UNITS}
 use Rattle.dispatch_rules.specs.declared.amount.Amount.{Amount}
 use Rattle.dispatch_rules.specs.declared.amount.Amount.TheVariants.{Given, Shed, Short}
-use Rattle.dispatch_rules.specs.Dispatch.{listed, unit_amounts, where_true}
+use Rattle.dispatch_rules.specs.Prelude.{listed, unit_amounts, where_true}
 use Rattle.dispatch_table.specs.Tasks.{task_of}
 use Rattle.dispatch_table.proofs.Pushed.{push_both, push_listed}
 use Rattle.dispatch_table.proofs.amounts.push_period.Goals as goal

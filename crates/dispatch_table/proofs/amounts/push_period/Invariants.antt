@@ -1,6 +1,6 @@
 -- The amounts of the thermal units so far.
 use Rattle.std.proofs.Common.{◌≡◌, ◌++◌}
-use Rattle.dispatch_rules.specs.Dispatch.{listed, unit_amounts}
+use Rattle.dispatch_rules.specs.Prelude.{listed, unit_amounts}
 use Rattle.dispatch_table.specs.Tasks.{task_of}
 use Rattle.dispatch_table.proofs.amounts.push_period.Given as goal
 

@@ -1,7 +1,7 @@
 -- The columns are fewer than what fits, and those of a rule more.
 use Rattle.std.proofs.Common.{◌+◌, arith, ap, length}
 use Rattle.std.proofs.lemmas.List.{length-map}
-use Rattle.dispatch_rules.specs.CommitmentTask.{limit_of}
+use Rattle.dispatch_rules.specs.Prelude.{limit_of}
 use Rattle.dispatch_program.specs.Programs.{has_artificial, is_limit, slacks}
 use Rattle.dispatch_table.specs.Numbers.{program_of}
 use Rattle.dispatch_table.proofs.ColumnLists.{basis_is, basis_more, place_more}

@@ -1,7 +1,6 @@
 -- Each number is of a rule.
 use Rattle.std.proofs.Common.{◌++◌, [], map, ap, ◌∙◌}
-use Rattle.dispatch_rules.specs.CommitmentTask.{limit_of}
-use Rattle.dispatch_rules.specs.Dispatch.{limits_of, rule_from}
+use Rattle.dispatch_rules.specs.Prelude.{limit_of, limits_of, rule_from}
 use Rattle.dispatch_table.specs.Tasks.{task_of}
 use Rattle.dispatch_table.proofs.Pushed.{push_listed}
 use Rattle.dispatch_table.proofs.limits.limits.Goals as goal

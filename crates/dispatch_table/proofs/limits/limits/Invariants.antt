@@ -1,7 +1,6 @@
 -- The limits of the rules so far.
 use Rattle.std.proofs.Common.{◌≡◌, map}
-use Rattle.dispatch_rules.specs.CommitmentTask.{limit_of}
-use Rattle.dispatch_rules.specs.Dispatch.{limits_of, listed, rule_from}
+use Rattle.dispatch_rules.specs.Prelude.{limit_of, limits_of, listed, rule_from}
 use Rattle.dispatch_table.specs.Tasks.{task_of}
 use Rattle.dispatch_table.proofs.limits.limits.Given as goal
 

@@ -1,7 +1,6 @@
 -- A limit more.
 use Rattle.std.proofs.Common.{◌∷◌, [], map}
-use Rattle.dispatch_rules.specs.CommitmentTask.{limit_of, rule_of}
-use Rattle.dispatch_rules.specs.Dispatch.{limit}
+use Rattle.dispatch_rules.specs.Prelude.{limit_of, rule_of, limit}
 use Rattle.dispatch_table.proofs.Pushed.{map_push, push_listed}
 use Rattle.dispatch_table.proofs.limits.push_copies.Goals as goal
 

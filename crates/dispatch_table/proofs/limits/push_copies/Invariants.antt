@@ -1,7 +1,6 @@
 -- The limits so far.
 use Rattle.std.proofs.Common.{◌≡◌, ◌++◌, ◌∷◌, [], map}
-use Rattle.dispatch_rules.specs.CommitmentTask.{limit_of, rule_of}
-use Rattle.dispatch_rules.specs.Dispatch.{limit, listed}
+use Rattle.dispatch_rules.specs.Prelude.{limit_of, rule_of, limit, listed}
 use Rattle.dispatch_table.proofs.limits.push_copies.Given as goal
 
 abbrev pub invariant-loop-segment : goal.invariant-loop-segment

@@ -1,6 +1,6 @@
 -- The limits of a unit more.
 use Rattle.std.proofs.Common.{map}
-use Rattle.dispatch_rules.specs.CommitmentTask.{limit_of, rule_of}
+use Rattle.dispatch_rules.specs.Prelude.{limit_of, rule_of}
 use Rattle.dispatch_table.specs.Tasks.{task_of, unit_limits}
 use Rattle.dispatch_table.proofs.Pushed.{push_listed}
 use Rattle.dispatch_table.proofs.limits.push_rule.Goals as goal

@@ -1,7 +1,6 @@
 -- The limits of a period are as many as its copies.
 use Rattle.std.proofs.Common.{◌++◌, ◌∷◌, [], map, ap, ◌∙◌}
-use Rattle.dispatch_rules.specs.CommitmentTask.{limit_of, rule_of}
-use Rattle.dispatch_rules.specs.Dispatch.{limit, listed}
+use Rattle.dispatch_rules.specs.Prelude.{limit_of, rule_of, limit, listed}
 use Rattle.dispatch_table.specs.Tasks.{cell_limits, task_of}
 use Rattle.dispatch_table.proofs.Pushed.{push_listed}
 use Rattle.dispatch_table.proofs.limits.push_unit.Goals as goal

@@ -1,7 +1,6 @@
 -- The limits of the periods so far.
 use Rattle.std.proofs.Common.{◌≡◌, ◌++◌, map}
-use Rattle.dispatch_rules.specs.CommitmentTask.{limit_of, rule_of}
-use Rattle.dispatch_rules.specs.Dispatch.{listed}
+use Rattle.dispatch_rules.specs.Prelude.{limit_of, rule_of, listed}
 use Rattle.dispatch_table.specs.Tasks.{cell_limits, task_of}
 use Rattle.dispatch_table.proofs.limits.push_unit.Given as goal
 

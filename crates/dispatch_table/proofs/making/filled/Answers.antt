@@ -1,6 +1,6 @@
 -- The numbers are those of the task.
 use Rattle.std.proofs.Common.{rules, map, ◌∙◌}
-use Rattle.dispatch_rules.specs.CommitmentTask.{limit_of}
+use Rattle.dispatch_rules.specs.Prelude.{limit_of}
 use Rattle.dispatch_table.specs.Tasks.{task_with}
 use Rattle.dispatch_table.proofs.MadeTasks.{free_is, is_task, is_task_of, narrow, table_is}
 use Rattle.dispatch_table.proofs.making.filled.Goals as goal

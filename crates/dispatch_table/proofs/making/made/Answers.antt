@@ -1,7 +1,6 @@
 -- A product of the scale is one of the task's.
 use Rattle.std.proofs.Common.{inl, length, refl, ℤ}
-use Rattle.dispatch_rules.specs.CommitmentTask.{scale_to}
-use Rattle.dispatch_rules.specs.Dispatch.{amounts}
+use Rattle.dispatch_rules.specs.Prelude.{scale_to, amounts}
 use Rattle.dispatch_table.specs.Tasks.{Given, task_of, task_with}
 use Rattle.dispatch_table.proofs.MadeTasks.{is_task_of}
 use Rattle.dispatch_table.proofs.making.made.Goals as goal

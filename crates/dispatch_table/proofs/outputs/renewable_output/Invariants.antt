@@ -1,8 +1,7 @@
 -- The sum over the units so far, and its size.
 use Rattle.std.proofs.Common.{◌≡◌, ◌*◌, ◌≤◌, pos, unsigned_abs}
 use Rattle.std.specs.Int.{int_max}
-use Rattle.uc_model.specs.Schedule.{renewable_minimum}
-use Rattle.uc_model.specs.Sums.{sum_below}
+use Rattle.uc_model.specs.Prelude.{renewable_minimum, sum_below}
 use Rattle.uc_model.specs.declared.limits.TheConstants.{MAX_POWER}
 use Rattle.dispatch_table.proofs.outputs.renewable_output.Given as goal
 

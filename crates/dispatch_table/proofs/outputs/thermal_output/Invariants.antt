@@ -1,9 +1,8 @@
 -- The sum over the units so far, and its size.
 use Rattle.std.proofs.Common.{◌≡◌, ◌*◌, ◌≤◌, ◌*ℤ◌, unsigned_abs}
-use Rattle.uc_model.specs.Schedule.{thermal_unit}
-use Rattle.uc_model.specs.Sums.{bit, sum_below}
+use Rattle.uc_model.specs.Prelude.{thermal_unit, bit, sum_below}
 use Rattle.uc_model.specs.declared.limits.TheConstants.{MAX_POWER}
-use Rattle.dispatch_rules.specs.CommitmentTask.{commitment_at}
+use Rattle.dispatch_rules.specs.Prelude.{commitment_at}
 use Rattle.dispatch_table.proofs.outputs.thermal_output.Given as goal
 
 abbrev pub invariant-loop-g : goal.invariant-loop-g

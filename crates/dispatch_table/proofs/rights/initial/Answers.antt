@@ -1,10 +1,9 @@
 -- Only the first period has one.
 use Rattle.std.proofs.Common.{◌≡◌, ◌*◌, ℕ, zero, suc, ℤ, pos, refl, ap, ◌∙◌, arith}
-use Rattle.uc_model.specs.Commitment.{initial_p}
-use Rattle.uc_model.specs.Schedule.{thermal_unit}
+use Rattle.uc_model.specs.Prelude.{initial_p, thermal_unit}
 use Rattle.uc_model.specs.declared.limits.TheConstants.{MAX_POWER}
-use Rattle.uc_model.proofs.Sizes.{narrow}
-use Rattle.dispatch_rules.specs.Dispatch.{Task, initial_at}
+use Rattle.uc_model.proofs.Common.{narrow}
+use Rattle.dispatch_rules.specs.Prelude.{Task, initial_at}
 use Rattle.dispatch_table.specs.Tasks.{task_of}
 use Rattle.dispatch_table.proofs.rights.initial.Goals as goal
 

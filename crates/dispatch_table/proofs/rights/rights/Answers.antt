@@ -4,8 +4,7 @@ use Rattle.std.proofs.lemmas.List.{take_all}
 use Rattle.std.proofs.lemmas.Int.{to_z-of_z}
 use Rattle.std.proofs.lemmas.Simd.{map-map}
 use Rattle.std.specs.Int.{w64}
-use Rattle.dispatch_rules.specs.CommitmentTask.{limit_of}
-use Rattle.dispatch_rules.specs.Dispatch.{right_of}
+use Rattle.dispatch_rules.specs.Prelude.{limit_of, right_of}
 use Rattle.dispatch_rules.specs.declared.limit.LimitAt.{LimitAt}
 use Rattle.dispatch_table.specs.Tasks.{task_of}
 use Rattle.dispatch_table.proofs.ColumnLists.{push_taken}

@@ -1,7 +1,6 @@
 -- The right sides of the limits so far.
 use Rattle.std.proofs.Common.{◌≡◌, map, take}
-use Rattle.dispatch_rules.specs.CommitmentTask.{limit_of}
-use Rattle.dispatch_rules.specs.Dispatch.{right_of}
+use Rattle.dispatch_rules.specs.Prelude.{limit_of, right_of}
 use Rattle.dispatch_rules.specs.declared.limit.LimitAt.{LimitAt}
 use Rattle.dispatch_table.specs.Tasks.{task_of}
 use Rattle.dispatch_table.proofs.rights.rights.Given as goal

@@ -2,7 +2,7 @@
 use Rattle.std.proofs.Common.{◌≡◌, ◌^◌, ◌<◌, arith, sym, subst, ap, ◌∙◌, unsigned_abs, below_more}
 use Rattle.pivot_run.specs.Pivots.{IsNarrow}
 use Rattle.dispatch_rules.specs.declared.amount.Amount.{Amount}
-use Rattle.dispatch_rules.specs.Dispatch.{amount_at}
+use Rattle.dispatch_rules.specs.Prelude.{amount_at}
 use Rattle.dispatch_table.specs.Tasks.{AmountForms, scaled_cost, task_of}
 use Rattle.dispatch_table.proofs.Pushed.{bits_are, set_more}
 use Rattle.dispatch_table.proofs.Scales.{read_in, read_amount}

@@ -5,8 +5,7 @@ use Rattle.std.proofs.lemmas.Int.{unsigned_abs-mul}
 use Rattle.pivot_run.specs.Pivots.{IsNarrow}
 use Rattle.fractions.specs.Fractions.{JoinForms, joined, missing_factor}
 use Rattle.dispatch_rules.specs.declared.amount.Amount.{Amount}
-use Rattle.dispatch_rules.specs.CommitmentTask.{cost_fraction, scale_to}
-use Rattle.dispatch_rules.specs.Dispatch.{amount_at}
+use Rattle.dispatch_rules.specs.Prelude.{cost_fraction, scale_to, amount_at}
 use Rattle.dispatch_table.specs.Tasks.{task_of}
 use Rattle.dispatch_table.proofs.Pushed.{bits_are}
 use Rattle.dispatch_table.proofs.Scales.{read_in, read_amount, scale_positive}

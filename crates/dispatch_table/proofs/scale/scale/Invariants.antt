@@ -1,7 +1,7 @@
 -- The least common multiple of the denominators so far, which small products made.
 use Rattle.std.proofs.Common.{◌≡◌, ℕ, ℤ, ◌*◌, ◌^◌, ◌<◌, unsigned_abs}
 use Rattle.fractions.specs.Fractions.{JoinForms}
-use Rattle.dispatch_rules.specs.CommitmentTask.{fraction_at, scale_to}
+use Rattle.dispatch_rules.specs.Prelude.{fraction_at, scale_to}
 use Rattle.dispatch_table.specs.Tasks.{task_of}
 use Rattle.dispatch_table.proofs.scale.scale.Given as goal
 

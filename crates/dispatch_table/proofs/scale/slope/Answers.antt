@@ -2,10 +2,10 @@
 use Rattle.std.proofs.Common.{◌≡◌, ◌*◌, arith, sym, subst, ◌∙◌, pos, ◌<ℤ◌, to_z, of_z}
 use Rattle.std.specs.Int.{w64}
 use Rattle.uc_model.specs.declared.limits.TheConstants.{MAX_COST, MAX_POWER}
-use Rattle.uc_model.proofs.Sizes.{narrow}
+use Rattle.uc_model.proofs.Common.{narrow}
 use Rattle.cost_curves.specs.UnitCurves.{curve_in}
 use Rattle.fractions.specs.Fractions.{lowest}
-use Rattle.dispatch_rules.specs.Cells.{width_at}
+use Rattle.dispatch_rules.specs.Prelude.{width_at}
 use Rattle.dispatch_table.specs.Tasks.{task_of}
 use Rattle.dispatch_table.proofs.Scales.{width_positive}
 use Rattle.dispatch_table.proofs.scale.slope.Goals as goal

@@ -5,7 +5,7 @@ use Rattle.pivot_run.specs.Tables.{IsTable}
 use Rattle.dispatch_program.specs.Programs.{Program, CostLine, RightSide, basic_column, columns_of, line_number, lines_of, place, start_rows, start_table}
 use Rattle.dispatch_program.proofs.StartTables.{starts_are_tables}
 use Rattle.dispatch_program.proofs.Starts.{columns_long}
-use Rattle.dispatch_rules.specs.CommitmentTask.{limit_of}
+use Rattle.dispatch_rules.specs.Prelude.{limit_of}
 use Rattle.dispatch_table.specs.Numbers.{program_of}
 use Rattle.dispatch_table.proofs.table.table.Goals as goal
 

@@ -1,6 +1,6 @@
 -- Each example is computed.
 use Rattle.std.proofs.Common.{arith}
-use Rattle.uc_model.proofs.Ring.{linear}
+use Rattle.uc_model.proofs.Common.{linear}
 use Rattle.dual_model.proofs.Terms.{is_term, least_reduced_cost, greatest_bound, corner_least, pair_least}
 use Rattle.dual_model.proofs.examples.terms_are_computed.Goals as goal
 

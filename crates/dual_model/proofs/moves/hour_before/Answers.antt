@@ -3,9 +3,10 @@ use Rattle.std.proofs.Common.{◌≡◌, lit<, arith, sym, ap, subst, ◌∙◌,
 use Rattle.std.specs.Int.{w128}
 use Rattle.std.proofs.lemmas.Option.{MatchOption-at_some}
 use Rattle.uc_model.specs.declared.limits.TheConstants.{MAX_POWER, MAX_TERM}
-use Rattle.uc_model.proofs.Sizes.{abs_narrow, narrow, wide, wide-size}
+use Rattle.uc_model.proofs.Common.{abs_narrow, narrow, wide-size}
+use Rattle.uc_model.proofs.Sizes.{wide}
 use Rattle.dual_model.specs.declared.limits.TheConstants.{MAX_UNIT_PRICE}
-use Rattle.uc_model.specs.Terms.{term_at, price_at, period_count}
+use Rattle.uc_model.specs.Prelude.{term_at, price_at, period_count}
 use Rattle.dual_model.specs.CostToGo.{MAX_MOVE}
 use Rattle.dual_model.proofs.Hourly.{hour-of_term}
 use Rattle.dual_model.proofs.moves.hour_before.Goals as goal

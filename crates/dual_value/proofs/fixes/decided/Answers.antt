@@ -1,6 +1,6 @@
 -- The decision against it, or one more.
 use Rattle.std.proofs.Common.{◌≡◌, true, sym, ◌∙◌, refl, true≢false}
-use Rattle.uc_model.specs.PatternBits.{commitment_of}
+use Rattle.uc_model.specs.Prelude.{commitment_of}
 use Rattle.dual_value.proofs.FixBits.{agree, decided-against, decided-with, differ, off-before, plain-more, IsMore}
 use Rattle.dual_value.proofs.fixes.decided.Goals as goal
 use Rattle.dual_value.proofs.fixes.decided.Goals.{After-switch_on, else-is_on-via-then-is_on+else-is_on-fixing, else-is_on-via-else-is_on}

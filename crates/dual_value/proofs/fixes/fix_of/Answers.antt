@@ -1,8 +1,8 @@
 -- One fixing more, of the unit or of another one.
 use Rattle.std.proofs.Common.{◌≡◌, ℕ, suc, ◌<◌, ◌≤◌, ◌&&◌, add-one, false, drop, length, sym, ap, subst, ◌∙◌, Option, Some, None, IfSome, true≢false}
 use Rattle.std.specs.List.{list_all}
-use Rattle.uc_model.specs.Commitment.{Commitment}
-use Rattle.dual_model.specs.Fixings.{fix_agrees, keeps_of, unit_agrees}
+use Rattle.uc_model.specs.Prelude.{Commitment}
+use Rattle.dual_model.specs.Prelude.{fix_agrees, keeps_of, unit_agrees}
 use Rattle.dual_value.specs.inside.Fixes.{Fix, Node, AreBelow, IsFixWith, IsPlain}
 use Rattle.dual_value.proofs.FixBits.{fixing-of, fixing-other, fixing_at, none-left, nothing-agrees}
 use Rattle.dual_value.proofs.fixes.fix_of.Goals as goal

@@ -1,8 +1,9 @@
 -- The unit's new part in place of the old one, or that the unit has no pattern.
 use Rattle.std.proofs.Common.{◌+◌, false, length, sym, ap, subst, ◌∙◌, lit<, arith, ◌+ℤ◌, to_z, of_z, slice_set}
 use Rattle.std.specs.Int.{w128}
-use Rattle.uc_model.specs.Schedule.{thermal_count}
-use Rattle.uc_model.proofs.Sizes.{sum-size, wide, wide-size}
+use Rattle.uc_model.specs.Prelude.{thermal_count}
+use Rattle.uc_model.proofs.Common.{sum-size, wide-size}
+use Rattle.uc_model.proofs.Sizes.{wide}
 use Rattle.dual_value.specs.NodeAnswer.{IsFaultOf, IsPartFault, IsPartOf, IsPartOfKind, MAX_PART, MAX_VALUE}
 use Rattle.dual_value.specs.Rooms.{IsRoomFor}
 use Rattle.dual_value.proofs.ChildValues.{only-without, unit-within, valued-child}

@@ -1,8 +1,9 @@
 -- One unit more, the first one that is blocked, or the whole.
 use Rattle.std.proofs.Common.{◌≡◌, ◌+◌, ◌*◌, ◌<◌, ◌≤◌, length, refl, sym, ap, subst, ◌∙◌, lit<, arith, ◌+ℤ◌, to_z, of_z, unsigned_abs}
 use Rattle.std.specs.Int.{w128}
-use Rattle.uc_model.specs.Schedule.{thermal_count}
-use Rattle.uc_model.proofs.Sizes.{abs_add, sum-fits, sum-is, sum-size, wide, wide-size}
+use Rattle.uc_model.specs.Prelude.{thermal_count}
+use Rattle.uc_model.proofs.Common.{abs_add, sum-fits, sum-is, sum-size, wide-size}
+use Rattle.uc_model.proofs.Sizes.{wide}
 use Rattle.dual_value.specs.NodeAnswer.{HasSizes, IsFaultOfKind, IsPartFault, IsPartOfKind, IsValuedOf, MAX_PART}
 use Rattle.dual_value.specs.Rooms.{IsRoomFor, keeps_ramps}
 use Rattle.system_value.specs.Sizes.{MAX_RENEWABLES, MAX_SYSTEM}

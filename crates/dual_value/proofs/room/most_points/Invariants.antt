@@ -1,6 +1,6 @@
 -- Each unit so far has at most so many points.
 use Rattle.std.proofs.Common.{ℕ, ◌<◌, ◌≤◌, get_or, length}
-use Rattle.uc_model.specs.Schedule.{no_unit}
+use Rattle.uc_model.specs.Prelude.{no_unit}
 use Rattle.uc_model.specs.declared.limits.TheConstants.{MAX_POINTS}
 use Rattle.dual_value.proofs.room.most_points.Given as goal
 

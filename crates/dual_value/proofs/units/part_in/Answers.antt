@@ -3,7 +3,7 @@ use Rattle.std.proofs.Common.{◌≡◌, lit<, true, false, sym, ap, subst, ◌�
 use Rattle.std.specs.Int.{w128}
 use Rattle.std.specs.Option.{is_some}
 use Rattle.std.proofs.lemmas.List.{get_or_read}
-use Rattle.uc_model.specs.Schedule.{thermal_unit}
+use Rattle.uc_model.specs.Prelude.{thermal_unit}
 use Rattle.uc_model.proofs.Sizes.{wide}
 use Rattle.cost_curves.specs.LowerHull.{IsLowerHull}
 use Rattle.cost_curves.specs.UnitCurves.{curve_in}

@@ -1,19 +1,14 @@
 -- The unit's value with its constant, as the room has it, or that it is blocked.
 use Rattle.std.proofs.Common.{◌≡◌, ℕ, ◌<◌, lit<, Bool, true, false, refl, sym, ap, subst, ◌∙◌, arith, List, IfOk, IfErr, slice_index_or}
 use Rattle.std.proofs.lemmas.List.Elements.{All-weaker}
-use Rattle.uc_model.specs.Limits.{IsLawfulThermal}
-use Rattle.uc_model.specs.PatternBits.{commitment_of}
-use Rattle.uc_model.specs.Schedule.{thermal_count, thermal_unit}
+use Rattle.uc_model.specs.Prelude.{IsLawfulThermal, commitment_of, thermal_count, thermal_unit}
 use Rattle.uc_model.specs.declared.instance.Thermal.{Thermal}
-use Rattle.uc_model.proofs.Sizes.{wide, wide-size}
+use Rattle.uc_model.proofs.Common.{wide-size}
+use Rattle.uc_model.proofs.Sizes.{wide}
 use Rattle.cost_curves.specs.LowerHull.{IsLowerHull}
 use Rattle.cost_curves.specs.UnitCurves.{curve_in}
-use Rattle.dual_model.specs.CostToGo.{MAX_COST_TO_GO}
-use Rattle.dual_model.specs.Fixings.{HasNoPattern, IsCell, IsNodeOf}
-use Rattle.dual_model.specs.NodeValue.{unit_constant}
-use Rattle.dual_model.specs.UnitTerms.{AreSizedTerms}
-use Rattle.dual_model.specs.UnitValue.{IsBestPattern}
-use Rattle.dual_model.specs.ValueKind.{IsBlocked}
+use Rattle.dual_model.specs.Prelude.{MAX_COST_TO_GO, IsCell, IsNodeOf, unit_constant, AreSizedTerms, IsBestPattern, IsBlocked}
+use Rattle.dual_model.specs.Fixings.{HasNoPattern}
 use Rattle.ramp_duals.specs.Sizes.{MAX_CONSTANT}
 use Rattle.unit_exact.proofs.Found.{unit-read}
 use Rattle.dual_value.specs.NodeAnswer.{Instance, IsPartFault, IsPartOfKind}

@@ -2,7 +2,7 @@
 use Rattle.std.proofs.Common.{sym, subst, ◌∙◌, rules}
 use Rattle.std.specs.Int.{w64}
 use Rattle.std.proofs.lemmas.Int.{to_z-of_z}
-use Rattle.dual_model.specs.TableValue.{IsLawfulScale}
+use Rattle.dual_model.specs.Prelude.{IsLawfulScale}
 use Rattle.dual_value.proofs.units.unit_terms.Goals as goal
 
 pub terms-requires-clause-scale : goal.terms-requires-clause-scale

@@ -1,11 +1,9 @@
 -- What the check accepts obeys and has its printed cost, which fits; and it accepts what obeys.
 use Rattle.std.proofs.Common.{◌≡◌, ◌≤◌, subst, sym, lit<, ap, ◌∙◌, to_z, of_z, unsigned_abs, true, false}
 use Rattle.std.specs.Int.{w64}
-use Rattle.uc_model.specs.PrintedSchedule.{printed_cost, printed_denominator}
+use Rattle.uc_model.specs.Prelude.{printed_cost, printed_denominator}
 use Rattle.uc_model.specs.declared.limits.TheConstants.{COST_MAX}
-use Rattle.uc_model.proofs.Obeyed.{rule_at}
-use Rattle.uc_model.proofs.PrintedCosts.{printed_cost-fits, watts-factor}
-use Rattle.uc_model.proofs.Sizes.{narrow}
+use Rattle.uc_model.proofs.Common.{rule_at, printed_cost-fits, watts-factor, narrow}
 use Rattle.found_schedule.proofs.Numbers.{found_numbers}
 use Rattle.found_schedule.proofs.obeying.accepted.Goals as goal
 

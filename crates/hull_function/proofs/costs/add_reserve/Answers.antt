@@ -2,7 +2,7 @@
 use Rattle.std.proofs.Common.{◌≡◌, sym, ap, subst, ◌∙◌, arith, ℤ, ◌+ℤ◌, ◌-ℤ◌, ◌*ℤ◌, neg_ℤ, to_z, of_z}
 use Rattle.std.specs.Int.{w64, w128, int_min}
 use Rattle.std.proofs.lemmas.Int.{ints}
-use Rattle.uc_model.specs.Limits.{IsLimit}
+use Rattle.uc_model.specs.Prelude.{IsLimit}
 use Rattle.step_functions.specs.Functions.{Steps, IsPlace, IsSmall, shortfall, value_at}
 use Rattle.unit_runs.specs.CostThrough.{reserve_cost}
 use Rattle.hull_function.specs.Hours.{Hour, IsSizedHour}

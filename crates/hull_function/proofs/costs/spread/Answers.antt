@@ -2,8 +2,8 @@
 use Rattle.std.proofs.Common.{◌≡◌, ◌*◌, ◌≤◌, sym, subst, arith, ℤ, ◌+ℤ◌, ◌-ℤ◌, ◌≤ℤ◌, to_z, of_z, unsigned_abs}
 use Rattle.std.specs.Int.{w64}
 use Rattle.std.proofs.lemmas.Int.{ints}
-use Rattle.uc_model.specs.Limits.{IsLimit}
-use Rattle.uc_model.proofs.Ring.{linear}
+use Rattle.uc_model.specs.Prelude.{IsLimit}
+use Rattle.uc_model.proofs.Common.{linear}
 use Rattle.step_functions.specs.Functions.{Steps, IsLeastBetween, last_place, value_at}
 use Rattle.hull_function.specs.Hours.{IsNear}
 use Rattle.hull_function.specs.Problems.{MAX_POWER}

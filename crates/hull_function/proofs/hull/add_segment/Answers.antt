@@ -4,10 +4,9 @@ use mir.Val.{SFits}
 use Rattle.std.specs.Int.{w64, w128}
 use Rattle.std.proofs.lemmas.Int.{ints, to_z-of_z}
 use Rattle.cost_curves.proofs.HullValues.{whole_width}
-use Rattle.uc_model.specs.Points.{output_of}
-use Rattle.uc_model.proofs.Ring.{linear}
-use Rattle.uc_model.proofs.Sizes.{narrow}
-use Rattle.dual_model.specs.ExactValue.{floored_slope}
+use Rattle.uc_model.specs.Prelude.{output_of}
+use Rattle.uc_model.proofs.Common.{linear, narrow}
+use Rattle.dual_model.specs.Prelude.{floored_slope}
 use Rattle.step_functions.specs.Functions.{Steps, last_place}
 use Rattle.uc_model.specs.declared.limits.TheConstants.{MAX_POWER}
 use Rattle.hull_function.specs.Hulls.{Point}

@@ -6,10 +6,10 @@ use Rattle.std.specs.Int.Signed.{lt_z}
 use Rattle.std.proofs.lemmas.Int.{ints, to_z-of_z}
 use Rattle.cost_curves.proofs.HullValues.{whole_width}
 use Rattle.cost_curves.specs.LowerHull.{width_of}
-use Rattle.uc_model.specs.Hull.{hull_cost}
-use Rattle.uc_model.proofs.Ring.{linear, le_antisymm, one-mul}
-use Rattle.uc_model.proofs.Sizes.{narrow, scaled-size, wide}
-use Rattle.dual_model.specs.ExactValue.{greatest_output}
+use Rattle.uc_model.specs.Prelude.{hull_cost}
+use Rattle.uc_model.proofs.Common.{linear, le_antisymm, one-mul, narrow, scaled-size}
+use Rattle.uc_model.proofs.Sizes.{wide}
+use Rattle.dual_model.specs.Prelude.{greatest_output}
 use Rattle.step_functions.specs.Functions.{Steps, last_place}
 use Rattle.hull_function.specs.inside.HullParts.{IsHullTo, MAX_CORNER}
 use Rattle.hull_function.proofs.HullSteps.{hull-begun, hull-whole, outputs-within, scale-size}

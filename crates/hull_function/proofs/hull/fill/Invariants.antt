@@ -1,6 +1,6 @@
 -- The function is L up to its last place; each segment takes a run, of which there are fewer than points.
 use Rattle.std.proofs.Common.{◌≡◌, ◌-◌, ◌≤ℤ◌, length}
-use Rattle.dual_model.specs.ExactValue.{greatest_output}
+use Rattle.dual_model.specs.Prelude.{greatest_output}
 use Rattle.step_functions.specs.Functions.{last_place, run_count}
 use Rattle.hull_function.specs.inside.HullParts.{IsHullTo}
 use Rattle.hull_function.proofs.hull.fill.Given as goal

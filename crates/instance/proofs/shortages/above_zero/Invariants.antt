@@ -1,7 +1,7 @@
 -- The sum so far, and its size.
 use Rattle.std.proofs.Common.{◌≡◌, ◌*◌, ◌≤◌, pos, slice_index_or, unsigned_abs}
 use Rattle.std.specs.Int.{int_max}
-use Rattle.uc_model.specs.Sums.{sum_below}
+use Rattle.uc_model.specs.Prelude.{sum_below}
 use Rattle.uc_model.specs.declared.limits.TheConstants.{MAX_POWER}
 use Rattle.instance.proofs.shortages.above_zero.Given as goal
 

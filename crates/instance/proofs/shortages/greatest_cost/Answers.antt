@@ -1,10 +1,10 @@
 -- Two numbers of known sizes, over the instance's periods.
 use Rattle.std.proofs.Common.{ℕ, ◌+◌, ◌*◌, ◌^◌, ◌∙◌, lit<, pos, ◌+ℤ◌, ◌*ℤ◌, ℤ, List, length, slice_index_or}
 use Rattle.std.specs.Int.{int_max}
-use Rattle.uc_model.specs.Sums.{sum_below}
-use Rattle.uc_model.specs.Schedule.{most_shed, most_short}
+use Rattle.uc_model.specs.Prelude.{sum_below, most_shed, most_short}
 use Rattle.uc_model.specs.declared.limits.TheConstants.{MAX_PERIODS, MAX_POWER}
-use Rattle.uc_model.proofs.Sizes.{sum-fits, sum-is, sum-size, wide}
+use Rattle.uc_model.proofs.Common.{sum-fits, sum-is, sum-size}
+use Rattle.uc_model.proofs.Sizes.{wide}
 use Rattle.instance.proofs.shortages.greatest_cost.Goals as goal
 
 most : ℕ

@@ -1,7 +1,8 @@
 -- A product of known size.
 use Rattle.std.proofs.Common.{◌*◌, ◌^◌, ◌≤◌, ◌∙◌, sym, subst, arith, lit<, ◌*ℤ◌, unsigned_abs}
 use Rattle.uc_model.specs.declared.limits.TheConstants.{MAX_PERIODS, MAX_POWER}
-use Rattle.uc_model.proofs.Sizes.{narrow, scaled-size, wide, wide-size}
+use Rattle.uc_model.proofs.Common.{narrow, scaled-size, wide-size}
+use Rattle.uc_model.proofs.Sizes.{wide}
 use Rattle.instance.proofs.shortages.most_cost.Goals as goal
 
 pub returns : goal.returns

@@ -1,6 +1,6 @@
 -- There is a term at the full cap, within the limits.
 use Rattle.std.proofs.Common.{◌≡◌, ◌≤◌, false, subst, ℤ, Option, None, IfSome, unsigned_abs}
-use Rattle.uc_model.proofs.Sizes.{wide-size}
+use Rattle.uc_model.proofs.Common.{wide-size}
 use Rattle.interval_graph.specs.Intervals.{MAX_TERM, term_in, IsThere}
 use Rattle.interval_graph.proofs.sums.full_of.Goals as goal
 

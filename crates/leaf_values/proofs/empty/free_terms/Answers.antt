@@ -1,7 +1,7 @@
 -- Prices of 0 are lawful.
 use Rattle.std.proofs.Common.{◌≡◌, ℕ, ◌<◌, List, length, replicate, sym, ap, subst, ◌∙◌, arith, rules, ℤ, pos}
 use Rattle.std.proofs.lemmas.List.{get_or-replicate, length-replicate}
-use Rattle.dual_model.specs.TableValue.{IsLawfulRow, row_at}
+use Rattle.dual_model.specs.Prelude.{IsLawfulRow, row_at}
 use Rattle.leaf_values.proofs.empty.free_terms.Goals as goal
 
 free_rows : (n : ℕ) (rows : List (ℤ × ℤ × ℤ)) → rows ≡ replicate n (pos 0, pos 0, pos 0) → (t : ℕ) → t < length rows → IsLawfulRow (row_at rows t)

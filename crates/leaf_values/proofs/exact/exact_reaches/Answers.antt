@@ -1,11 +1,9 @@
 -- The entries that were reckoned are those of the table, and add up to the node's value.
 use Rattle.std.proofs.Common.{List, lit<, refl, sym, subst, arith, MatchOption, inr}
 use Rattle.std.proofs.lemmas.List.{with_items_is}
-use Rattle.uc_model.specs.Schedule.{thermal_count}
+use Rattle.uc_model.specs.Prelude.{thermal_count}
 use Rattle.uc_model.proofs.Sizes.{wide}
-use Rattle.dual_model.specs.CostToGo.{IsWithin}
-use Rattle.dual_model.specs.Fixings.{HasEmptyUnit}
-use Rattle.dual_model.specs.NodeValue.{IsNodeValue}
+use Rattle.dual_model.specs.Prelude.{IsWithin, HasEmptyUnit, IsNodeValue}
 use Rattle.leaf_values.specs.Entries.{MAX_NODE_VALUE}
 use Rattle.leaf_values.specs.inside.Totals.{AreReckonedFor}
 use Rattle.leaf_values.specs.declared.entries.UnitEntry.{UnitEntry}

@@ -2,10 +2,9 @@
 use Rattle.std.proofs.Common.{◌≡◌, ℕ, ◌*◌, ◌<◌, ◌≤◌, arith, List, refl, sym, ap, subst, ◌∙◌, to_z, of_z, unsigned_abs, inr}
 use Rattle.std.specs.Int.{w128}
 use Rattle.std.proofs.lemmas.Int.{to_z-of_z}
-use Rattle.uc_model.specs.Schedule.{thermal_count}
+use Rattle.uc_model.specs.Prelude.{thermal_count}
 use Rattle.uc_model.specs.declared.limits.TheConstants.{MAX_UNITS}
-use Rattle.dual_model.specs.CostToGo.{IsWithin, MAX_COST_TO_GO}
-use Rattle.dual_model.specs.Fixings.{IsFixOf}
+use Rattle.dual_model.specs.Prelude.{IsWithin, MAX_COST_TO_GO, IsFixOf}
 use Rattle.leaf_values.specs.Entries.{UnitEntry, MAX_CONSTANT, MAX_NODE_VALUE, entry_in}
 use Rattle.leaf_values.specs.Paths.{Node}
 use Rattle.leaf_values.specs.Reached.{least_value}

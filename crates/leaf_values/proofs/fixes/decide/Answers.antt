@@ -1,7 +1,7 @@
 -- One bit more is set.
 use Rattle.std.proofs.Common.{◌≡◌, ◌≢◌, ℕ, Bool, true, ⊎_elim, ap, sym, ◌∙◌, ◌==◌, ◌&&◌, ◌||◌}
 use Rattle.std.proofs.lemmas.Bool.{cases_eq, eq-eqb, ne_eqb}
-use Rattle.uc_model.specs.PatternBits.{commitment_of}
+use Rattle.uc_model.specs.Prelude.{commitment_of}
 use Rattle.leaf_values.proofs.fixes.decide.Goals as goal
 
 switched : (new old : ℕ → Bool) (p t : ℕ) → new p ≡ true → ((k : ℕ) → k ≢ p → new k ≡ old k) → new t ≡ (p == t || old t)

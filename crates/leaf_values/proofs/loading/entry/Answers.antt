@@ -1,7 +1,8 @@
 -- The walk gives the least value of the patterns, where there is one.
 use Rattle.std.proofs.Common.{ℤ, Some, None, Option, subst, IfSome, IfNone, MatchOption}
-use Rattle.uc_model.proofs.Sizes.{wide-size}
-use Rattle.dual_model.specs.PatternValue.{HasNoPattern, IsLeastValue}
+use Rattle.uc_model.proofs.Common.{wide-size}
+use Rattle.dual_model.specs.Prelude.{IsLeastValue}
+use Rattle.dual_model.specs.PatternValue.{HasNoPattern}
 use Rattle.leaf_values.specs.Entries.{Thermal, MAX_CONSTANT}
 use Rattle.leaf_values.proofs.loading.entry.Goals as goal
 

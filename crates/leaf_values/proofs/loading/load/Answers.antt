@@ -1,6 +1,6 @@
 -- One unit more.
 use Rattle.std.proofs.Common.{◌≡◌, ℕ, ◌+◌, ◌<◌, ◌≤◌, List, length, lit<, arith, sym, ap, subst, ◌∙◌, below_more, rules, ◌++◌, ◌∷◌, [], take, drop, replicate, ℤ, unsigned_abs}
-use Rattle.uc_model.specs.Schedule.{thermal_count, thermal_unit}
+use Rattle.uc_model.specs.Prelude.{thermal_count, thermal_unit}
 use Rattle.uc_model.specs.declared.instance.Instance.{Instance}
 use Rattle.uc_model.proofs.Sizes.{wide}
 use Rattle.dual_model.specs.declared.table.Table.{Table}

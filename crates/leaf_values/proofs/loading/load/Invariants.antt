@@ -1,6 +1,6 @@
 -- The entries of the units so far.
 use Rattle.std.proofs.Common.{◌≡◌, ℕ, ◌<◌, length}
-use Rattle.uc_model.specs.Schedule.{thermal_unit}
+use Rattle.uc_model.specs.Prelude.{thermal_unit}
 use Rattle.leaf_values.specs.Entries.{IsEntryOf, IsReckoned, entry_in}
 use Rattle.leaf_values.proofs.loading.load.Given as goal
 

@@ -1,6 +1,6 @@
 -- Two parts of known sizes.
 use Rattle.std.proofs.Common.{lit<}
-use Rattle.uc_model.proofs.Sizes.{sum-fits}
+use Rattle.uc_model.proofs.Common.{sum-fits}
 use Rattle.system_value.specs.Sizes.{MAX_RENEWABLES, MAX_SYSTEM}
 use Rattle.leaf_values.proofs.loading.rest.Goals as goal
 

@@ -1,5 +1,5 @@
 -- The constant is as small as it is said to be.
-use Rattle.uc_model.proofs.Sizes.{wide-size}
+use Rattle.uc_model.proofs.Common.{wide-size}
 use Rattle.leaf_values.specs.Entries.{MAX_CONSTANT}
 use Rattle.leaf_values.proofs.loading.unit_constant.Goals as goal
 

@@ -1,7 +1,7 @@
 -- One unit more.
 use Rattle.std.proofs.Common.{◌≡◌, ◌<◌, length, get_or, ◌∙◌, arith}
 use Rattle.std.proofs.lemmas.List.{get_or_default}
-use Rattle.uc_model.specs.Schedule.{thermal_unit}
+use Rattle.uc_model.specs.Prelude.{thermal_unit}
 use Rattle.leaf_values.specs.Entries.{entry_in, no_entry}
 use Rattle.leaf_values.specs.Paths.{fix_at}
 use Rattle.leaf_values.proofs.Reckoned.{kept_more, reckoned_as, reckoned_more}

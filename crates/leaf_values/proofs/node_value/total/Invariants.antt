@@ -1,6 +1,6 @@
 -- The sum over the units so far, each of which has a value, and its size.
 use Rattle.std.proofs.Common.{◌+◌, ◌*◌, ◌≤◌, unsigned_abs}
-use Rattle.dual_model.specs.CostToGo.{MAX_COST_TO_GO}
+use Rattle.dual_model.specs.Prelude.{MAX_COST_TO_GO}
 use Rattle.leaf_values.specs.Entries.{MAX_CONSTANT, MAX_REST}
 use Rattle.leaf_values.specs.inside.Totals.{IsTotal}
 use Rattle.leaf_values.proofs.node_value.total.Given as goal

@@ -1,7 +1,7 @@
 -- The entries that were reckoned are those of the table, and add up to the node's value.
 use Rattle.std.proofs.Common.{List, refl, sym, subst, arith}
 use Rattle.std.proofs.lemmas.List.{with_items_is}
-use Rattle.uc_model.specs.Schedule.{thermal_count}
+use Rattle.uc_model.specs.Prelude.{thermal_count}
 use Rattle.leaf_values.specs.inside.Totals.{AreReckonedFor}
 use Rattle.leaf_values.specs.declared.entries.UnitEntry.{UnitEntry}
 use Rattle.leaf_values.proofs.NodeTotals.{entries_kept, node_answer, values_at}

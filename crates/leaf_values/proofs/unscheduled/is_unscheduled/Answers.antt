@@ -2,7 +2,7 @@
 use Rattle.std.proofs.Common.{◌≡◌, ℕ, ◌↔◌, Bool, true, false, not, sym, IsTrue, ℤ, Option, Some, None, MatchOption, refl}
 use Rattle.std.specs.Option.{is_some}
 use Rattle.std.proofs.lemmas.Bool.{false≢true}
-use Rattle.dual_model.specs.ExactValue.{HasNoUnitSchedule, IsExactUnitValue}
+use Rattle.dual_model.specs.Prelude.{HasNoUnitSchedule, IsExactUnitValue}
 use Rattle.dual_model.specs.declared.table.Table.{Table}
 use Rattle.leaf_values.specs.Paths.{Instance, Node}
 use Rattle.leaf_values.proofs.unscheduled.is_unscheduled.Goals as goal

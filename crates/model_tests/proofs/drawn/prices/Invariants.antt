@@ -1,6 +1,6 @@
 -- As many rows as turns, all lawful.
 use Rattle.std.proofs.Common.{◌≡◌, All, length}
-use Rattle.dual_model.specs.TableValue.{IsLawfulRow}
+use Rattle.dual_model.specs.Prelude.{IsLawfulRow}
 use Rattle.model_tests.proofs.drawn.prices.Given as goal
 
 abbrev pub invariant-loop : goal.invariant-loop

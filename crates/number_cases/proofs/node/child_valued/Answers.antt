@@ -1,7 +1,7 @@
 -- The parent and the decision are those that the node is made of.
 use Rattle.std.proofs.Common.{sym, subst}
 use Rattle.std.proofs.lemmas.List.Elements.{All-push}
-use Rattle.dual_model.specs.Fixings.{IsCell, IsNodeOf}
+use Rattle.dual_model.specs.Prelude.{IsCell, IsNodeOf}
 use Rattle.dual_model.specs.declared.node.Fixing.{Fixing}
 use Rattle.number_cases.proofs.node.child_valued.Goals as goal
 

@@ -1,6 +1,6 @@
 -- The patterns are those of the value.
 use Rattle.std.proofs.Common.{sym, subst}
-use Rattle.dispatch_rules.specs.CommitmentTask.{AreAllowed}
+use Rattle.dispatch_rules.specs.Prelude.{AreAllowed}
 use Rattle.number_cases.proofs.pivot.pivot_of.Goals as goal
 
 pub best-pivot-requires-clause-allowed : goal.best-pivot-requires-clause-allowed

@@ -1,6 +1,6 @@
 -- The window is the next one, so its dispatch goes on from what is kept.
 use Rattle.std.proofs.Common.{◌≡◌, ◌+◌, ◌-◌, List, IfOk, Result, Ok, Err, subst, arith}
-use Rattle.uc_model.specs.PrintedSchedule.{HasShapeOf}
+use Rattle.uc_model.specs.Prelude.{HasShapeOf}
 use Rattle.uc_model.specs.declared.pattern.Pattern.{Pattern}
 use Rattle.schedule_check.specs.PlainNumbers.{HasPlainNumbers}
 use Rattle.roll.specs.Left.{Instance, Printed, IsCarried}

@@ -2,11 +2,10 @@
 use Rattle.std.proofs.Common.{◌≡◌, ◌∙◌, ◌<◌, ℕ, Bool, subst, sym}
 use Rattle.std.proofs.lemmas.Bool.{false≢true}
 use Rattle.uc_model.specs.declared.instance.Instance.{Instance}
-use Rattle.dual_model.specs.Opening.{ray_count, ray_table}
-use Rattle.dual_model.specs.Tree.{root}
+use Rattle.dual_model.specs.Prelude.{ray_count, ray_table, root}
 use Rattle.dual_model.specs.declared.node.Node.{Node}
 use Rattle.dual_model.specs.declared.table.Table.{Table}
-use Rattle.branch_tree.specs.TrueFound.{IsOutcome}
+use Rattle.branch_tree.specs.Prelude.{IsOutcome}
 use Rattle.branch_tree.specs.declared.found.Outcome.{Outcome}
 use Rattle.opening.proofs.OpeningRays.{none_more, not_positive, positive}
 use Rattle.opening.proofs.rays.first_ray.Goals as goal

@@ -1,6 +1,6 @@
 -- The evaluator's instance stays.
 use Rattle.std.proofs.Common.{sym, subst}
-use Rattle.dual_model.specs.Tree.{HasEachPattern}
+use Rattle.dual_model.specs.Prelude.{HasEachPattern}
 use Rattle.opening.proofs.root_tables.dispatched_root.Goals as goal
 
 pub with_value-requires-clause-patterns : goal.with_value-requires-clause-patterns

@@ -1,7 +1,6 @@
 -- One unit more.
 use Rattle.std.proofs.Common.{◌+◌, ◌<◌, arith, length, sym, ap, subst, ◌≤ℤ◌, IsTrue}
-use Rattle.uc_model.specs.PrintedSchedule.{cell_at}
-use Rattle.uc_model.specs.Schedule.{thermal_count, thermal_unit}
+use Rattle.uc_model.specs.Prelude.{cell_at, thermal_count, thermal_unit}
 use Rattle.cost_curves.specs.LowerHull.{width_of}
 use Rattle.cost_curves.proofs.HullValues.{whole_width}
 use Rattle.opening_tables.specs.inside.Slopes.{Cell, IsGreatestOf}

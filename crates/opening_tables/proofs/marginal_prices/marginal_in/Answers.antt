@@ -1,7 +1,7 @@
 -- The outputs lie on the curves, and the table is lawful.
 use Rattle.std.proofs.Common.{◌≡◌, length, sym, ap, subst, ◌∙◌}
 use Rattle.std.proofs.lemmas.Result.{IfOk-weaker}
-use Rattle.dual_model.specs.Prices.{IsLawfulTable}
+use Rattle.dual_model.specs.Prelude.{IsLawfulTable}
 use Rattle.opening_tables.specs.inside.Slopes.{ArePriced}
 use Rattle.opening_tables.proofs.OnCells.{outputs_within}
 use Rattle.opening_tables.proofs.PricedPeriods.{priced_lawful, priced_table}

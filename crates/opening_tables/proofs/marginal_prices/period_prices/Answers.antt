@@ -1,7 +1,7 @@
 -- One period more.
 use Rattle.std.proofs.Common.{arith, lit<, ◌∙◌, length-set}
 use Rattle.dual_model.specs.declared.limits.TheConstants.{MAX_PRICE}
-use Rattle.uc_model.proofs.Sizes.{narrow}
+use Rattle.uc_model.proofs.Common.{narrow}
 use Rattle.opening_tables.proofs.PricedPeriods.{priced-more}
 use Rattle.opening_tables.proofs.marginal_prices.period_prices.Goals as goal
 

@@ -1,8 +1,7 @@
 -- The parts make the ray's table, which is lawful.
 use Rattle.std.proofs.Common.{◌≡◌, sym, ap, subst, ◌∙◌, length}
 use Rattle.std.proofs.lemmas.Result.{IfOk-weaker}
-use Rattle.dual_model.specs.Opening.{HasRayNumbers, ray_table}
-use Rattle.dual_model.specs.Prices.{IsLawfulTable, IsWellFormed}
+use Rattle.dual_model.specs.Prelude.{HasRayNumbers, ray_table, IsLawfulTable, IsWellFormed}
 use Rattle.opening_tables.proofs.RayNumbers.{ray_numbers}
 use Rattle.opening_tables.proofs.RayTables.{made_of, ray_lawful, ray_table-made}
 use Rattle.opening_tables.proofs.rays.opening_ray.Goals as goal

@@ -1,8 +1,7 @@
 -- One unit more.
 use Rattle.std.proofs.Common.{◌≡◌, arith, sym, ap, subst, ◌∙◌, length, slice_index_or}
 use Rattle.std.proofs.lemmas.List.{get_or_read}
-use Rattle.uc_model.specs.Limits.{IsLawfulThermal}
-use Rattle.uc_model.specs.Schedule.{no_unit, thermal_unit}
+use Rattle.uc_model.specs.Prelude.{IsLawfulThermal, no_unit, thermal_unit}
 use Rattle.opening_tables.specs.inside.Rays.{down_of, up_of}
 use Rattle.opening_tables.proofs.RayTables.{rows-more}
 use Rattle.opening_tables.proofs.rays.ramp_rows.Goals as goal

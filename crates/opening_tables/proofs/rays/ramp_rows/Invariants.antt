@@ -1,6 +1,6 @@
 -- The units before the place have their rows.
 use Rattle.std.proofs.Common.{◌≡◌}
-use Rattle.dual_model.specs.Opening.{first_rows}
+use Rattle.dual_model.specs.Prelude.{first_rows}
 use Rattle.opening_tables.specs.inside.Rays.{down_of, up_of}
 use Rattle.opening_tables.proofs.rays.ramp_rows.Given as goal
 

@@ -2,7 +2,7 @@
 use Rattle.std.proofs.Common.{sym, subst, lit<}
 use Rattle.std.proofs.lemmas.Int.{to_z-of_z}
 use Rattle.uc_model.proofs.Sizes.{wide}
-use Rattle.dual_model.specs.Term.{IsTerm}
+use Rattle.dual_model.specs.Prelude.{IsTerm}
 use Rattle.uc_model.specs.declared.limits.TheConstants.{MAX_TERM}
 use Rattle.period_term.proofs.cell.cell_term.Goals as goal
 

@@ -1,7 +1,7 @@
 -- The sizes of both parts, and of their sum.
 use Rattle.std.proofs.Common.{◌*◌, ◌^◌, arith, lit<}
 use Rattle.uc_model.specs.declared.limits.TheConstants.{MAX_POWER, MAX_COST}
-use Rattle.uc_model.proofs.Sizes.{wide-size, sum-fits, sum-size, product-size}
+use Rattle.uc_model.proofs.Common.{wide-size, sum-fits, sum-size, product-size}
 use Rattle.dual_model.specs.declared.limits.TheConstants.{MAX_UNIT_PRICE}
 use Rattle.period_term.specs.inside.Places.{MAX_CORNER_COST}
 use Rattle.period_term.proofs.CornerNumbers.{scaled_cost-size}

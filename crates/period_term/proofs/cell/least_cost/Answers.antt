@@ -2,9 +2,9 @@
 use Rattle.std.proofs.Common.{sym, subst, ◌∙◌, lit<, pos, ◌≤ℤ◌, arith}
 use Rattle.std.specs.Int.{w64}
 use Rattle.std.proofs.lemmas.Int.{to_z-of_z}
-use Rattle.uc_model.proofs.Tests.{int_le-true}
+use Rattle.uc_model.proofs.Common.{int_le-true}
 use Rattle.uc_model.proofs.Sizes.{wide}
-use Rattle.dual_model.specs.Term.{IsTerm}
+use Rattle.dual_model.specs.Prelude.{IsTerm}
 use Rattle.period_term.specs.inside.Places.{MAX_CORNER_COST, MAX_LEAST}
 use Rattle.dual_model.specs.declared.limits.TheConstants.{MAX_CAP}
 use Rattle.period_term.proofs.CornerNumbers.{passed-size}

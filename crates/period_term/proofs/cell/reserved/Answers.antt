@@ -2,8 +2,8 @@
 use Rattle.std.proofs.Common.{◌≡◌, ◌+◌, ◌*◌, ◌≤◌, sym, subst, ap, ◌∙◌, arith, lit<, to_z, of_z, ◌+ℤ◌, ◌*ℤ◌, unsigned_abs}
 use Rattle.std.specs.Int.{w128}
 use Rattle.std.proofs.lemmas.Int.{to_z-of_z}
-use Rattle.uc_model.proofs.Sizes.{narrow, from-size, sum-fits}
-use Rattle.dual_model.specs.Term.{IsTerm}
+use Rattle.uc_model.proofs.Common.{narrow, from-size, sum-fits}
+use Rattle.dual_model.specs.Prelude.{IsTerm}
 use Rattle.dual_model.specs.declared.limits.TheConstants.{MAX_UNIT_PRICE, MAX_CAP}
 use Rattle.period_term.specs.inside.Places.{MAX_LEAST}
 use Rattle.period_term.proofs.CornerNumbers.{product_is, sum_is}

@@ -1,9 +1,9 @@
 -- The difference of both scaled costs.
 use Rattle.std.proofs.Common.{◌≡◌, suc, ◌+◌, ◌*◌, ◌^◌, ◌<◌, ◌∙◌, sym, ap, arith, lit<, length, ◌-ℤ◌, ◌*ℤ◌}
-use Rattle.uc_model.specs.Points.{point_of}
+use Rattle.uc_model.specs.Prelude.{point_of}
 use Rattle.uc_model.specs.declared.limits.TheConstants.{MAX_COST}
-use Rattle.uc_model.proofs.Ring.{mul-sub}
-use Rattle.uc_model.proofs.Sizes.{wide, wide-size, sum-fits, difference-size, difference-is}
+use Rattle.uc_model.proofs.Common.{mul-sub, wide-size, sum-fits, difference-size, difference-is}
+use Rattle.uc_model.proofs.Sizes.{wide}
 use Rattle.period_term.specs.inside.Places.{MAX_RISE}
 use Rattle.period_term.proofs.CornerNumbers.{scaled_cost-size, scaled_cost-is}
 use Rattle.period_term.proofs.cell.rise.Goals as goal

@@ -2,12 +2,11 @@
 use Rattle.std.proofs.Common.{◌*◌, ◌≤◌, sym, subst, ◌∙◌, arith, lit<, pos, ◌*ℤ◌, ◌<ℤ◌, to_z, of_z, unsigned_abs}
 use Rattle.std.specs.Int.{w128}
 use Rattle.std.proofs.lemmas.Int.{to_z-of_z}
-use Rattle.uc_model.specs.Division.{IsFloor}
-use Rattle.uc_model.specs.Points.{output_of}
+use Rattle.uc_model.specs.Prelude.{IsFloor, output_of}
 use Rattle.uc_model.specs.declared.limits.TheConstants.{MAX_POWER}
 use Rattle.dual_model.specs.declared.limits.TheConstants.{MAX_CAP}
-use Rattle.uc_model.proofs.Ring.{linear, sub_nonneg}
-use Rattle.uc_model.proofs.Sizes.{product-fits, wide}
+use Rattle.uc_model.proofs.Common.{linear, sub_nonneg, product-fits}
+use Rattle.uc_model.proofs.Sizes.{wide}
 use Rattle.period_term.specs.inside.Places.{over_of, rise_of, run_of, MAX_OVER, MAX_RISE}
 use Rattle.period_term.proofs.CornerNumbers.{passed-size, rise_down-is}
 use Rattle.period_term.proofs.cell.rise_down.Goals as goal

@@ -2,9 +2,9 @@
 use Rattle.std.proofs.Common.{sym, subst, lit<, ℤ, List, to_z, of_z, slice_index_or, pos, ◌≤◌, Option, IfSome, unsigned_abs}
 use Rattle.std.specs.Int.{w64}
 use Rattle.uc_model.specs.declared.instance.Point.{Point}
-use Rattle.uc_model.proofs.Sizes.{narrow}
+use Rattle.uc_model.proofs.Common.{narrow}
 use Rattle.dual_model.specs.declared.limits.TheConstants.{MAX_CAP}
-use Rattle.dual_model.specs.TableValue.{IsCellTerm}
+use Rattle.dual_model.specs.Prelude.{IsCellTerm}
 use Rattle.uc_model.specs.declared.limits.TheConstants.{MAX_TERM}
 use Rattle.cost_curves.specs.LowerHull.{IsLowerHull}
 use Rattle.period_term.proofs.CornerNumbers.{passed-size}

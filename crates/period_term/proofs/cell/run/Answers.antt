@@ -1,8 +1,9 @@
 -- The difference of both outputs.
 use Rattle.std.proofs.Common.{◌≡◌, suc, ◌+◌, ◌*◌, ◌∙◌, ap, arith, lit<, ◌-ℤ◌}
-use Rattle.uc_model.specs.Points.{output_of}
+use Rattle.uc_model.specs.Prelude.{output_of}
 use Rattle.uc_model.specs.declared.limits.TheConstants.{MAX_POWER}
-use Rattle.uc_model.proofs.Sizes.{wide, difference-size, difference-is}
+use Rattle.uc_model.proofs.Common.{difference-size, difference-is}
+use Rattle.uc_model.proofs.Sizes.{wide}
 use Rattle.period_term.proofs.cell.run.Goals as goal
 
 pub returns-clause-value : goal.returns-clause-value

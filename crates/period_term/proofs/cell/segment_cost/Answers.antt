@@ -2,8 +2,8 @@
 use Rattle.std.proofs.Common.{◌≡◌, ◌+◌, ◌*◌, ◌≤◌, suc, sym, ap, subst, ◌∙◌, arith, lit<, to_z, of_z, ◌+ℤ◌, ◌*ℤ◌, unsigned_abs}
 use Rattle.std.specs.Int.{w64, w128}
 use Rattle.std.proofs.lemmas.Int.{to_z-of_z}
-use Rattle.uc_model.specs.Points.{point_of, output_of}
-use Rattle.uc_model.proofs.Sizes.{product-fits, sum-fits}
+use Rattle.uc_model.specs.Prelude.{point_of, output_of}
+use Rattle.uc_model.proofs.Common.{product-fits, sum-fits}
 use Rattle.dual_model.specs.declared.limits.TheConstants.{MAX_CAP, MAX_UNIT_PRICE}
 use Rattle.period_term.specs.inside.Places.{LiesOnSegment, over_of, MAX_CORNER_COST, MAX_OVER, MAX_RISE}
 use Rattle.period_term.proofs.CornerNumbers.{passed-size, sum_is, product_is, level_is, segment_floor}

@@ -2,7 +2,7 @@
 use Rattle.std.proofs.Common.{sym, subst}
 use Rattle.std.specs.Int.{w64}
 use Rattle.std.proofs.lemmas.Int.{to_z-of_z}
-use Rattle.dual_model.specs.TableValue.{IsCellTerm}
+use Rattle.dual_model.specs.Prelude.{IsCellTerm}
 use Rattle.cost_curves.specs.LowerHull.{IsLowerHull}
 use Rattle.period_term.proofs.FreedTerms.{freed_bits, of_freed}
 use Rattle.period_term.proofs.cell.term.Goals as goal

@@ -1,11 +1,10 @@
 -- Each place holds its cell's cap.
 use Rattle.std.proofs.Common.{◌≡◌, ℕ, ◌<◌, ◌≤◌, Bool, true, false, [], ◌∷◌, lit<, ℤ, pos, zero, suc, arith, ◌∙◌, to_z, of_z, slice_index_or, unsigned_abs}
 use Rattle.std.specs.Int.{w64}
-use Rattle.uc_model.proofs.Sizes.{abs_narrow, narrow}
+use Rattle.uc_model.proofs.Common.{abs_narrow, narrow}
 use Rattle.uc_model.specs.declared.limits.TheConstants.{MAX_POWER}
 use Rattle.dual_model.specs.declared.limits.TheConstants.{MAX_CAP}
-use Rattle.uc_model.specs.Terms.{place}
-use Rattle.uc_model.specs.Commitment.{cell_cap}
+use Rattle.uc_model.specs.Prelude.{place, cell_cap}
 use Rattle.period_term.proofs.unit_terms.cell_caps.Goals as goal
 
 in_places : (cap : Bool → Bool → ℤ) (neither start stop both : ℤ) → neither ≡ cap false false → start ≡ cap true false

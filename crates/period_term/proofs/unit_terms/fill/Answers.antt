@@ -4,8 +4,8 @@ use Rattle.std.specs.Int.{w64}
 use Rattle.std.proofs.lemmas.Int.{to_z-of_z}
 use Rattle.uc_model.specs.declared.instance.Thermal.{Thermal}
 use Rattle.dual_model.specs.declared.limits.TheConstants.{MAX_UNIT_PRICE}
-use Rattle.uc_model.specs.Terms.{place}
-use Rattle.dual_model.specs.TableValue.{row_at, ArePricesOf, AreTermsOfRows, IsTermOfRow}
+use Rattle.uc_model.specs.Prelude.{place}
+use Rattle.dual_model.specs.Prelude.{row_at, ArePricesOf, AreTermsOfRows, IsTermOfRow}
 use Rattle.uc_model.proofs.Sizes.{wide}
 use Rattle.period_term.proofs.unit_terms.fill.Goals as goal
 

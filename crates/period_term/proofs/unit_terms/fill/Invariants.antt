@@ -1,5 +1,5 @@
 -- The prices and the terms of the periods so far.
-use Rattle.dual_model.specs.TableValue.{ArePricesOf, AreTermsOfRows}
+use Rattle.dual_model.specs.Prelude.{ArePricesOf, AreTermsOfRows}
 use Rattle.period_term.proofs.unit_terms.fill.Given as goal
 
 abbrev pub invariant-loop-t : goal.invariant-loop-t

@@ -7,9 +7,8 @@ use Rattle.uc_model.specs.declared.instance.Point.{Point}
 use Rattle.uc_model.proofs.Sizes.{wide}
 use Rattle.uc_model.specs.declared.limits.TheConstants.{MAX_TERM}
 use Rattle.dual_model.specs.declared.limits.TheConstants.{MAX_UNIT_PRICE}
-use Rattle.uc_model.specs.Terms.{place}
-use Rattle.uc_model.specs.Commitment.{cell_cap}
-use Rattle.dual_model.specs.TableValue.{IsCellTerm, IsTermOfRow}
+use Rattle.uc_model.specs.Prelude.{place, cell_cap}
+use Rattle.dual_model.specs.Prelude.{IsCellTerm, IsTermOfRow}
 use Rattle.period_term.proofs.unit_terms.period_terms.Goals as goal
 
 place-within : (s e : Bool) → place s e < 4

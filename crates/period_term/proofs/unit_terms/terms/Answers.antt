@@ -3,8 +3,7 @@ use Rattle.std.proofs.Common.{◌≡◌, sym, subst, to_z, of_z, length, arith}
 use Rattle.std.specs.Int.{w64}
 use Rattle.std.proofs.lemmas.Int.{to_z-of_z}
 use Rattle.std.proofs.lemmas.Grind.{common_steps}
-use Rattle.dual_model.specs.UnitTerms.{AreSizedTerms}
-use Rattle.dual_model.specs.TableValue.{AreTermsFor, AreTermsOfRows}
+use Rattle.dual_model.specs.Prelude.{AreSizedTerms, AreTermsFor, AreTermsOfRows}
 use Rattle.dual_model.proofs.TermLists.{made, terms_for, sized_for, terms_of}
 use Rattle.period_term.proofs.unit_terms.terms.Goals as goal
 

@@ -1,7 +1,7 @@
 -- The table is at the scale that was asked for: that of the ascent that ended.
 use Rattle.std.proofs.Common.{◌≡◌, ◌≤◌, ◌^◌, lit<, IfOk, subst, arith, unsigned_abs}
 use Rattle.std.proofs.lemmas.Int.{ints}
-use Rattle.uc_model.proofs.Sizes.{narrow}
+use Rattle.uc_model.proofs.Common.{narrow}
 use Rattle.prices.proofs.ascent.ascend.Goals as goal
 
 pub returns-clause-scale : goal.returns-clause-scale

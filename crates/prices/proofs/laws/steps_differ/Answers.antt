@@ -1,6 +1,6 @@
 -- A scale is that of one number; so is a greatest multiplier.
 use Rattle.std.proofs.Common.{◌≡◌, ℕ, ◌+◌, ◌^◌, ◌≤◌, ⊎_elim, arith, pos}
-use Rattle.uc_model.proofs.Ring.{linear}
+use Rattle.uc_model.proofs.Common.{linear}
 use Rattle.prices.specs.Steps.{Table, IsGreatestSize, IsStepFor}
 use Rattle.prices.proofs.laws.steps_differ.Goals as goal
 

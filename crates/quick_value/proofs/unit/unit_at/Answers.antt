@@ -1,8 +1,7 @@
 -- Each unit of a lawful instance is lawful.
 use Rattle.std.proofs.Common.{◌≡◌, ◌<◌, get_or, length, sym, subst}
 use Rattle.std.proofs.lemmas.List.{get_or_read}
-use Rattle.uc_model.specs.Limits.{IsLawfulThermal}
-use Rattle.uc_model.specs.Schedule.{no_unit}
+use Rattle.uc_model.specs.Prelude.{IsLawfulThermal, no_unit}
 use Rattle.quick_value.proofs.unit.unit_at.Goals as goal
 
 pub returns-then-g-units : goal.returns-then-g-units

@@ -1,7 +1,7 @@
 -- The row at the cell's place is the cell's, or no row is.
 use Rattle.std.proofs.Common.{◌≡◌, ◌<◌, length, sym, ap, ◌∙◌, add-one, arith, to_z, of_z, w64, IsTrue, true≢false}
 use Rattle.std.proofs.lemmas.Int.{to_z-of_z}
-use Rattle.dual_model.specs.Prices.{row_of}
+use Rattle.dual_model.specs.Prelude.{row_of}
 use Rattle.ramp_duals.specs.RampRows.{RampRow, row_in}
 use Rattle.ramp_duals.proofs.RowOrder.{IsOf, earlier_none, next_place, none_at, row_of-first, row_of-none, same_place}
 use Rattle.ramp_duals.proofs.multipliers.from_place.Goals as goal

@@ -1,5 +1,5 @@
 -- The prices of the row are within the limits.
-use Rattle.uc_model.proofs.Sizes.{wide-size}
+use Rattle.uc_model.proofs.Common.{wide-size}
 use Rattle.dual_model.specs.declared.limits.TheConstants.{MAX_UNIT_PRICE}
 use Rattle.ramp_duals.proofs.PriceSizes.{row-size}
 use Rattle.ramp_duals.proofs.prices.coefficients.Goals as goal

@@ -1,6 +1,6 @@
 -- One period more.
 use Rattle.std.proofs.Common.{◌≡◌, ℕ, ◌+◌, ◌<◌, ◌≢◌, ⊎_elim, List, length, add-one, arith, sym, subst, ℤ, get_or-set_other, get_or-set_same, slice_set, length-set}
-use Rattle.dual_model.specs.TableValue.{row_at}
+use Rattle.dual_model.specs.Prelude.{row_at}
 use Rattle.ramp_duals.specs.RampRows.{Table, AreOf, IsRowOf}
 use Rattle.ramp_duals.proofs.PriceSizes.{row-size}
 use Rattle.ramp_duals.proofs.prices.fill.Goals as goal

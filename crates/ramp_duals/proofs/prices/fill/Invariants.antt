@@ -1,6 +1,6 @@
 -- The multipliers of period t are known, and the rows before it are written.
 use Rattle.std.proofs.Common.{◌≡◌, ℕ, ◌<◌, length}
-use Rattle.dual_model.specs.TableValue.{row_at}
+use Rattle.dual_model.specs.Prelude.{row_at}
 use Rattle.ramp_duals.specs.RampRows.{AreOf, IsRowOf}
 use Rattle.ramp_duals.proofs.prices.fill.Given as goal
 

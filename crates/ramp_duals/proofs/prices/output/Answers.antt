@@ -2,7 +2,8 @@
 use Rattle.std.proofs.Common.{rules, FitsSigned, ◌≡◌, ◌+◌, ◌^◌, ◌≤◌, ◌∙◌, lit<, arith, ℤ, ◌+ℤ◌, ◌-ℤ◌, unsigned_abs}
 use Rattle.std.specs.Int.{w64}
 use Rattle.std.proofs.lemmas.Int.{ints, to_z-of_z}
-use Rattle.uc_model.proofs.Sizes.{difference-is, difference-size, sum-is, sum-size, wide}
+use Rattle.uc_model.proofs.Common.{difference-is, difference-size, sum-is, sum-size}
+use Rattle.uc_model.proofs.Sizes.{wide}
 use Rattle.ramp_duals.proofs.prices.output.Goals as goal
 
 five : (own later wide both all up demand next_up down next_down : ℤ) → own ≡ up -ℤ demand → later ≡ next_down -ℤ down → wide ≡ next_up

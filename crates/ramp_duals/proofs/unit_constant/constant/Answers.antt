@@ -1,11 +1,10 @@
 -- One period more, and the initial output at the end.
 use Rattle.std.proofs.Common.{◌≡◌, ℕ, suc, ◌+◌, ◌*◌, ◌^◌, ◌≤◌, length, add-one, sym, ap, subst, ◌∙◌, lit<, arith, ◌+ℤ◌, ◌-ℤ◌, ◌*ℤ◌, to_z, of_z, neg_ℤ, unsigned_abs}
 use Rattle.std.specs.Int.{w128}
-use Rattle.uc_model.specs.Commitment.{initial_p}
-use Rattle.uc_model.specs.Sums.{sum_below}
-use Rattle.uc_model.proofs.Sizes.{abs_add, wide, wide-size}
-use Rattle.dual_model.specs.NodeValue.{unit_constant}
-use Rattle.dual_model.specs.Prices.{up_at, down_at}
+use Rattle.uc_model.specs.Prelude.{initial_p, sum_below}
+use Rattle.uc_model.proofs.Common.{abs_add, wide-size}
+use Rattle.uc_model.proofs.Sizes.{wide}
+use Rattle.dual_model.specs.Prelude.{unit_constant, up_at, down_at}
 use Rattle.ramp_duals.specs.RampRows.{AreOf}
 use Rattle.ramp_duals.specs.Sizes.{MAX_CONSTANT}
 use Rattle.ramp_duals.proofs.ConstantSizes.{constant_size}

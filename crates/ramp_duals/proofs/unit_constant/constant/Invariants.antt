@@ -1,7 +1,7 @@
 -- The sum over the periods before t, its size, and the multipliers of period t.
 use Rattle.std.proofs.Common.{◌≡◌, ◌*◌, ◌^◌, ◌≤◌, ◌-ℤ◌, ◌*ℤ◌, neg_ℤ, unsigned_abs}
-use Rattle.uc_model.specs.Sums.{sum_below}
-use Rattle.dual_model.specs.Prices.{up_at, down_at}
+use Rattle.uc_model.specs.Prelude.{sum_below}
+use Rattle.dual_model.specs.Prelude.{up_at, down_at}
 use Rattle.ramp_duals.specs.RampRows.{AreOf}
 use Rattle.ramp_duals.proofs.unit_constant.constant.Given as goal
 

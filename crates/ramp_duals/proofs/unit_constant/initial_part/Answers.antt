@@ -1,7 +1,7 @@
 -- The difference has 65 bits, and the initial output fewer than 46.
 use Rattle.std.proofs.Common.{◌*◌, ◌^◌, ◌≤◌, lit<, arith, rules, unsigned_abs}
 use Rattle.uc_model.specs.declared.limits.TheConstants.{MAX_POWER}
-use Rattle.uc_model.proofs.Sizes.{from-size, product-fits, product-size, wide-size}
+use Rattle.uc_model.proofs.Common.{from-size, product-fits, product-size, wide-size}
 use Rattle.ramp_duals.proofs.unit_constant.initial_part.Goals as goal
 
 pub product-requires : goal.product-requires

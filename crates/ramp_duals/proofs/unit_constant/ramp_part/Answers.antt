@@ -2,7 +2,8 @@
 use Rattle.std.proofs.Common.{rules, FitsSigned, ◌^◌, ◌≤◌, ◌∙◌, lit<, arith, pos, unsigned_abs}
 use Rattle.std.specs.Int.{w64}
 use Rattle.std.proofs.lemmas.Int.{ints, to_z-of_z}
-use Rattle.uc_model.proofs.Sizes.{difference-is, difference-size, sum-is, sum-size, wide, wide-size}
+use Rattle.uc_model.proofs.Common.{difference-is, difference-size, sum-is, sum-size, wide-size}
+use Rattle.uc_model.proofs.Sizes.{wide}
 use Rattle.ramp_duals.proofs.unit_constant.ramp_part.Goals as goal
 
 pub returns-clause-value : goal.returns-clause-value

@@ -2,7 +2,8 @@
 use Rattle.std.proofs.Common.{◌≡◌, ℕ, ◌∙◌, ◌+◌, ◌*◌, ◌<◌, ◌≤◌, ◌^◌, sym, subst, arith, lit<, rules, FitsSigned, ℤ, pos, ◌+ℤ◌, ◌*ℤ◌, to_z, of_z, unsigned_abs}
 use Rattle.std.specs.Int.{w64}
 use Rattle.std.proofs.lemmas.Int.{ints, to_z-of_z}
-use Rattle.uc_model.proofs.Sizes.{abs_mul, narrow, sum-fits, sum-is, sum-size, wide}
+use Rattle.uc_model.proofs.Common.{abs_mul, narrow, sum-fits, sum-is, sum-size}
+use Rattle.uc_model.proofs.Sizes.{wide}
 use Rattle.report.proofs.schedule.total_output.Goals as goal
 
 -- any bits of 64 say a number of 63

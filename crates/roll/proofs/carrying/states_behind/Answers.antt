@@ -1,8 +1,7 @@
 -- The next unit with its row.
 use Rattle.std.proofs.Common.{List, ◌≡◌, ◌+◌, ◌-◌, [], sym, subst, ◌∙◌, arith}
 use Rattle.std.proofs.lemmas.List.{get_or_read}
-use Rattle.uc_model.specs.Schedule.{no_unit}
-use Rattle.uc_model.specs.Limits.{IsLawfulThermal}
+use Rattle.uc_model.specs.Prelude.{no_unit, IsLawfulThermal}
 use Rattle.schedule_check.specs.WholeWatts.{cell}
 use Rattle.roll.specs.Left.{CarriedUnit, IsLeftBy}
 use Rattle.roll.specs.inside.Rows.{AreStatesBehind, IsWithinRange, row_at, unit_at}

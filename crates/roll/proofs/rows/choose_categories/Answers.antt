@@ -1,8 +1,7 @@
 -- One more category; and at the end the pattern is that of the row.
 use Rattle.std.proofs.Common.{◌≡◌, ◌≢◌, ℕ, ◌<◌, ◌≤◌, ⊎_elim, sym, subst, ◌∙◌, arith}
 use Rattle.std.proofs.lemmas.Bool.{cases_lt}
-use Rattle.uc_model.specs.Commitment.{Commitment}
-use Rattle.uc_model.specs.PatternBits.{commitment_of}
+use Rattle.uc_model.specs.Prelude.{Commitment, commitment_of}
 use Rattle.schedule_check.specs.WholeWatts.{category, commitment}
 use Rattle.start_costs.specs.Cheapest.{HasLeastCategory}
 use Rattle.roll.proofs.rows.choose_categories.Goals as goal

@@ -1,6 +1,6 @@
 -- The categories so far are chosen, and all else is as before.
 use Rattle.std.proofs.Common.{ℕ, ◌<◌}
-use Rattle.uc_model.specs.PatternBits.{commitment_of}
+use Rattle.uc_model.specs.Prelude.{commitment_of}
 use Rattle.schedule_check.specs.WholeWatts.{category, cell}
 use Rattle.roll.specs.Stitched.{SameDispatch}
 use Rattle.start_costs.specs.Cheapest.{HasLeastCategory}

@@ -1,7 +1,7 @@
 -- One more cell.
 use Rattle.std.proofs.Common.{◌≡◌, ◌≢◌, ◌<◌, ◌≤◌, ⊎_elim, subst, ◌∙◌, arith}
 use Rattle.std.proofs.lemmas.Bool.{cases_lt}
-use Rattle.uc_model.specs.PatternBits.{commitment_of}
+use Rattle.uc_model.specs.Prelude.{commitment_of}
 use Rattle.schedule_check.specs.WholeWatts.{commitment}
 use Rattle.roll.proofs.rows.pattern_of.Goals as goal
 

@@ -1,6 +1,6 @@
 -- The pattern is that of the cells so far, and off behind them.
 use Rattle.std.proofs.Common.{◌≡◌, ℕ, ◌<◌, ◌≤◌, false}
-use Rattle.uc_model.specs.PatternBits.{commitment_of}
+use Rattle.uc_model.specs.Prelude.{commitment_of}
 use Rattle.schedule_check.specs.WholeWatts.{commitment}
 use Rattle.roll.proofs.rows.pattern_of.Given as goal
 

@@ -1,8 +1,7 @@
 -- The next row.
 use Rattle.std.proofs.Common.{List, ◌≡◌, ◌+◌, [], sym, subst, ◌∙◌, arith}
 use Rattle.std.proofs.lemmas.List.{get_or_read}
-use Rattle.uc_model.specs.Schedule.{no_unit}
-use Rattle.uc_model.specs.Limits.{IsLawfulThermal}
+use Rattle.uc_model.specs.Prelude.{no_unit, IsLawfulThermal}
 use Rattle.roll.specs.Left.{Cell}
 use Rattle.roll.specs.inside.Joined.{AreStitchedRows, IsStitchedRow}
 use Rattle.roll.specs.inside.Rows.{row_at, unit_at}

@@ -1,10 +1,9 @@
 -- The instance cut to all of its periods is the instance, so what is kept of them obeys it.
 use Rattle.std.proofs.Common.{◌≡◌, ◌≤◌, sym, subst, ◌∙◌, arith, to_z, of_z, unsigned_abs}
 use Rattle.std.specs.Int.{w64}
-use Rattle.uc_model.specs.PrintedSchedule.{HasShapeOf, printed_cost, printed_denominator}
+use Rattle.uc_model.specs.Prelude.{HasShapeOf, printed_cost, printed_denominator}
 use Rattle.uc_model.specs.declared.limits.TheConstants.{COST_MAX}
-use Rattle.uc_model.proofs.PrintedCosts.{printed_cost-fits, watts-factor}
-use Rattle.uc_model.proofs.Sizes.{narrow}
+use Rattle.uc_model.proofs.Common.{printed_cost-fits, watts-factor, narrow}
 use Rattle.roll.specs.Left.{Instance}
 use Rattle.roll.specs.Kept.{PrintedObeys}
 use Rattle.roll.proofs.Parts.{first_of_all}

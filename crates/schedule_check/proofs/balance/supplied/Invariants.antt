@@ -1,6 +1,6 @@
 -- The sum over the units so far, and its size.
 use Rattle.std.proofs.Common.{◌≡◌, ◌*◌, ◌≤◌, unsigned_abs}
-use Rattle.uc_model.specs.Sums.{sum_below}
+use Rattle.uc_model.specs.Prelude.{sum_below}
 use Rattle.schedule_check.specs.inside.Supplies.{given_at}
 use Rattle.schedule_check.specs.declared.balance.TheConstants.{MOST_OUTPUT}
 use Rattle.schedule_check.proofs.balance.supplied.Given as goal

@@ -1,9 +1,7 @@
 -- The factors stand in another order.
 use Rattle.std.proofs.Common.{◌∙◌, ap, ◌-ℤ◌, ◌*ℤ◌}
-use Rattle.uc_model.specs.Commitment.{stop_reduction}
-use Rattle.uc_model.specs.Sums.{bit}
-use Rattle.uc_model.proofs.Caps.{is_in_bits}
-use Rattle.uc_model.proofs.Ring.{mul_comm}
+use Rattle.uc_model.specs.Prelude.{stop_reduction, bit}
+use Rattle.uc_model.proofs.Common.{is_in_bits, mul_comm}
 use Rattle.schedule_check.proofs.dispatch.initial_limit.Goals as goal
 
 pub returns : goal.returns

@@ -1,6 +1,6 @@
 -- The stop is looked for in the next period.
 use Rattle.std.proofs.Common.{◌≡◌, suc, ◌+◌, ◌∙◌, ap, arith, rules}
-use Rattle.uc_model.specs.Commitment.{stops}
+use Rattle.uc_model.specs.Prelude.{stops}
 use Rattle.schedule_check.specs.WholeWatts.{commitment}
 use Rattle.schedule_check.proofs.dispatch.is_below_stop_cap.Goals as goal
 

@@ -3,9 +3,9 @@ use Rattle.std.proofs.Common.{◌≡◌, ◌≤◌, sym, ap, subst, ◌∙◌, a
 use Rattle.std.specs.Int.{w64, w128}
 use Rattle.std.proofs.lemmas.Int.{fits_signed_from_abs}
 use Rattle.uc_model.specs.declared.limits.TheConstants.{COST_MAX}
-use Rattle.uc_model.specs.PrintedSchedule.{printed_denominator}
-use Rattle.uc_model.proofs.PrintedCosts.{watts-factor, printed_cost-fits}
-use Rattle.uc_model.proofs.Sizes.{wide, narrow}
+use Rattle.uc_model.specs.Prelude.{printed_denominator}
+use Rattle.uc_model.proofs.Common.{watts-factor, printed_cost-fits, narrow}
+use Rattle.uc_model.proofs.Sizes.{wide}
 use Rattle.schedule_check.proofs.Priced.{priced_over}
 use Rattle.schedule_check.proofs.feasibility.cost.Goals as goal
 

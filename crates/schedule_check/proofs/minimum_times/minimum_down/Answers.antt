@@ -1,6 +1,6 @@
 -- The window is the minimum down time, or the whole horizon where that is shorter.
 use Rattle.std.proofs.Common.{ℕ, not, ◌∙◌, ap, refl}
-use Rattle.uc_model.specs.Commitment.{keeps_minimum_at, stops}
+use Rattle.uc_model.specs.Prelude.{keeps_minimum_at, stops}
 use Rattle.schedule_check.specs.WholeWatts.{commitment}
 use Rattle.schedule_check.proofs.minimum_times.minimum_down.Goals as goal
 

@@ -1,6 +1,6 @@
 -- The window is the minimum up time, or the whole horizon where that is shorter.
 use Rattle.std.proofs.Common.{◌∙◌, ap, refl}
-use Rattle.uc_model.specs.Commitment.{keeps_minimum_at, starts}
+use Rattle.uc_model.specs.Prelude.{keeps_minimum_at, starts}
 use Rattle.schedule_check.specs.WholeWatts.{commitment}
 use Rattle.schedule_check.proofs.minimum_times.minimum_up.Goals as goal
 

@@ -2,9 +2,8 @@
 use Rattle.std.proofs.Common.{◌≡◌, ◌^◌, ◌≤◌, ◌∙◌, sym, ap, subst, arith, to_z, of_z, pos, ◌*ℤ◌, ◌<ℤ◌, unsigned_abs}
 use Rattle.std.specs.Int.{w64, w128}
 use Rattle.std.proofs.lemmas.Int.{to_z-of_z}
-use Rattle.uc_model.specs.Division.{IsCeiling}
-use Rattle.uc_model.proofs.Quotients.{IsCeiling_unique, quotient_up-is}
-use Rattle.uc_model.proofs.Ring.{linear, mul-one}
+use Rattle.uc_model.specs.Prelude.{IsCeiling}
+use Rattle.uc_model.proofs.Common.{IsCeiling_unique, quotient_up-is, linear, mul-one}
 use Rattle.uc_model.proofs.Sizes.{wide}
 use Rattle.cost_curves.proofs.CornerSizes.{ceiling-size}
 use Rattle.schedule_check.specs.declared.pricing.TheConstants.{MOST_MISSING_COST}

@@ -2,7 +2,7 @@
 use Rattle.std.proofs.Common.{◌≤ℤ◌, ◌*ℤ◌, ◌∙◌, pos, sym, subst, to_z, of_z, unsigned_abs}
 use Rattle.std.specs.Int.{w64}
 use Rattle.std.proofs.lemmas.Int.{to_z-of_z}
-use Rattle.uc_model.specs.Hull.{hull_cost}
+use Rattle.uc_model.specs.Prelude.{hull_cost}
 use Rattle.cost_curves.specs.LowerHull.{width_of}
 use Rattle.cost_curves.proofs.HullValues.{whole_width}
 use Rattle.schedule_check.proofs.pricing.output_cost.Goals as goal

@@ -1,8 +1,8 @@
 -- The units' costs and those of what is missing, as 128 bits keep them.
 use Rattle.std.proofs.Common.{◌≡◌, ◌+◌, ◌*◌, ◌^◌, ◌≤◌, ◌∙◌, sym, subst, arith, ◌+ℤ◌, unsigned_abs}
-use Rattle.uc_model.specs.PrintedSchedule.{printed_shortage_cost}
-use Rattle.uc_model.specs.Sums.{sum_below}
-use Rattle.uc_model.proofs.Sizes.{abs_add, wide}
+use Rattle.uc_model.specs.Prelude.{printed_shortage_cost, sum_below}
+use Rattle.uc_model.proofs.Common.{abs_add}
+use Rattle.uc_model.proofs.Sizes.{wide}
 use Rattle.schedule_check.specs.WholeWatts.{lacking_alone}
 use Rattle.schedule_check.specs.declared.pricing.TheConstants.{MOST_CELL_COST, MOST_PERIODS, MOST_UNITS}
 use Rattle.schedule_check.proofs.pricing.printed_cost.Goals as goal

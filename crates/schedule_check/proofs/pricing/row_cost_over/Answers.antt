@@ -1,6 +1,6 @@
 -- The cell's cost is the next term.
 use Rattle.std.proofs.Common.{arith}
-use Rattle.uc_model.specs.PrintedSchedule.{printed_cell_cost}
+use Rattle.uc_model.specs.Prelude.{printed_cell_cost}
 use Rattle.schedule_check.specs.WholeWatts.{cell}
 use Rattle.schedule_check.specs.declared.pricing.TheConstants.{MOST_CELL_COST}
 use Rattle.schedule_check.proofs.AddedSums.{added}

@@ -1,7 +1,6 @@
 -- The sum over the periods so far, and its size.
 use Rattle.std.proofs.Common.{◌≡◌, ◌*◌, ◌≤◌, IfSome, unsigned_abs}
-use Rattle.uc_model.specs.Sums.{sum_below}
-use Rattle.uc_model.specs.PrintedSchedule.{printed_cell_cost}
+use Rattle.uc_model.specs.Prelude.{sum_below, printed_cell_cost}
 use Rattle.schedule_check.specs.WholeWatts.{cell}
 use Rattle.schedule_check.specs.inside.Known.{IsKnownOn}
 use Rattle.schedule_check.specs.declared.pricing.TheConstants.{MOST_CELL_COST}

@@ -1,8 +1,7 @@
 -- The period's cost is the next term.
 use Rattle.std.proofs.Common.{◌≡◌, ◌*◌, ◌∙◌, arith, rules, pos, ◌+ℤ◌, ◌*ℤ◌, slice_index_or, to_z, of_z}
 use Rattle.std.specs.Int.{w64}
-use Rattle.uc_model.specs.Division.{quotient_up}
-use Rattle.uc_model.specs.PrintedSchedule.{printed_shortage_cost}
+use Rattle.uc_model.specs.Prelude.{quotient_up, printed_shortage_cost}
 use Rattle.schedule_check.specs.WholeWatts.{lacking_alone}
 use Rattle.schedule_check.specs.declared.pricing.TheConstants.{MOST_MISSING_COST}
 use Rattle.schedule_check.proofs.AddedSums.{added}

@@ -1,7 +1,6 @@
 -- The sum over the periods so far, and its size.
 use Rattle.std.proofs.Common.{◌≡◌, ◌*◌, ◌≤◌, unsigned_abs}
-use Rattle.uc_model.specs.Sums.{sum_below}
-use Rattle.uc_model.specs.PrintedSchedule.{printed_shortage_cost}
+use Rattle.uc_model.specs.Prelude.{sum_below, printed_shortage_cost}
 use Rattle.schedule_check.specs.WholeWatts.{lacking_alone}
 use Rattle.schedule_check.specs.declared.pricing.TheConstants.{MOST_MISSING_COST}
 use Rattle.schedule_check.proofs.pricing.shortages_cost.Given as goal

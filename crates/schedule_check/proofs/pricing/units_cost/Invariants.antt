@@ -1,8 +1,6 @@
 -- The sum over the units so far, and its size.
 use Rattle.std.proofs.Common.{◌≡◌, ◌*◌, ◌≤◌, unsigned_abs}
-use Rattle.uc_model.specs.Sums.{sum_below}
-use Rattle.uc_model.specs.Schedule.{thermal_unit}
-use Rattle.uc_model.specs.PrintedSchedule.{cell_at, printed_cell_cost}
+use Rattle.uc_model.specs.Prelude.{sum_below, thermal_unit, cell_at, printed_cell_cost}
 use Rattle.schedule_check.specs.declared.pricing.TheConstants.{MOST_PERIODS, MOST_CELL_COST}
 use Rattle.schedule_check.proofs.pricing.units_cost.Given as goal
 

@@ -1,6 +1,6 @@
 -- There is a stop between the lags where the counts at both ends differ.
 use Rattle.std.proofs.Common.{◌≡◌, suc, ◌+◌, ◌-◌, sym, ap, ◌∙◌, arith, nat_lt}
-use Rattle.uc_model.specs.Commitment.{stops}
+use Rattle.uc_model.specs.Prelude.{stops}
 use Rattle.schedule_check.specs.inside.Changes.{count_below}
 use Rattle.schedule_check.proofs.Counting.{has_stop, apart}
 use Rattle.schedule_check.proofs.start_category.has_stop_within.Goals as goal

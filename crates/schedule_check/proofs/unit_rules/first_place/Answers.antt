@@ -1,8 +1,7 @@
 -- A unit is the instance's of its number, and its row the schedule's.
 use Rattle.std.proofs.Common.{◌≡◌, ◌<◌, [], length, sym, ap, subst, ◌∙◌, arith, slice_index_or}
 use Rattle.std.proofs.lemmas.List.{get_or_read}
-use Rattle.uc_model.specs.Limits.{IsLawfulThermal}
-use Rattle.uc_model.specs.Schedule.{thermal_unit, no_unit}
+use Rattle.uc_model.specs.Prelude.{IsLawfulThermal, thermal_unit, no_unit}
 use Rattle.schedule_check.specs.WholeWatts.{IsSizedRow, row_of}
 use Rattle.schedule_check.proofs.unit_rules.first_place.Goals as goal
 

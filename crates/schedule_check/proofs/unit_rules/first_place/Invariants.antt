@@ -1,6 +1,6 @@
 -- The rule holds for each of the units so far.
 use Rattle.std.proofs.Common.{ℕ, ◌<◌, IsTrue}
-use Rattle.uc_model.specs.Schedule.{thermal_unit}
+use Rattle.uc_model.specs.Prelude.{thermal_unit}
 use Rattle.schedule_check.specs.WholeWatts.{over, row_of, unit_holds_by, unit_periods}
 use Rattle.schedule_check.proofs.unit_rules.first_place.Given as goal
 

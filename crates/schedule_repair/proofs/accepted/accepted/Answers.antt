@@ -1,11 +1,9 @@
 -- What the check accepts obeys and has its printed cost, which fits.
 use Rattle.std.proofs.Common.{◌≡◌, ◌≤◌, subst, sym, lit<, ap, ◌∙◌, to_z, of_z, All, unsigned_abs}
 use Rattle.std.specs.Int.{w64}
-use Rattle.uc_model.specs.Limits.{IsLimit}
-use Rattle.uc_model.specs.PrintedSchedule.{printed_cost, printed_denominator}
+use Rattle.uc_model.specs.Prelude.{IsLimit, printed_cost, printed_denominator}
 use Rattle.uc_model.specs.declared.limits.TheConstants.{COST_MAX}
-use Rattle.uc_model.proofs.PrintedCosts.{printed_cost-fits, watts-factor}
-use Rattle.uc_model.proofs.Sizes.{narrow}
+use Rattle.uc_model.proofs.Common.{printed_cost-fits, watts-factor, narrow}
 use Rattle.schedule_check.specs.PlainNumbers.{IsPlainCell}
 use Rattle.schedule_repair.proofs.PlainSchedules.{plain_rows}
 use Rattle.schedule_repair.proofs.accepted.accepted.Goals as goal

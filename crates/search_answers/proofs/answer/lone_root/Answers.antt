@@ -1,6 +1,6 @@
 -- A fresh root is open.
 use Rattle.std.proofs.Common.{false, pos, refl, subst, sym}
-use Rattle.branch_tree.specs.TreeView.{TreeView, IsOpenAt}
+use Rattle.branch_tree.specs.Prelude.{TreeView, IsOpenAt}
 use Rattle.search_answers.proofs.answer.lone_root.Goals as goal
 
 pub close-requires : goal.close-requires

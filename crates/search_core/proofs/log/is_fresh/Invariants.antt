@@ -1,7 +1,7 @@
 -- No entry of the node so far is at this table with a value of this kind.
 use Rattle.std.proofs.Common.{◌≡◌, ℕ, ◌<◌, get_or}
 use Rattle.branch_tree.specs.declared.found.Entry.{Entry}
-use Rattle.search_machine.specs.Steps.{IsElsewhere}
+use Rattle.search_machine.specs.Prelude.{IsElsewhere}
 use Rattle.search_core.proofs.log.is_fresh.Given as goal
 
 abbrev pub invariant-loop-entry : goal.invariant-loop-entry

@@ -1,6 +1,6 @@
 -- The first desk, and so many others.
 use Rattle.std.proofs.Common.{◌≡◌, ◌∷◌, replicate}
-use Rattle.search_machine.specs.Machine.{no_desk, first_desk}
+use Rattle.search_machine.specs.Prelude.{no_desk, first_desk}
 use Rattle.search_core.proofs.start.desks.Given as goal
 
 abbrev pub invariant-loop : goal.invariant-loop

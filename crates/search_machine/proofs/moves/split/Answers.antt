@@ -1,7 +1,6 @@
 -- The leaf stores something else first, and is split then.
 use Rattle.std.proofs.Common.{◌≡◌, ◌+◌, ◌≤◌, ap, sym, ◌∙◌, subst, arith}
-use Rattle.branch_tree.specs.NumberedTree.{node_count, replaced, split_leaf}
-use Rattle.branch_tree.specs.TreeView.{TreeView, IsOpenAt, IsFreeAt}
+use Rattle.branch_tree.specs.Prelude.{node_count, replaced, split_leaf, TreeView, IsOpenAt, IsFreeAt}
 use Rattle.branch_tree.proofs.Grown.{closed_count}
 use Rattle.search_machine.specs.Moves.{closed, split}
 use Rattle.search_machine.proofs.Growth.{open_again, free_again}

@@ -1,6 +1,6 @@
 -- The root is open.
 use Rattle.std.proofs.Common.{refl, false, pos, sym, subst}
-use Rattle.branch_tree.specs.TreeView.{TreeView, IsOpenAt}
+use Rattle.branch_tree.specs.Prelude.{TreeView, IsOpenAt}
 use Rattle.search_machine.proofs.start.root.Goals as goal
 
 pub close-requires : goal.close-requires

@@ -1,6 +1,6 @@
 -- Tables are equal where their parts are.
 use Rattle.std.proofs.Common.{◌≡◌, ap, sym, ◌∙◌, rules}
-use Rattle.dual_model.specs.PriceTable.{PriceTable}
+use Rattle.dual_model.specs.Prelude.{PriceTable}
 use Rattle.search_machine.proofs.tables.is_same_table.Goals as goal
 
 same : (a b : PriceTable) → a.units ≡ b.units → a.k ≡ b.k → a.pi ≡ b.pi → a.mu ≡ b.mu → a.ramps ≡ b.ramps → a ≡ b

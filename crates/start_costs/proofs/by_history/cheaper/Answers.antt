@@ -2,9 +2,7 @@
 -- later ones, and else that one is.
 use Rattle.std.proofs.Common.{◌≡◌, ℕ, suc, ◌<◌, ◌⊎◌, ⊎_elim, sym, ap, subst, ◌∙◌, arith, ℤ, ◌≤ℤ◌, ◌<ℤ◌, IsTrue, true≢false}
 use Rattle.std.proofs.lemmas.Int.{ints, to_z-of_z}
-use Rattle.uc_model.specs.Commitment.{Commitment}
-use Rattle.uc_model.specs.PatternBits.{commitment_of}
-use Rattle.uc_model.specs.StartCategory.{category_cost, is_category_allowed}
+use Rattle.uc_model.specs.Prelude.{Commitment, commitment_of, category_cost, is_category_allowed}
 use Rattle.start_costs.specs.Cheapest.{Thermal, IsCheapestAbove}
 use Rattle.start_costs.proofs.by_history.cheaper.Goals as goal
 use Rattle.start_costs.proofs.by_history.cheaper.Goals.{else-is_allowed-via-then-is_allowed+else-own-least, else-is_allowed-via-else-is_allowed}

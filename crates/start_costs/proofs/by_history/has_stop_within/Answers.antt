@@ -1,10 +1,8 @@
 -- A stop that is found is one of those asked for, and where none is found there is none.
 use Rattle.std.proofs.Common.{◌≡◌, ℕ, zero, suc, ◌-◌, ◌<◌, ◌≤◌, Bool, true, false, ◌&&◌, ◌||◌, refl, sym, ◌∙◌, ap, arith, IsTrue, nat_le}
 use Rattle.std.proofs.lemmas.Bool.{and_from, leb-true, le-leb}
-use Rattle.uc_model.specs.Commitment.{stops}
-use Rattle.uc_model.specs.PatternBits.{commitment_of}
-use Rattle.uc_model.specs.Sums.{any_below}
-use Rattle.uc_model.proofs.Tests.{any_below-from}
+use Rattle.uc_model.specs.Prelude.{stops, commitment_of, any_below}
+use Rattle.uc_model.proofs.Common.{any_below-from}
 use Rattle.start_costs.proofs.by_history.has_stop_within.Goals as goal
 
 found_in : (from to i : ℕ) (test : ℕ → Bool) → from ≤ i → i < to → IsTrue (test i) → IsTrue (any_below to (λ k. nat_le from k && test k))

@@ -1,7 +1,6 @@
 -- None of the periods tried so far has a stop.
 use Rattle.std.proofs.Common.{◌≡◌, ℕ, ◌-◌, ◌<◌, ◌≤◌, false}
-use Rattle.uc_model.specs.Commitment.{stops}
-use Rattle.uc_model.specs.PatternBits.{commitment_of}
+use Rattle.uc_model.specs.Prelude.{stops, commitment_of}
 use Rattle.start_costs.proofs.by_history.has_stop_within.Given as goal
 
 abbrev pub invariant-loop-i : goal.invariant-loop-i

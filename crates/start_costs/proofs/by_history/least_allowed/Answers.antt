@@ -1,9 +1,7 @@
 -- At a start an allowed category costs no less than the least start cost by the last stop, and just that on regular rows.
 use Rattle.std.proofs.Common.{ℕ, zero, suc, ◌<◌, arith, sym, subst, ◌∙◌, ◌≤ℤ◌, IsTrue, true≢false}
-use Rattle.uc_model.specs.Commitment.{Commitment}
-use Rattle.uc_model.specs.PatternBits.{commitment_of}
-use Rattle.uc_model.specs.StartCategory.{category_cost, is_category_allowed, last_stop, sigma}
-use Rattle.uc_model.proofs.StartCosts.{sigma-le-allowed}
+use Rattle.uc_model.specs.Prelude.{Commitment, commitment_of, category_cost, is_category_allowed, last_stop, sigma}
+use Rattle.uc_model.proofs.Common.{sigma-le-allowed}
 use Rattle.start_costs.specs.Cheapest.{Thermal}
 use Rattle.start_costs.proofs.RegularStarts.{regular_cost}
 use Rattle.start_costs.proofs.by_history.least_allowed.Goals as goal

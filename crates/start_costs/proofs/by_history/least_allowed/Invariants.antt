@@ -1,5 +1,5 @@
 -- The cheapest category above s is known.
-use Rattle.uc_model.specs.PatternBits.{commitment_of}
+use Rattle.uc_model.specs.Prelude.{commitment_of}
 use Rattle.start_costs.specs.Cheapest.{IsCheapestAbove}
 use Rattle.start_costs.proofs.by_history.least_allowed.Given as goal
 

@@ -1,7 +1,7 @@
 -- A run without an hour lets the output before fall to nothing; one with an hour begins in the first period.
 use Rattle.std.proofs.Common.{◌≡◌, lit<, ◌*◌, arith, sym, ap, ◌∙◌, pos, Some, None}
 use Rattle.std.proofs.lemmas.Bool.{cond-true, cond-false}
-use Rattle.uc_model.proofs.Sizes.{narrow}
+use Rattle.uc_model.proofs.Common.{narrow}
 use Rattle.unit_runs.specs.Runs.{entry_output}
 use Rattle.unit_runs.specs.RunsToGo.{run_until}
 use Rattle.state_walk.specs.inside.CostToEnd.{highest_end, is_between, lowest_end}

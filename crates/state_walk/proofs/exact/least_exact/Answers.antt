@@ -5,9 +5,8 @@ use Rattle.std.proofs.lemmas.Int.{ints}
 use Rattle.cost_curves.specs.LowerHull.{IsLowerHull}
 use Rattle.step_functions.specs.Functions.{run_count}
 use Rattle.hull_function.specs.Hulls.{IsHull, IsScale, Point}
-use Rattle.uc_model.specs.Limits.{IsLawfulInstance}
-use Rattle.uc_model.specs.Schedule.{thermal_count, thermal_unit}
-use Rattle.dual_model.specs.Prices.{HasSizeOf, IsWithinLimits}
+use Rattle.uc_model.specs.Prelude.{IsLawfulInstance, thermal_count, thermal_unit}
+use Rattle.dual_model.specs.Prelude.{HasSizeOf, IsWithinLimits}
 use Rattle.hull_function.proofs.Units.{lawful-problem, scale-of, unit-read}
 use Rattle.hull_function.specs.Problems.{IsLawfulProblem}
 use Rattle.unit_runs.specs.Patterns.{Instance}

@@ -1,8 +1,6 @@
 -- A level run from a point on is as high as the point.
 use Rattle.std.proofs.Common.{◌≡◌, lit<, ◌*◌, ap, ◌∙◌, arith, pos, ◌+ℤ◌, ◌-ℤ◌, unsigned_abs}
-use Rattle.uc_model.proofs.Ring.{linear, mul-zero}
-use Rattle.uc_model.proofs.HullPoints.{abs_is}
-use Rattle.uc_model.proofs.Sizes.{narrow}
+use Rattle.uc_model.proofs.Common.{linear, mul-zero, abs_is, narrow}
 use Rattle.step_functions.specs.Functions.{Steps, last_place, value_at}
 use Rattle.state_walk.specs.inside.Problems.{MAX_POWER}
 use Rattle.state_walk.proofs.rest.set_level.Goals as goal

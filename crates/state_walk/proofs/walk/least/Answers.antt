@@ -1,14 +1,12 @@
 -- The table's answer is the recursion's from the beginning.
 use Rattle.std.proofs.Common.{◌≡◌, ℤ, subst, sym, ◌∙◌, arith, Option, Some, None, IfSome, IfNone}
-use Rattle.uc_model.specs.Limits.{IsLawfulThermal}
+use Rattle.uc_model.specs.Prelude.{IsLawfulThermal, period_count}
 use Rattle.uc_model.specs.declared.instance.Thermal.{Thermal}
 use Rattle.uc_model.specs.declared.terms.Terms.{Terms}
 use Rattle.dual_model.specs.declared.node.Fix.{Fix}
-use Rattle.uc_model.specs.Terms.{period_count}
-use Rattle.dual_model.specs.UnitTerms.{AreSizedTerms}
-use Rattle.dual_model.specs.CostToGo.{IsWithin, MAX_COST_TO_GO}
+use Rattle.dual_model.specs.Prelude.{AreSizedTerms, IsWithin, MAX_COST_TO_GO, IsLeastValue}
 use Rattle.dual_model.proofs.CostSizes.{cost_to_go-fits}
-use Rattle.dual_model.specs.PatternValue.{HasNoPattern, IsLeastValue}
+use Rattle.dual_model.specs.PatternValue.{HasNoPattern}
 use Rattle.dual_model.proofs.LeastValues.{from_start, least-from_start, none-from_start}
 use Rattle.dual_model.proofs.TableValues.{unit_value-of}
 use Rattle.state_walk.proofs.walk.least.Goals as goal

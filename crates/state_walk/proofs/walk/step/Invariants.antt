@@ -1,6 +1,6 @@
 -- The entries before the place are of this period, and the others as they were.
 use Rattle.std.proofs.Common.{◌≡◌, ℕ, ◌-◌, ◌<◌, ◌≤◌}
-use Rattle.uc_model.specs.Terms.{period_count}
+use Rattle.uc_model.specs.Prelude.{period_count}
 use Rattle.state_walk.specs.inside.WalkTable.{entry, entry_at}
 use Rattle.state_walk.proofs.walk.step.Given as goal
 

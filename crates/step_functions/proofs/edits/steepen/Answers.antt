@@ -1,7 +1,7 @@
 -- One run more has the slope added.
 use Rattle.std.proofs.Common.{to_z, of_z, arith}
 use Rattle.std.specs.Int.{w128}
-use Rattle.uc_model.proofs.Sizes.{abs_wide}
+use Rattle.uc_model.proofs.Common.{abs_wide}
 use Rattle.step_functions.proofs.RunEdits.{steepened-more}
 use Rattle.step_functions.proofs.edits.steepen.Goals as goal
 

@@ -1,7 +1,7 @@
 -- What a run adds is the difference of two sums, and so within the limits; and the sum goes on by it.
 use Rattle.std.proofs.Common.{◌+◌, ◌*◌, take, ap, arith}
 use Rattle.std.proofs.lemmas.Int.{ints}
-use Rattle.uc_model.specs.Sums.{sum_below}
+use Rattle.uc_model.specs.Prelude.{sum_below}
 use Rattle.step_functions.specs.Runs.{run_of, slope_at, steps_of}
 use Rattle.step_functions.specs.Functions.{MAX_VALUE}
 use Rattle.step_functions.proofs.RunSteps.{climb-size, rise-run, steps-take-more, steps-within}

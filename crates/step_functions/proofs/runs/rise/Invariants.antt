@@ -1,6 +1,6 @@
 -- The sum is that of the runs before, and what is left lies behind them.
 use Rattle.std.proofs.Common.{◌≡◌, ◌+◌, take}
-use Rattle.uc_model.specs.Sums.{sum_below}
+use Rattle.uc_model.specs.Prelude.{sum_below}
 use Rattle.step_functions.specs.Runs.{slope_at, steps_of}
 use Rattle.step_functions.proofs.runs.rise.Given as goal
 

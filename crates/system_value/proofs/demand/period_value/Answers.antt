@@ -1,6 +1,7 @@
 -- The multipliers and the needs as their bits say them, and three numbers of known sizes.
 use Rattle.std.proofs.Common.{◌∙◌, ◌*◌, lit<, ◌+ℤ◌, ◌*ℤ◌}
-use Rattle.uc_model.proofs.Sizes.{sum-fits, sum-is, sum-size, wide, wide-size}
+use Rattle.uc_model.proofs.Common.{sum-fits, sum-is, sum-size, wide-size}
+use Rattle.uc_model.proofs.Sizes.{wide}
 use Rattle.system_value.specs.Sizes.{MAX_CELL, MAX_HOUR, MAX_POWER, MAX_PRICE}
 use Rattle.system_value.proofs.Elements.{element-is, element-size}
 use Rattle.system_value.proofs.demand.period_value.Goals as goal

@@ -3,7 +3,7 @@ use Rattle.std.proofs.Common.{◌≡◌, ℕ, ◌∙◌, refl, sym, subst, arith
 use lib.Signed.{lt_z}
 use Rattle.std.specs.Int.{w64, int_min}
 use Rattle.std.proofs.lemmas.Int.{ints, clamps, fits_signed_from_abs, fits_signed_mul}
-use Rattle.uc_model.proofs.Sizes.{abs_mul, from-size, narrow}
+use Rattle.uc_model.proofs.Common.{abs_mul, from-size, narrow}
 use Rattle.uc_model.specs.declared.limits.TheConstants.{MAX_PENALTY}
 use Rattle.dual_model.specs.declared.limits.TheConstants.{MAX_PRICE}
 use Rattle.system_value.proofs.Elements.{scale-size}

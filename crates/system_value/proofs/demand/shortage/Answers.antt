@@ -3,7 +3,8 @@ use Rattle.std.proofs.Common.{◌≤◌, ◌^◌, ◌∙◌, sym, arith, lit<, p
 use Rattle.std.specs.Int.{int_min, int_max}
 use Rattle.std.proofs.lemmas.Bool.{cond-true, lt-ltb}
 use Rattle.std.proofs.lemmas.Int.{ints}
-use Rattle.uc_model.proofs.Sizes.{narrow, wide}
+use Rattle.uc_model.proofs.Common.{narrow}
+use Rattle.uc_model.proofs.Sizes.{wide}
 use Rattle.system_value.specs.Sizes.{MAX_CELL, MAX_POWER, MAX_PRICE}
 use Rattle.system_value.proofs.demand.shortage.Goals as goal
 

@@ -1,8 +1,9 @@
 -- The scale, the multipliers and the needs as their bits say them, and two numbers of known sizes.
 use Rattle.std.proofs.Common.{◌∙◌, lit<, ◌*◌, pos, ◌+ℤ◌}
 use Rattle.std.specs.Int.{int_max}
-use Rattle.uc_model.proofs.Sizes.{sum-fits, sum-is, sum-size, wide, wide-size}
-use Rattle.dual_model.specs.NodeValue.{shortage_value}
+use Rattle.uc_model.proofs.Common.{sum-fits, sum-is, sum-size, wide-size}
+use Rattle.uc_model.proofs.Sizes.{wide}
+use Rattle.dual_model.specs.Prelude.{shortage_value}
 use Rattle.system_value.specs.Sizes.{MAX_CELL, MAX_POWER, MAX_PRICE}
 use Rattle.system_value.proofs.Elements.{element-is, element-size, scale-is, scale-within}
 use Rattle.system_value.proofs.demand.shortages.Goals as goal

@@ -1,9 +1,10 @@
 -- The sum so far and one period's value.
 use Rattle.std.proofs.Common.{◌≡◌, ◌∙◌, ap, sym, subst, suc, lit<, ◌+◌, ◌*◌, ◌<◌, ◌≤◌, ◌^◌, arith, ◌+ℤ◌, to_z, unsigned_abs}
 use Rattle.std.specs.Int.{w128}
-use Rattle.uc_model.specs.Sums.{sum_below}
-use Rattle.dual_model.specs.NodeValue.{needs_value}
-use Rattle.uc_model.proofs.Sizes.{abs_add, wide, wide-size}
+use Rattle.uc_model.specs.Prelude.{sum_below}
+use Rattle.dual_model.specs.Prelude.{needs_value}
+use Rattle.uc_model.proofs.Common.{abs_add, wide-size}
+use Rattle.uc_model.proofs.Sizes.{wide}
 use Rattle.system_value.specs.Sizes.{MAX_HOUR}
 use Rattle.system_value.proofs.demand.system_value.Goals as goal
 

@@ -1,7 +1,7 @@
 -- The sum over the periods so far, and its size.
 use Rattle.std.proofs.Common.{◌≡◌, ◌*◌, ◌≤◌, unsigned_abs}
-use Rattle.uc_model.specs.Sums.{sum_below}
-use Rattle.dual_model.specs.NodeValue.{needs_value}
+use Rattle.uc_model.specs.Prelude.{sum_below}
+use Rattle.dual_model.specs.Prelude.{needs_value}
 use Rattle.system_value.specs.Sizes.{MAX_HOUR}
 use Rattle.system_value.proofs.demand.system_value.Given as goal
 

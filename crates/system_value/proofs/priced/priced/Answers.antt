@@ -1,6 +1,7 @@
 -- The product is as small as its parts allow.
 use Rattle.std.proofs.Common.{◌≤◌, ◌∙◌, lit<, ◌*ℤ◌, unsigned_abs}
-use Rattle.uc_model.proofs.Sizes.{narrow, scaled-size, wide, wide-size}
+use Rattle.uc_model.proofs.Common.{narrow, scaled-size, wide-size}
+use Rattle.uc_model.proofs.Sizes.{wide}
 use Rattle.system_value.specs.Sizes.{MAX_POWER, MAX_PRICE, MAX_CELL}
 use Rattle.system_value.proofs.priced.priced.Goals as goal
 

@@ -3,9 +3,10 @@ use Rattle.std.proofs.Common.{◌≡◌, ℕ, ◌∙◌, ◌<◌, List, [], ap, 
 use Rattle.std.specs.Prelude.{int_lt, if◌then◌else◌}
 use Rattle.std.specs.Int.{int_max}
 use Rattle.std.proofs.lemmas.List.{get_or_read}
-use Rattle.uc_model.proofs.Sizes.{wide, wide-size}
+use Rattle.uc_model.proofs.Common.{wide-size}
+use Rattle.uc_model.proofs.Sizes.{wide}
 use Rattle.uc_model.specs.declared.instance.Renewable.{Renewable}
-use Rattle.uc_model.specs.Schedule.{renewable_count, renewable_unit}
+use Rattle.uc_model.specs.Prelude.{renewable_count, renewable_unit}
 use Rattle.uc_model.specs.declared.instance.Instance.{Instance}
 use Rattle.system_value.specs.Sizes.{MAX_CELL, MAX_POWER, MAX_PRICE}
 use Rattle.system_value.proofs.Elements.{element-is, element-size, read-is, read-size}

@@ -1,7 +1,7 @@
 -- The sum over the units so far, and its size.
 use Rattle.std.proofs.Common.{◌≡◌, ◌*◌, ◌≤◌, unsigned_abs}
-use Rattle.uc_model.specs.Sums.{sum_below}
-use Rattle.dual_model.specs.NodeValue.{renewable_part}
+use Rattle.uc_model.specs.Prelude.{sum_below}
+use Rattle.dual_model.specs.Prelude.{renewable_part}
 use Rattle.system_value.specs.Sizes.{MAX_RENEWABLE}
 use Rattle.system_value.proofs.renewable.renewables_value.Given as goal
 

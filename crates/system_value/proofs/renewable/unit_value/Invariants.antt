@@ -1,7 +1,7 @@
 -- The sum over the periods so far, and its size.
 use Rattle.std.proofs.Common.{◌≡◌, ◌*◌, ◌≤◌, unsigned_abs}
-use Rattle.uc_model.specs.Sums.{sum_below}
-use Rattle.dual_model.specs.NodeValue.{renewable_value}
+use Rattle.uc_model.specs.Prelude.{sum_below}
+use Rattle.dual_model.specs.Prelude.{renewable_value}
 use Rattle.system_value.specs.Sizes.{MAX_CELL}
 use Rattle.system_value.proofs.renewable.unit_value.Given as goal
 

@@ -2,9 +2,9 @@
 use Rattle.std.proofs.Common.{◌≡◌, ◌∙◌, FitsSigned, arith, sym, subst, ℤ, to_z, of_z}
 use Rattle.std.specs.Int.{w64, w128}
 use Rattle.std.proofs.lemmas.Int.{to_z-of_z}
-use Rattle.uc_model.specs.Division.{IsFloor}
+use Rattle.uc_model.specs.Prelude.{IsFloor}
 use Rattle.dual_model.specs.declared.node.Node.{Node}
-use Rattle.dual_model.specs.NodeValue.{IsNodeValue}
+use Rattle.dual_model.specs.Prelude.{IsNodeValue}
 use Rattle.thread_tests.proofs.books.bound.Goals as goal
 
 pub returns-in-Ok : goal.returns-in-Ok

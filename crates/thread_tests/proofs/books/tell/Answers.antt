@@ -2,10 +2,8 @@
 use Rattle.std.proofs.Common.{◌<ℤ◌, ◌≤◌, FitsSigned, false, pos, arith, rules, sym, subst, ℤ}
 use Rattle.std.specs.Int.{w128}
 use Rattle.std.proofs.lemmas.Int.{to_z-of_z}
-use Rattle.uc_model.specs.Limits.{IsLawfulInstance}
-use Rattle.dual_model.specs.Cover.{IsTableBound}
-use Rattle.dual_model.specs.Prices.{IsLawfulTable}
-use Rattle.dual_model.specs.Tree.{root}
+use Rattle.uc_model.specs.Prelude.{IsLawfulInstance}
+use Rattle.dual_model.specs.Prelude.{IsTableBound, IsLawfulTable, root}
 use Rattle.thread_tests.proofs.books.tell.Goals as goal
 
 pub ask_all-requires-clause-opening : goal.ask_all-requires-clause-opening

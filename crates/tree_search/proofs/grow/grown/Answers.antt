@@ -1,10 +1,10 @@
 -- What the workers and the closing pass leave is what the search leaves.
 use Rattle.std.proofs.Common.{◌≡◌, ◌∙◌, true, false, ap, subst, sym, Some}
 use Rattle.uc_model.specs.declared.instance.Instance.{Instance}
-use Rattle.branch_tree.specs.Closing.{is_schedule_within}
+use Rattle.branch_tree.specs.Prelude.{is_schedule_within}
 use Rattle.found_schedule.specs.Found.{IsFoundIfAny}
 use Rattle.found_schedule.proofs.Whole.{found_if_accepted}
-use Rattle.search_machine.specs.Moves.{bound_of}
+use Rattle.search_machine.specs.Prelude.{bound_of}
 use Rattle.book.specs.Opening.{Opening}
 use Rattle.search_desk.specs.Best.{IsNoWorse, cost_of}
 use Rattle.search_desk.specs.Dispatches.{IsPivotedBook}

@@ -1,6 +1,6 @@
 -- What the book has is what the search leaves.
 use Rattle.std.proofs.Common.{refl, subst}
-use Rattle.branch_tree.specs.TreeView.{IsWhole}
+use Rattle.branch_tree.specs.Prelude.{IsWhole}
 use Rattle.tree_search.proofs.Left.{ended_grown, pivoted_grown}
 use Rattle.tree_search.proofs.grow.left.Goals as goal
 

@@ -1,7 +1,7 @@
 -- The best known less what follows.
 use Rattle.std.proofs.Common.{◌≡◌, ◌≤◌, ap, subst, arith, ℤ, ◌-ℤ◌, unsigned_abs, Option, Some, IfSome}
 use Rattle.std.proofs.lemmas.Int.{ints}
-use Rattle.uc_model.proofs.Ring.{linear}
+use Rattle.uc_model.proofs.Common.{linear}
 use Rattle.dual_model.specs.CostToGo.{total_of}
 use Rattle.dual_model.proofs.Optimum.{total_of-parts}
 use Rattle.unit_exact.specs.inside.Choices.{Choice, choice_cost, IsReached}

@@ -1,7 +1,6 @@
 -- The hours that keep the ramps are a schedule of the unit within the pattern's value.
 use Rattle.std.proofs.Common.{sym, subst}
-use Rattle.uc_model.specs.PatternBits.{commitment_of}
-use Rattle.uc_model.specs.Schedule.{thermal_unit}
+use Rattle.uc_model.specs.Prelude.{commitment_of, thermal_unit}
 use Rattle.hull_function.specs.Problems.{IsLawfulProblem}
 use Rattle.hull_function.proofs.Units.{lawful-problem, unit-read}
 use Rattle.unit_runs.proofs.Joined.{greatest_nonneg}

@@ -3,8 +3,7 @@ use Rattle.std.proofs.Common.{◌≡◌, sym, ap, subst, ◌∙◌, arith, to_z,
 use Rattle.std.specs.Int.{w64}
 use Rattle.std.proofs.lemmas.Int.{ints}
 use Rattle.std.proofs.lemmas.Option.{IfSome_then}
-use Rattle.uc_model.specs.PatternBits.{commitment_of}
-use Rattle.uc_model.specs.Schedule.{thermal_unit}
+use Rattle.uc_model.specs.Prelude.{commitment_of, thermal_unit}
 use Rattle.hull_function.specs.Hulls.{IsHull}
 use Rattle.hull_function.specs.Problems.{IsLawfulProblem}
 use Rattle.hull_function.proofs.Units.{lawful-problem, unit-read}

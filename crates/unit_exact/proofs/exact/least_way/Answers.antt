@@ -1,6 +1,7 @@
 -- The least way and its pattern.
 use Rattle.std.proofs.Common.{◌≡◌, lit<, ◌-◌, ◌*◌, ◌≤◌, sym, ap, subst, ◌∙◌, arith, Some, IfSome, unsigned_abs}
-use Rattle.uc_model.proofs.Sizes.{abs_wide, wide}
+use Rattle.uc_model.proofs.Common.{abs_wide}
+use Rattle.uc_model.proofs.Sizes.{wide}
 use Rattle.unit_runs.specs.RunsToGo.{runs_to_go}
 use Rattle.unit_exact.specs.inside.Choices.{choice_cost}
 use Rattle.unit_exact.specs.inside.Problems.{MAX_SWITCH}

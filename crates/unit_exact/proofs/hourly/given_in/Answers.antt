@@ -1,12 +1,9 @@
 -- What is best in an on hour, and nothing in an off one.
 use Rattle.std.proofs.Common.{◌≡◌, lit<, true, not, ◌&&◌, sym, ap, ◌∙◌, Option, Some, None, IfSome}
 use mathlib.Core.Bool.{and-true}
-use Rattle.uc_model.specs.Commitment.{starts, was_on, cell_cap}
-use Rattle.uc_model.specs.PatternBits.{commitment_of}
-use Rattle.uc_model.specs.Terms.{term_at}
+use Rattle.uc_model.specs.Prelude.{starts, was_on, cell_cap, commitment_of, term_at}
 use Rattle.uc_model.proofs.Sizes.{wide}
-use Rattle.dual_model.specs.PatternValue.{is_followed}
-use Rattle.dual_model.specs.UnitTerms.{MAX_TERM}
+use Rattle.dual_model.specs.Prelude.{is_followed, MAX_TERM}
 use Rattle.unit_exact.specs.inside.Hourly.{Given}
 use Rattle.unit_exact.proofs.HourlySteps.{best-given}
 use Rattle.hull_function.proofs.HullFunction.{hull-function}

@@ -2,8 +2,8 @@
 use Rattle.std.proofs.Common.{◌≡◌, suc, ◌*◌, ◌≤◌, lit<, add-one, refl, sym, subst, ◌∙◌, arith, ℤ, pos, ◌+ℤ◌, ◌≤ℤ◌, to_z, of_z, unsigned_abs}
 use Rattle.std.specs.Int.{w64}
 use Rattle.std.proofs.lemmas.Int.{ints}
-use Rattle.uc_model.specs.PatternBits.{commitment_of}
-use Rattle.uc_model.proofs.Sizes.{narrow}
+use Rattle.uc_model.specs.Prelude.{commitment_of}
+use Rattle.uc_model.proofs.Common.{narrow}
 use Rattle.hull_function.specs.Problems.{MAX_POWER}
 use Rattle.unit_exact.specs.inside.Hourly.{IsHourlyTo}
 use Rattle.unit_exact.proofs.HourlySteps.{hourly-all, hourly-more, hourly-none}

@@ -1,6 +1,6 @@
 -- The hours before period t keep the ramps, each for no more than its term, and `before` is the output of the last one.
 use Rattle.std.proofs.Common.{◌*◌, ◌≤◌, unsigned_abs}
-use Rattle.uc_model.specs.PatternBits.{commitment_of}
+use Rattle.uc_model.specs.Prelude.{commitment_of}
 use Rattle.hull_function.specs.Problems.{MAX_POWER}
 use Rattle.unit_exact.specs.inside.Hourly.{IsHourlyTo}
 use Rattle.unit_exact.proofs.hourly.is_hourly.Given as goal

@@ -3,7 +3,7 @@ use Rattle.std.proofs.Common.{◌≡◌, ℕ, ◌*◌, ◌^◌, ◌<◌, ◌≤�
 use mir.Val.{SFits}
 use Rattle.std.specs.Int.{w64, w128}
 use Rattle.std.proofs.lemmas.Int.{ints}
-use Rattle.uc_model.proofs.Sizes.{abs_mul, narrow}
+use Rattle.uc_model.proofs.Common.{abs_mul, narrow}
 use Rattle.step_functions.specs.Functions.{Steps, IsPlace, last_place, value_at}
 use Rattle.hull_function.specs.Hours.{IsSizedHour, MAX_HOUR}
 use Rattle.hull_function.specs.Hulls.{IsHullFunction, MAX_HULL}

@@ -3,8 +3,8 @@ use Rattle.std.proofs.Common.{◌≡◌, lit<, suc, ◌^◌, sym, ap, ◌∙◌,
 use Rattle.std.specs.Int.{w64}
 use Rattle.std.proofs.lemmas.Int.{ints}
 use Rattle.std.proofs.lemmas.Bool.{cond-true, cond-false, lt-ltb, le-ltb}
-use Rattle.uc_model.proofs.Sizes.{narrow}
-use Rattle.dual_model.specs.ExactValue.{greatest_output}
+use Rattle.uc_model.proofs.Common.{narrow}
+use Rattle.dual_model.specs.Prelude.{greatest_output}
 use Rattle.hull_function.specs.Problems.{MAX_POWER}
 use Rattle.unit_runs.specs.CostThrough.{least_between}
 use Rattle.unit_exact.proofs.runs.least_at_end.Goals as goal

@@ -2,8 +2,7 @@
 use Rattle.std.proofs.Common.{◌^◌, ◌≤◌, sym, subst, arith, unsigned_abs}
 use Rattle.std.proofs.lemmas.Int.{ints}
 use Rattle.uc_model.specs.declared.limits.TheConstants.{MAX_COST}
-use Rattle.uc_model.proofs.Sizes.{abs_wide, scaled-size}
-use Rattle.uc_model.proofs.StartCosts.{sigma-size}
+use Rattle.uc_model.proofs.Common.{abs_wide, scaled-size, sigma-size}
 use Rattle.unit_exact.proofs.starts.start_cost.Goals as goal
 
 pub returns-clause-size : goal.returns-clause-size

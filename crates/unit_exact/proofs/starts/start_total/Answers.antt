@@ -1,10 +1,11 @@
 -- A start cost and a way to the end are within their limits.
 use Rattle.std.proofs.Common.{◌≡◌, lit<, false, ◌&&◌, suc, ◌-◌, sym, ap, subst, ◌∙◌, arith, IsTrue, Some, None, IfSome}
 use Rattle.std.proofs.lemmas.Bool.{and_parts, cond-true}
-use Rattle.uc_model.proofs.Sizes.{abs_wide, wide}
+use Rattle.uc_model.proofs.Common.{abs_wide}
+use Rattle.uc_model.proofs.Sizes.{wide}
+use Rattle.dual_model.specs.Prelude.{may_be_on}
 use Rattle.dual_model.specs.CostToGo.{total_of}
-use Rattle.dual_model.specs.Moves.{may_be_on}
-use Rattle.uc_model.specs.Switches.{may_start}
+use Rattle.uc_model.specs.Prelude.{may_start}
 use Rattle.unit_exact.specs.inside.Choices.{choice_cost}
 use Rattle.unit_exact.specs.inside.Problems.{MAX_SWITCH}
 use Rattle.unit_exact.specs.inside.Switches.{IsWithinSwitches}

@@ -1,9 +1,10 @@
 -- The run that ends there, and the ways behind it.
 use Rattle.std.proofs.Common.{◌≡◌, add-one, lit<, inl, refl, suc, ◌-◌, ◌≤◌, ◌&&◌, true, sym, ap, subst, ◌∙◌, arith, IsTrue, Some, None, IfSome, unsigned_abs}
-use Rattle.uc_model.proofs.Sizes.{abs_wide, wide}
+use Rattle.uc_model.proofs.Common.{abs_wide}
+use Rattle.uc_model.proofs.Sizes.{wide}
+use Rattle.dual_model.specs.Prelude.{holds_initially, may_be_off}
 use Rattle.dual_model.specs.CostToGo.{total_of}
-use Rattle.dual_model.specs.Moves.{holds_initially, may_be_off}
-use Rattle.uc_model.specs.Switches.{may_stop}
+use Rattle.uc_model.specs.Prelude.{may_stop}
 use Rattle.unit_runs.specs.CostThrough.{run_cost}
 use Rattle.unit_exact.specs.inside.Choices.{choice_cost, IsCostBelow}
 use Rattle.unit_exact.specs.inside.Problems.{MAX_SWITCH, MAX_WAY}

@@ -1,6 +1,6 @@
 -- The beginning, a period more, and the end.
 use Rattle.std.proofs.Common.{◌≡◌, ◌≢◌, add-one, sym, subst, ◌∙◌, arith}
-use Rattle.uc_model.specs.PatternBits.{commitment_of}
+use Rattle.uc_model.specs.Prelude.{commitment_of}
 use Rattle.unit_exact.specs.inside.Switches.{entry_in}
 use Rattle.unit_exact.proofs.Traced.{IsTraced, begun, traced-step, traced-end}
 use Rattle.unit_exact.proofs.trace.pattern_of.Goals as goal

@@ -1,6 +1,6 @@
 -- The pattern has the way before the period, from which it is switched next in period `next`; from there on it is off.
 use Rattle.std.proofs.Common.{◌≡◌, ℕ, ◌≤◌, false}
-use Rattle.uc_model.specs.PatternBits.{commitment_of}
+use Rattle.uc_model.specs.Prelude.{commitment_of}
 use Rattle.unit_exact.proofs.Traced.{IsTraced}
 use Rattle.unit_exact.proofs.trace.pattern_of.Given as goal
 

@@ -2,10 +2,11 @@
 use Rattle.std.proofs.Common.{◌≡◌, lit<, arith, sym, ap, subst, ◌∙◌, ◌<◌, ◌-◌, ◌≤◌, ◌-ℤ◌, ◌*ℤ◌, pos, to_z, of_z, Some, false, unsigned_abs, slice_index_or}
 use Rattle.std.specs.Int.{w128}
 use Rattle.uc_model.specs.declared.limits.TheConstants.{MAX_POWER, MAX_TERM}
-use Rattle.uc_model.proofs.Sizes.{abs_narrow, narrow, wide, wide-size}
+use Rattle.uc_model.proofs.Common.{abs_narrow, narrow, wide-size}
+use Rattle.uc_model.proofs.Sizes.{wide}
 use Rattle.dual_model.specs.declared.limits.TheConstants.{MAX_UNIT_PRICE}
-use Rattle.uc_model.specs.Terms.{term_at, price_at, period_count}
-use Rattle.dual_model.specs.CostToGo.{MAX_MOVE}
+use Rattle.uc_model.specs.Prelude.{term_at, price_at, period_count}
+use Rattle.dual_model.specs.Prelude.{MAX_MOVE}
 use Rattle.interval_graph.specs.Intervals.{term_in}
 use Rattle.dual_model.proofs.Hourly.{hour-of_term}
 use Rattle.unit_path.proofs.hour_costs.full_hour_before.Goals as goal

@@ -1,9 +1,9 @@
 -- The last hour of a unit that is on, whose term is at the full cap.
 use Rattle.std.proofs.Common.{◌≡◌, length, false, refl, sym, ap, subst, ◌∙◌, arith, lit<, Some, ne_eqb}
-use Rattle.uc_model.proofs.Sizes.{wide, wide-size}
-use Rattle.uc_model.specs.Terms.{period_count}
-use Rattle.dual_model.specs.CostToGo.{IsWithin, MAX_MOVE}
-use Rattle.dual_model.specs.Moves.{hour_before}
+use Rattle.uc_model.proofs.Common.{wide-size}
+use Rattle.uc_model.proofs.Sizes.{wide}
+use Rattle.uc_model.specs.Prelude.{period_count}
+use Rattle.dual_model.specs.Prelude.{IsWithin, MAX_MOVE, hour_before}
 use Rattle.unit_path.proofs.LeastStarts.{least-start_end}
 use Rattle.unit_path.proofs.LeastStops.{least-end}
 use Rattle.unit_path.proofs.path.end.Goals as goal

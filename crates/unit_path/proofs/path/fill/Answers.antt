@@ -1,6 +1,6 @@
 -- One entry more.
 use Rattle.std.proofs.Common.{◌≡◌, suc, ◌+◌, ◌-◌, length, refl, ap, subst, ◌∙◌, arith, slice_set}
-use Rattle.uc_model.specs.Terms.{period_count}
+use Rattle.uc_model.specs.Prelude.{period_count}
 use Rattle.unit_path.specs.inside.Hours.{IsTableFrom}
 use Rattle.unit_path.proofs.Tables.{table-end, table-more}
 use Rattle.unit_path.proofs.path.fill.Goals as goal

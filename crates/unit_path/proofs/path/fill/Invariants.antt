@@ -1,6 +1,6 @@
 -- The table is right from the last of the periods that are behind.
 use Rattle.std.proofs.Common.{◌-◌}
-use Rattle.uc_model.specs.Terms.{period_count}
+use Rattle.uc_model.specs.Prelude.{period_count}
 use Rattle.unit_path.specs.inside.Hours.{IsTableFrom}
 use Rattle.unit_path.proofs.path.fill.Given as goal
 

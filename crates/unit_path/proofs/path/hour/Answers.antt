@@ -1,13 +1,12 @@
 -- The entry of a period, from the later ones.
 use Rattle.std.proofs.Common.{◌≡◌, suc, ◌-◌, ◌≤◌, add-one, true, false, refl, sym, ap, subst, ◌∙◌, arith, lit<, ◌*ℤ◌, to_z, of_z, Some, None, unsigned_abs}
 use Rattle.std.specs.Int.{w64, w128}
-use Rattle.uc_model.specs.StartCategory.{sigma}
+use Rattle.uc_model.specs.Prelude.{sigma, period_count}
 use Rattle.uc_model.specs.declared.limits.TheConstants.{MAX_COST}
-use Rattle.uc_model.proofs.Sizes.{from-size, narrow, wide, wide-size}
-use Rattle.uc_model.proofs.StartCosts.{sigma-size}
-use Rattle.uc_model.specs.Terms.{period_count}
-use Rattle.dual_model.specs.Moves.{may_be_off, may_be_on}
-use Rattle.dual_model.specs.CostToGo.{total_of, MAX_MOVE}
+use Rattle.uc_model.proofs.Common.{from-size, narrow, wide-size, sigma-size}
+use Rattle.uc_model.proofs.Sizes.{wide}
+use Rattle.dual_model.specs.Prelude.{may_be_off, may_be_on, MAX_MOVE}
+use Rattle.dual_model.specs.CostToGo.{total_of}
 use Rattle.unit_path.specs.inside.Choices.{choice_cost}
 use Rattle.unit_path.specs.inside.Hours.{hour_in}
 use Rattle.unit_path.proofs.Entries.{cold_start-entry, off_until-entry, on_until-entry, onward-entry}

@@ -1,11 +1,9 @@
 -- The least way is a pattern's, from whose way the clauses follow.
 use Rattle.std.proofs.Common.{◌≡◌, ◌≤◌, sym, ap, subst, ◌∙◌, lit<, arith, ℤ, to_z, of_z, Option, Some, unsigned_abs}
 use Rattle.std.specs.Int.{w128}
-use Rattle.uc_model.specs.Limits.{IsLawfulThermal}
+use Rattle.uc_model.specs.Prelude.{IsLawfulThermal, period_count}
 use Rattle.uc_model.proofs.Sizes.{wide}
-use Rattle.uc_model.specs.Terms.{period_count}
-use Rattle.dual_model.specs.UnitTerms.{AreSizedTerms}
-use Rattle.dual_model.specs.CostToGo.{IsWithin, MAX_COST_TO_GO}
+use Rattle.dual_model.specs.Prelude.{AreSizedTerms, IsWithin, MAX_COST_TO_GO}
 use Rattle.dual_model.proofs.CostSizes.{cost_to_go-fits}
 use Rattle.dual_model.proofs.LeastValues.{from_start}
 use Rattle.unit_path.specs.inside.Ways.{Fix, Pattern, Terms, Thermal, IsWay}

@@ -1,9 +1,8 @@
 -- A start cost is within its limit.
 use Rattle.std.proofs.Common.{◌≤◌, refl, subst, sym, unsigned_abs}
 use Rattle.uc_model.specs.declared.limits.TheConstants.{MAX_COST}
-use Rattle.uc_model.proofs.Sizes.{from-size}
-use Rattle.uc_model.proofs.StartCosts.{sigma-size}
-use Rattle.dual_model.specs.Moves.{stop_since}
+use Rattle.uc_model.proofs.Common.{from-size, sigma-size}
+use Rattle.dual_model.specs.Prelude.{stop_since}
 use Rattle.unit_path.proofs.rests.from_start.Goals as goal
 
 pub priced_start-requires-clause-cost : goal.priced_start-requires-clause-cost

@@ -1,7 +1,7 @@
 -- A rest goes on until it may end; then the best of the warm starts and of the cold ones, to a period in which the unit may not be off.
 use Rattle.std.proofs.Common.{◌<◌, ◌∙◌, arith}
 use Rattle.std.proofs.lemmas.Bool.{le-leb, lt-leb}
-use Rattle.uc_model.specs.Terms.{period_count}
+use Rattle.uc_model.specs.Prelude.{period_count}
 use Rattle.unit_path.specs.inside.Hours.{hour_in}
 use Rattle.unit_path.proofs.Entries.{cold_start-entry, off_until-entry}
 use Rattle.unit_path.proofs.LeastStarts.{least-from_cold, least-none, least-to}

@@ -2,8 +2,8 @@
 use Rattle.std.proofs.Common.{◌*◌, ◌^◌, ◌≤◌, lit<, subst, arith, Option, unsigned_abs}
 use Rattle.std.proofs.lemmas.Int.{ints}
 use Rattle.uc_model.specs.declared.limits.TheConstants.{MAX_COST}
-use Rattle.uc_model.proofs.Sizes.{scaled-size, sum-fits}
-use Rattle.dual_model.specs.CostToGo.{IsWithin, MAX_COST_TO_GO}
+use Rattle.uc_model.proofs.Common.{scaled-size, sum-fits}
+use Rattle.dual_model.specs.Prelude.{IsWithin, MAX_COST_TO_GO}
 use Rattle.unit_path.specs.inside.Choices.{Choice, choice_cost}
 use Rattle.unit_path.proofs.rests.priced_start.Goals as goal
 

@@ -2,9 +2,9 @@
 use Rattle.std.proofs.Common.{◌≡◌, ◌<◌, ℕ, suc, true, false, refl, subst, sym, ap, ◌∙◌, lit<, ℤ, Option, Some}
 use Rattle.std.proofs.lemmas.Bool.{eq-eqb, le-leb, lt-leb}
 use Rattle.uc_model.proofs.Sizes.{wide}
-use Rattle.uc_model.specs.Terms.{period_count}
-use Rattle.uc_model.specs.Switches.{may_stop}
-use Rattle.dual_model.specs.CostToGo.{total_of, IsWithin, MAX_COST_TO_GO, MAX_MOVE}
+use Rattle.uc_model.specs.Prelude.{period_count, may_stop}
+use Rattle.dual_model.specs.Prelude.{IsWithin, MAX_COST_TO_GO, MAX_MOVE}
+use Rattle.dual_model.specs.CostToGo.{total_of}
 use Rattle.unit_path.specs.inside.Choices.{Fix, Terms, Thermal, Choice, choice_cost, stop_cost}
 use Rattle.unit_path.specs.inside.Hours.{leave_cost, IsStopIn}
 use Rattle.unit_path.proofs.Going.{stop_cost-at, to_go}

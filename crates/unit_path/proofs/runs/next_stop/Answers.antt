@@ -1,8 +1,8 @@
 -- A stop at once, or a run that goes on; at the end of the horizon the last hour.
 use Rattle.std.proofs.Common.{◌≡◌, suc, ◌-◌, length, true, false, refl, sym, ap, ◌∙◌, arith, lit<, Some, None, eq-eqb}
 use Rattle.uc_model.proofs.Sizes.{wide}
-use Rattle.dual_model.specs.Moves.{hour_before, move}
-use Rattle.dual_model.specs.CostToGo.{lesser_of, total_of, MAX_MOVE}
+use Rattle.dual_model.specs.Prelude.{hour_before, move, MAX_MOVE}
+use Rattle.dual_model.specs.CostToGo.{lesser_of, total_of}
 use Rattle.unit_path.specs.inside.Choices.{stop_cost}
 use Rattle.unit_path.specs.inside.Hours.{stay_cost}
 use Rattle.unit_path.proofs.Going.{on-step, to_go}

@@ -2,7 +2,7 @@
 use Rattle.std.proofs.Common.{◌≡◌, ◌+◌, ◌-◌, ◌≤◌, add-one, sym, subst, lit<, arith, ◌+ℤ◌, to_z, of_z, true, Some, unsigned_abs}
 use Rattle.std.specs.Int.{w128}
 use Rattle.uc_model.proofs.Sizes.{wide}
-use Rattle.dual_model.specs.CostToGo.{IsWithin, MAX_MOVE}
+use Rattle.dual_model.specs.Prelude.{IsWithin, MAX_MOVE}
 use Rattle.dual_model.proofs.CostSizes.{move-size}
 use Rattle.unit_path.specs.inside.Choices.{stays}
 use Rattle.unit_path.specs.inside.Hours.{hour_in}

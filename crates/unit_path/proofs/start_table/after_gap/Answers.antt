@@ -2,8 +2,7 @@
 use Rattle.std.proofs.Common.{◌≡◌, suc, ◌-◌, add-one, sym, ap, subst, ◌∙◌, arith, rules, to_z, of_z, FitsSigned, length, None, if◌then◌else◌}
 use Rattle.std.specs.Int.{w64, int_min}
 use Rattle.std.proofs.lemmas.Int.{to_z-of_z}
-use Rattle.uc_model.specs.Sums.{least_below}
-use Rattle.uc_model.specs.StartCategory.{category_count, sigma}
+use Rattle.uc_model.specs.Prelude.{least_below, category_count, sigma}
 use Rattle.unit_path.specs.inside.StartCosts.{is_within_lags, row_of}
 use Rattle.unit_path.proofs.Gaps.{sigma-gap}
 use Rattle.unit_path.proofs.start_table.after_gap.Goals as goal

@@ -1,6 +1,6 @@
 -- The cost is the least of the categories before s + 1.
 use Rattle.std.proofs.Common.{◌≡◌}
-use Rattle.uc_model.specs.Sums.{least_below}
+use Rattle.uc_model.specs.Prelude.{least_below}
 use Rattle.unit_path.specs.inside.StartCosts.{is_within_lags, row_of}
 use Rattle.unit_path.proofs.start_table.after_gap.Given as goal
 

@@ -1,6 +1,6 @@
 -- From the first switch on, and one switch more.
 use Rattle.std.proofs.Common.{◌-◌, ◌<◌, length, arith}
-use Rattle.uc_model.specs.Terms.{period_count}
+use Rattle.uc_model.specs.Prelude.{period_count}
 use Rattle.unit_path.specs.inside.Hours.{hour_in}
 use Rattle.unit_path.proofs.Traces.{more-later, switch-within, trace-end, trace-more, trace-start}
 use Rattle.unit_path.proofs.trace.pattern_of.Goals as goal

@@ -1,7 +1,7 @@
 -- One period more.
 use Rattle.std.proofs.Common.{◌≡◌, ◌<◌, ◌≤◌, ⊎_elim, ap, ◌∙◌, arith}
 use Rattle.std.proofs.lemmas.Bool.{cases_lt}
-use Rattle.uc_model.specs.PatternBits.{commitment_of}
+use Rattle.uc_model.specs.Prelude.{commitment_of}
 use Rattle.unit_path.proofs.trace.switched_on.Goals as goal
 
 pub loop-t-preserved : goal.loop-t-preserved

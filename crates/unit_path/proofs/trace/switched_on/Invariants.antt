@@ -1,6 +1,6 @@
 -- The three facts with the period in place of `to`.
 use Rattle.std.proofs.Common.{◌≡◌, ℕ, ◌<◌, ◌≤◌, max, true}
-use Rattle.uc_model.specs.PatternBits.{commitment_of}
+use Rattle.uc_model.specs.Prelude.{commitment_of}
 use Rattle.unit_path.proofs.trace.switched_on.Given as goal
 
 abbrev pub invariant-loop-t : goal.invariant-loop-t

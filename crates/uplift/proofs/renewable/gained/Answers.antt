@@ -1,7 +1,7 @@
 -- The difference has little more than 15 digits.
 use Rattle.std.proofs.Common.{◌+◌, arith, ◌-ℤ◌, to_z, of_z}
 use Rattle.std.specs.Int.{w64}
-use Rattle.uc_model.proofs.Sizes.{abs_narrow, abs_sub, scaled-size, wide-size}
+use Rattle.uc_model.proofs.Common.{abs_narrow, abs_sub, scaled-size, wide-size}
 use Rattle.uplift.specs.Sizes.{MAX_POWER, MAX_PRICE, MAX_PRICED, MAX_WATTS}
 use Rattle.uplift.proofs.renewable.gained.Goals as goal
 

@@ -1,6 +1,5 @@
 -- The units before w have their uplifts.
-use Rattle.uc_model.specs.Schedule.{renewable_count}
-use Rattle.uc_model.specs.Sums.{sum_below}
+use Rattle.uc_model.specs.Prelude.{renewable_count, sum_below}
 use Rattle.uplift.specs.inside.Lists.{AreFirst, renewable_uplift_at}
 use Rattle.uplift.proofs.renewable.renewable_uplifts.Given as goal
 

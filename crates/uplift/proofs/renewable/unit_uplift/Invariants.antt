@@ -1,6 +1,6 @@
 -- The sum over the periods so far, and its size.
 use Rattle.std.proofs.Common.{◌≡◌, ◌*◌, ◌≤◌, unsigned_abs}
-use Rattle.uc_model.specs.Sums.{sum_below}
+use Rattle.uc_model.specs.Prelude.{sum_below}
 use Rattle.uplift.specs.Sizes.{MAX_PRICED}
 use Rattle.uplift.specs.inside.Lists.{renewable_uplift_at}
 use Rattle.uplift.proofs.renewable.unit_uplift.Given as goal

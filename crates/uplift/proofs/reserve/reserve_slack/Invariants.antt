@@ -1,6 +1,6 @@
 -- The sum over the periods so far, and its size.
 use Rattle.std.proofs.Common.{◌≡◌, ◌*◌, ◌≤◌, unsigned_abs}
-use Rattle.uc_model.specs.Sums.{sum_below}
+use Rattle.uc_model.specs.Prelude.{sum_below}
 use Rattle.uplift.specs.Sizes.{MAX_SLACK}
 use Rattle.uplift.specs.Uplift.{reserve_slack_at}
 use Rattle.uplift.proofs.reserve.reserve_slack.Given as goal

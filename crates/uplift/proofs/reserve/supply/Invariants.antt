@@ -1,7 +1,6 @@
 -- The sum over the units so far, and its size.
 use Rattle.std.proofs.Common.{◌≡◌, ◌*◌, ◌≤◌, unsigned_abs}
-use Rattle.uc_model.specs.PrintedSchedule.{cell_at}
-use Rattle.uc_model.specs.Sums.{sum_below}
+use Rattle.uc_model.specs.Prelude.{cell_at, sum_below}
 use Rattle.uplift.specs.Sizes.{MAX_WATTS}
 use Rattle.uplift.proofs.reserve.supply.Given as goal
 

@@ -3,7 +3,8 @@ use Rattle.std.proofs.Common.{◌≡◌, ℕ, ◌*◌, ◌<◌, ◌^◌, ◌∙�
 use Rattle.std.specs.Int.{int_max, int_min, w64}
 use Rattle.std.proofs.lemmas.Int.{to_z-of_z}
 use Rattle.std.proofs.lemmas.Bool.{cond_both, ltb-false}
-use Rattle.uc_model.proofs.Sizes.{narrow, wide}
+use Rattle.uc_model.proofs.Common.{narrow}
+use Rattle.uc_model.proofs.Sizes.{wide}
 use Rattle.uplift.specs.declared.shortage.TheConstants.{MOST_GAIN}
 use Rattle.uplift.proofs.shortage.missing_uplift.Goals as goal
 

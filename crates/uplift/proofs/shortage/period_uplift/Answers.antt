@@ -2,10 +2,9 @@
 use Rattle.std.proofs.Common.{◌≡◌, ℕ, ◌*◌, ◌^◌, ◌<◌, ◌≤◌, List, All, length, sym, subst, ◌∙◌, arith, rules, lit<, FitsSigned, ℤ, pos, ◌+ℤ◌, to_z, of_z, unsigned_abs, slice_index_or}
 use Rattle.std.specs.Int.{int_max, w64, w128}
 use Rattle.std.proofs.lemmas.Int.{to_z-of_z}
-use Rattle.uc_model.specs.PrintedSchedule.{shed_at, short_at}
-use Rattle.uc_model.specs.Schedule.{most_shed, most_short}
-use Rattle.uc_model.proofs.Sizes.{abs_narrow, sum-fits, sum-is}
-use Rattle.dual_model.specs.Prices.{mu_at, pi_at}
+use Rattle.uc_model.specs.Prelude.{shed_at, short_at, most_shed, most_short}
+use Rattle.uc_model.proofs.Common.{abs_narrow, sum-fits, sum-is}
+use Rattle.dual_model.specs.Prelude.{mu_at, pi_at}
 use Rattle.uplift.specs.Sizes.{MAX_POWER, MAX_PRICE}
 use Rattle.uplift.specs.Uplift.{shortage_uplift}
 use Rattle.uplift.specs.declared.shortage.TheConstants.{MOST_GAIN}

@@ -1,6 +1,6 @@
 -- The sum over the periods so far, and its size.
 use Rattle.std.proofs.Common.{◌≡◌, ◌*◌, ◌≤◌, unsigned_abs}
-use Rattle.uc_model.specs.Sums.{sum_below}
+use Rattle.uc_model.specs.Prelude.{sum_below}
 use Rattle.uplift.specs.Sizes.{MAX_SHORTAGE}
 use Rattle.uplift.specs.Uplift.{shortage_uplift_at}
 use Rattle.uplift.proofs.shortage.shed_uplift.Given as goal

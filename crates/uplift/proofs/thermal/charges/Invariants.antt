@@ -1,6 +1,6 @@
 -- The sum over the cells so far, and its size.
 use Rattle.std.proofs.Common.{◌≡◌, ◌*◌, ◌≤◌, unsigned_abs}
-use Rattle.uc_model.specs.Sums.{sum_below}
+use Rattle.uc_model.specs.Prelude.{sum_below}
 use Rattle.schedule_check.specs.WholeWatts.{cell}
 use Rattle.uplift.specs.Sizes.{MAX_CHARGE}
 use Rattle.uplift.specs.Uplift.{charge}

@@ -1,7 +1,7 @@
 -- The cost at the scale, and what is charged.
 use Rattle.std.proofs.Common.{◌≤◌, ◌*◌, ◌+◌, ◌^◌, sym, subst, arith, unsigned_abs}
 use Rattle.std.proofs.lemmas.Int.{ints}
-use Rattle.uc_model.proofs.Sizes.{from-size, product-size, sum-fits, sum-size, wide-size}
+use Rattle.uc_model.proofs.Common.{from-size, product-size, sum-fits, sum-size, wide-size}
 use Rattle.uplift.specs.Sizes.{MAX_CHARGE, MAX_UNIT_COST}
 use Rattle.uplift.proofs.thermal.reduced_cost.Goals as goal
 

@@ -1,9 +1,9 @@
 -- One uplift more.
 use Rattle.std.proofs.Common.{◌<◌, ap, length, ◌∙◌, arith, pos, ◌-ℤ◌}
-use Rattle.uc_model.specs.Schedule.{thermal_count}
-use Rattle.uc_model.proofs.Sizes.{wide, wide-size}
-use Rattle.dual_model.specs.NodeAnswer.{MAX_PART}
-use Rattle.dual_model.specs.NodeValue.{constant_at}
+use Rattle.uc_model.specs.Prelude.{thermal_count}
+use Rattle.uc_model.proofs.Common.{wide-size}
+use Rattle.uc_model.proofs.Sizes.{wide}
+use Rattle.dual_model.specs.Prelude.{MAX_PART, constant_at}
 use Rattle.uplift.specs.Sizes.{MAX_UPLIFT}
 use Rattle.uplift.specs.Uplift.{thermal_uplift}
 use Rattle.uplift.specs.inside.Lists.{number_in, uplift_by}

@@ -1,5 +1,5 @@
 -- The units before g have their uplifts.
-use Rattle.uc_model.specs.Schedule.{thermal_count}
+use Rattle.uc_model.specs.Prelude.{thermal_count}
 use Rattle.uplift.specs.inside.Lists.{AreFirst, uplift_by}
 use Rattle.uplift.proofs.thermal.thermal_uplifts.Given as goal
 

@@ -1,10 +1,9 @@
 -- The unit and its row are those of its number, and its value is its part less its constant.
 use Rattle.std.proofs.Common.{◌≡◌, ℕ, ◌+◌, ◌*◌, ◌≤◌, List, [], length, sym, ap, subst, ◌∙◌, arith, ◌-ℤ◌, unsigned_abs}
-use Rattle.uc_model.specs.Limits.{IsLawfulThermal}
-use Rattle.uc_model.specs.Schedule.{no_unit, thermal_unit}
-use Rattle.uc_model.proofs.Sizes.{difference-is, difference-size, sum-fits, wide, wide-size}
-use Rattle.dual_model.specs.NodeAnswer.{MAX_PART}
-use Rattle.dual_model.specs.NodeValue.{constant_at, unit_constant}
+use Rattle.uc_model.specs.Prelude.{IsLawfulThermal, no_unit, thermal_unit}
+use Rattle.uc_model.proofs.Common.{difference-is, difference-size, sum-fits, wide-size}
+use Rattle.uc_model.proofs.Sizes.{wide}
+use Rattle.dual_model.specs.Prelude.{MAX_PART, constant_at, unit_constant}
 use Rattle.ramp_duals.specs.Sizes.{MAX_CONSTANT}
 use Rattle.schedule_check.specs.SizedNumbers.{IsSizedCell}
 use Rattle.schedule_check.specs.WholeWatts.{HasPrice, cell, row_of}

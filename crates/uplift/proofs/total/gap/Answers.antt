@@ -1,11 +1,10 @@
 -- The scale, the cost and the value are within their limits.
 use Rattle.std.proofs.Common.{◌≤◌, ◌*◌, ◌^◌, sym, subst, arith, unsigned_abs}
 use Rattle.std.proofs.lemmas.Int.{ints}
-use Rattle.uc_model.specs.PrintedSchedule.{printed_denominator}
+use Rattle.uc_model.specs.Prelude.{printed_denominator}
 use Rattle.uc_model.specs.declared.limits.TheConstants.{COST_MAX}
-use Rattle.uc_model.proofs.PrintedCosts.{printed_cost-fits, watts-factor}
-use Rattle.uc_model.proofs.Sizes.{difference-size, scaled-size, wide-size}
-use Rattle.dual_model.specs.NodeAnswer.{MAX_VALUE}
+use Rattle.uc_model.proofs.Common.{printed_cost-fits, watts-factor, difference-size, scaled-size, wide-size}
+use Rattle.dual_model.specs.Prelude.{MAX_VALUE}
 use Rattle.uplift.specs.Sizes.{MAX_GAP}
 use Rattle.uplift.proofs.total.gap.Goals as goal
 

@@ -1,6 +1,6 @@
 -- The sum of the numbers so far, and its size.
 use Rattle.std.proofs.Common.{◌≡◌, ◌*◌, ◌≤◌, unsigned_abs}
-use Rattle.uc_model.specs.Sums.{sum_below}
+use Rattle.uc_model.specs.Prelude.{sum_below}
 use Rattle.uplift.specs.Sizes.{MAX_UPLIFT}
 use Rattle.uplift.specs.inside.Lists.{number_in}
 use Rattle.uplift.proofs.total.sum_of.Given as goal

@@ -2,11 +2,10 @@
 use Rattle.std.proofs.Common.{◌*◌, ◌≤◌, lit<, FitsSigned, List, length, sym, ap, subst, ◌∙◌, rules, ℤ, ◌+ℤ◌, ◌-ℤ◌, to_z, of_z, unsigned_abs, All}
 use Rattle.std.specs.Int.{w128}
 use Rattle.std.proofs.lemmas.Int.{to_z-of_z}
-use Rattle.uc_model.specs.Schedule.{renewable_count, thermal_count}
-use Rattle.uc_model.specs.Sums.{sum_below}
+use Rattle.uc_model.specs.Prelude.{renewable_count, thermal_count, sum_below}
 use Rattle.schedule_check.proofs.Priced.{priced}
-use Rattle.uc_model.proofs.Sizes.{sum-fits, sum-size, wide-size}
-use Rattle.dual_model.specs.NodeAnswer.{MAX_PART, MAX_VALUE}
+use Rattle.uc_model.proofs.Common.{sum-fits, sum-size, wide-size}
+use Rattle.dual_model.specs.Prelude.{MAX_PART, MAX_VALUE}
 use Rattle.uplift.specs.Sizes.{MAX_GAP, MAX_KNOWN, MAX_PERIODS, MAX_SHORTAGE, MAX_SLACK, MAX_UNITS, MAX_UPLIFT}
 use Rattle.uplift.specs.inside.Lists.{AreRenewableUplifts, AreThermalUplifts, renewable_uplift_at, sum_in, uplift_by}
 use Rattle.uplift.proofs.Answered.{uplifts_are}

@@ -1,8 +1,7 @@
 -- The commitment of each unit in the schedule is a pattern at the root.
 use Rattle.std.proofs.Common.{refl, subst}
-use Rattle.uc_model.specs.PrintedSchedule.{printed_denominator, printed_schedule}
-use Rattle.dual_model.specs.Fixings.{IsFirstEmpty}
-use Rattle.dual_model.specs.Tree.{root}
+use Rattle.uc_model.specs.Prelude.{printed_denominator, printed_schedule}
+use Rattle.dual_model.specs.Prelude.{IsFirstEmpty, root}
 use Rattle.dual_model.specs.declared.node.Node.{Node}
 use Rattle.dual_model.proofs.Agreement.{pattern-obeying}
 use Rattle.dual_value.specs.NodeAnswer.{IsFaultOf}

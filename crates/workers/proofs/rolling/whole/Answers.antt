@@ -2,7 +2,7 @@
 use Rattle.std.proofs.Common.{arith, subst, sym}
 use Rattle.schedule_check.specs.Accepted.{IsAccepted}
 use Rattle.uc_model.specs.declared.limits.TheConstants.{COST_MAX}
-use Rattle.uc_model.proofs.Sizes.{narrow}
+use Rattle.uc_model.proofs.Common.{narrow}
 use Rattle.roll.proofs.SoFar.{whole}
 use Rattle.workers.specs.inside.Rolls.{MayFind}
 use Rattle.workers.proofs.rolling.whole.Goals as goal

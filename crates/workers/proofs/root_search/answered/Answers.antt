@@ -1,7 +1,6 @@
 -- The worker stays the instance's.
 use Rattle.std.proofs.Common.{◌∙◌, subst, sym, IfOk, MatchOption}
-use Rattle.dual_model.specs.Fixings.{IsFirstEmpty}
-use Rattle.dual_model.specs.Tree.{HasEachPattern, root}
+use Rattle.dual_model.specs.Prelude.{IsFirstEmpty, HasEachPattern, root}
 use Rattle.workers.proofs.root_search.answered.Goals as goal
 
 pub patterned-requires-clause-patterns : goal.patterned-requires-clause-patterns

@@ -1,7 +1,7 @@
 -- The search over the tree ends with what is answered.
 use Rattle.std.proofs.Common.{subst, sym, IfOk}
-use Rattle.dual_model.specs.Tree.{HasEachPattern, root}
-use Rattle.branch_tree.specs.TreeView.{tree_of}
+use Rattle.dual_model.specs.Prelude.{HasEachPattern, root}
+use Rattle.branch_tree.specs.Prelude.{tree_of}
 use Rattle.decommitment.specs.Standings.{IsDropped, ending_of}
 use Rattle.opening.specs.Blocked.{HasNoBlockedUnit}
 use Rattle.opening.specs.Rays.{HasNoRay}

@@ -1,7 +1,6 @@
 -- The worker stays the instance's.
 use Rattle.std.proofs.Common.{◌∙◌, subst, sym, IfOk, MatchOption}
-use Rattle.dual_model.specs.Tree.{HasEachPattern, root}
-use Rattle.dual_model.specs.ValueKind.{IsFirstBlocked}
+use Rattle.dual_model.specs.Prelude.{HasEachPattern, root, IsFirstBlocked}
 use Rattle.opening.specs.Blocked.{HasNoBlockedUnit}
 use Rattle.uc_model.specs.declared.instance.Instance.{Instance}
 use Rattle.search_answers.specs.Answers.{IsAnswerOf}

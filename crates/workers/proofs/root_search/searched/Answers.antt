@@ -1,6 +1,6 @@
 -- The worker stays the instance's; the opening's ray excludes the root.
 use Rattle.std.proofs.Common.{◌∙◌, subst, sym, IfOk}
-use Rattle.dual_model.specs.Tree.{HasEachPattern}
+use Rattle.dual_model.specs.Prelude.{HasEachPattern}
 use Rattle.decommitment.specs.Standings.{IsDropped}
 use Rattle.opening.specs.Blocked.{HasNoBlockedUnit}
 use Rattle.uc_model.specs.declared.instance.Instance.{Instance}

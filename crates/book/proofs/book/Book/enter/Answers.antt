@@ -3,9 +3,8 @@ use Rattle.std.proofs.Common.{◌≡◌, ℕ, ℤ, ◌+◌, ◌<◌, suc, ◌∷
 use Rattle.std.specs.Int.{w64}
 use Rattle.std.proofs.lemmas.Int.{to_z-of_z}
 use Rattle.std.specs.Vec.{vec_capacity}
-use Rattle.branch_tree.specs.NumberedTree.{node_count}
-use Rattle.search_machine.specs.Machine.{IsHolding}
-use Rattle.search_machine.specs.Moves.{kept, tree_after, tickets_of}
+use Rattle.branch_tree.specs.Prelude.{node_count}
+use Rattle.search_machine.specs.Prelude.{IsHolding, kept, tree_after, tickets_of}
 use Rattle.search_machine.proofs.OrderlySteps.{same_count}
 use Rattle.book.specs.BookView.{BookView, state_of}
 use Rattle.book.specs.Calls.{MayBe, committed}

@@ -1,7 +1,7 @@
 -- An open node's number is that of a node.
 use Rattle.std.proofs.Common.{sym, subst, arith}
 use Rattle.branch_tree.proofs.Grown.{open_below}
-use Rattle.search_machine.specs.Machine.{IsOpen}
+use Rattle.search_machine.specs.Prelude.{IsOpen}
 use Rattle.book.specs.BookView.{BookView, state_of}
 use Rattle.book.proofs.book.Book.first_open.Goals as goal
 

@@ -1,6 +1,6 @@
 -- No node so far is open.
 use Rattle.std.proofs.Common.{ℕ, ◌<◌}
-use Rattle.search_machine.specs.Machine.{IsOpen}
+use Rattle.search_machine.specs.Prelude.{IsOpen}
 use Rattle.book.specs.BookView.{state_of}
 use Rattle.book.proofs.book.Book.first_open.Given as goal
 

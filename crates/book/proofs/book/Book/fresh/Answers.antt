@@ -2,7 +2,7 @@
 use Rattle.std.proofs.Common.{◌≡◌, ◌↔◌, ◌<ℤ◌, ◌∙◌, All, IsTrue, subst, to_z, of_z, get_or, pos}
 use Rattle.std.specs.Int.{w64}
 use Rattle.std.proofs.lemmas.Int.{to_z-of_z}
-use Rattle.search_machine.specs.Machine.{entries_of}
+use Rattle.search_machine.specs.Prelude.{entries_of}
 use Rattle.book.specs.BookView.{BookView}
 use Rattle.book.specs.inside.Chains.{IsElsewhere}
 use Rattle.book.proofs.Scales.{above_all}

@@ -1,7 +1,7 @@
 -- The claim ended, and nothing else changed.
 use Rattle.std.proofs.Common.{sym, subst}
 use Rattle.std.specs.Vec.{vec_capacity}
-use Rattle.search_machine.specs.Machine.{IsHolding}
+use Rattle.search_machine.specs.Prelude.{IsHolding}
 use Rattle.book.specs.BookView.{BookView, state_of}
 use Rattle.book.specs.inside.Kept.{ClaimsView, view_of, rooms_of, IsKept}
 use Rattle.book.proofs.Books.{room_of, kept_given_back}

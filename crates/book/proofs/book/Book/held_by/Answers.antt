@@ -3,7 +3,7 @@ use Rattle.std.proofs.Common.{◌<◌, subst}
 use Rattle.std.specs.Vec.{vec_capacity}
 use Rattle.book.specs.BookView.{BookView}
 use Rattle.book.specs.inside.Kept.{view_of, rooms_of}
-use Rattle.branch_tree.specs.NumberedTree.{node_count}
+use Rattle.branch_tree.specs.Prelude.{node_count}
 use Rattle.std.specs.Option.{IfSome}
 use Rattle.book.specs.Claims.{IsHeldBy}
 use Rattle.book.proofs.Books.{has_room, some_too}

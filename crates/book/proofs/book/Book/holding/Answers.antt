@@ -4,7 +4,7 @@ use Rattle.std.specs.Int.{w128}
 use Rattle.std.specs.Vec.{vec_capacity}
 use Rattle.std.proofs.lemmas.Option.{slice_get-get_or}
 use Rattle.dual_model.specs.declared.table.Table.{Table}
-use Rattle.search_machine.specs.Machine.{stored_at}
+use Rattle.search_machine.specs.Prelude.{stored_at}
 use Rattle.search_machine.specs.declared.stored.Stored.{Stored}
 use Rattle.book.specs.BookView.{BookView}
 use Rattle.book.specs.Calls.{IsStoredAt}

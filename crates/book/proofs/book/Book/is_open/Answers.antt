@@ -2,7 +2,7 @@
 use Rattle.std.proofs.Common.{◌≡◌, ap, sym, subst, arith, true, false, not, ⊎_elim}
 use Rattle.std.proofs.lemmas.Bool.{cases_Bool}
 use Rattle.branch_tree.proofs.Grown.{open_below}
-use Rattle.search_machine.specs.Machine.{IsOpen}
+use Rattle.search_machine.specs.Prelude.{IsOpen}
 use Rattle.book.specs.BookView.{BookView, state_of}
 use Rattle.book.proofs.Books.{live_open, open_live}
 use Rattle.book.proofs.book.Book.is_open.Goals as goal

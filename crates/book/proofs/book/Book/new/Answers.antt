@@ -4,11 +4,11 @@ use Rattle.std.specs.Int.{w128}
 use Rattle.std.specs.Vec.{vec_capacity}
 use Rattle.std.proofs.lemmas.Int.{to_z-of_z}
 use Rattle.std.proofs.lemmas.List.{length-replicate}
-use Rattle.uc_model.specs.Schedule.{thermal_count}
+use Rattle.uc_model.specs.Prelude.{thermal_count}
 use Rattle.uc_model.specs.declared.instance.Instance.{Instance}
-use Rattle.branch_tree.specs.NumberedTree.{EndAt}
+use Rattle.branch_tree.specs.Prelude.{EndAt}
 use Rattle.branch_tree.specs.declared.tree.Leaf.TheVariants as leaf
-use Rattle.search_machine.specs.Machine.{room_for}
+use Rattle.search_machine.specs.Prelude.{room_for}
 use Rattle.book.specs.BookView.{opened}
 use Rattle.book.specs.inside.Chains.{LogView}
 use Rattle.book.specs.inside.Kept.{ClaimsView, view_of, rooms_of, IsKept}

@@ -1,7 +1,7 @@
 -- One claim more, of an open node.
 use Rattle.std.proofs.Common.{ℕ, ap, sym, subst, arith}
 use Rattle.std.specs.Vec.{vec_capacity}
-use Rattle.search_machine.specs.Machine.{IsOpen}
+use Rattle.search_machine.specs.Prelude.{IsOpen}
 use Rattle.book.specs.BookView.{BookView, state_of}
 use Rattle.book.specs.inside.Kept.{ClaimsView, view_of, rooms_of, IsKept}
 use Rattle.std.proofs.Common.{◌≢◌, ◌∙◌, length, ◌∷◌, ◌++◌, []}

@@ -1,6 +1,6 @@
 -- No entry is of a node past the last.
 use Rattle.std.proofs.Common.{◌≤◌, ap, sym, ◌∙◌, subst, length, arith}
-use Rattle.search_machine.specs.Machine.{entries_of}
+use Rattle.search_machine.specs.Prelude.{entries_of}
 use Rattle.book.specs.inside.Chains.{LogView}
 use Rattle.book.proofs.Links.{entries_none}
 use Rattle.book.proofs.log.Log.count.Goals as goal

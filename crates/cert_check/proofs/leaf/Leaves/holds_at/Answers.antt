@@ -1,7 +1,7 @@
 -- The entries are those of the table, and what is kept is ready again.
 use Rattle.std.proofs.Common.{◌≡◌, ℕ, subst, Some, slice_get}
 use Rattle.std.proofs.lemmas.Option.{get_or_from_slice_get}
-use Rattle.dual_model.specs.Prices.{IsLawfulTable}
+use Rattle.dual_model.specs.Prelude.{IsLawfulTable}
 use Rattle.cert_check.proofs.leaf.Leaves.holds_at.Goals as goal
 
 pub holds-holds-requires-clause-table : goal.holds-holds-requires-clause-table

@@ -1,10 +1,9 @@
 -- What is told of the unit's decisions is told of each node that decides so.
 use Rattle.std.proofs.Common.{◌≡◌, ℕ, ◌<◌, Bool, true, false, IsTrue, ◌↔◌, List, length, get_or, sym, subst, IfOk, Result}
 use Rattle.std.proofs.lemmas.List.{get_or_read}
-use Rattle.uc_model.specs.Schedule.{thermal_count}
+use Rattle.uc_model.specs.Prelude.{thermal_count}
 use Rattle.uc_model.specs.declared.memory.NoMemory.{NoMemory}
-use Rattle.dual_model.specs.Fixings.{IsFixOf}
-use Rattle.dual_model.specs.ValueKind.{IsBlocked}
+use Rattle.dual_model.specs.Prelude.{IsFixOf, IsBlocked}
 use Rattle.dual_model.specs.declared.node.Fix.{Fix}
 use Rattle.leaf_values.specs.Paths.{Instance, Node, AreFixesOf}
 use Rattle.cert_check.proofs.LeafNumbers.{each-node}

@@ -3,7 +3,7 @@ use Rattle.std.proofs.Common.{◌↔◌, sym, subst, IsTrue, FitsSigned, rules}
 use Rattle.std.specs.Int.{w128}
 use Rattle.std.proofs.lemmas.Int.{to_z-of_z}
 use Rattle.std.proofs.lemmas.Result.{IfOk-weaker}
-use Rattle.dual_model.specs.Cover.{Bound}
+use Rattle.dual_model.specs.Prelude.{Bound}
 use Rattle.cert_text.specs.CertificateText.{LeafNode}
 use Rattle.cert_check.specs.Visits.{IsSoundNode}
 use Rattle.cert_check.specs.declared.leaf.Claim.TheVariants as claims

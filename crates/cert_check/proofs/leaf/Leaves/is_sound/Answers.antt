@@ -1,7 +1,7 @@
 -- What is told of the number of a leaf is told of the leaf.
 use Rattle.std.proofs.Common.{◌≡◌, ◌<◌, Bool, List, ℤ, length, sym, subst, ◌↔◌, IfOk, IsTrue, Option, Result, true, false}
 use Rattle.std.proofs.lemmas.Result.{IfOk-weaker}
-use Rattle.uc_model.specs.Schedule.{thermal_count}
+use Rattle.uc_model.specs.Prelude.{thermal_count}
 use Rattle.uc_model.specs.declared.memory.NoMemory.{NoMemory}
 use Rattle.leaf_values.specs.Paths.{node_of}
 use Rattle.cert_check.specs.Visits.{Instance, Table, IsSound}

@@ -1,7 +1,7 @@
 -- The changes are those of the table before with the new scale, and what they make is a table that has a text.
 use Rattle.std.proofs.Common.{sym, ap, subst, ◌∙◌}
 use Rattle.std.proofs.lemmas.Result.{err_from_is_err_and}
-use Rattle.dual_model.specs.Prices.{AreRising}
+use Rattle.dual_model.specs.Prelude.{AreRising}
 use Rattle.table_list.specs.Changes.{Table}
 use Rattle.cert_text.specs.TextConditions.{IsTableText}
 use Rattle.cert_text.specs.inside.Parts.{sizes, StopsAs}

@@ -1,6 +1,6 @@
 -- A row more that comes before is passed; where the first one left doesn't, all have been.
 use Rattle.std.proofs.Common.{◌++◌, ◌∷◌, [], List, ap, sym, subst, ◌∙◌, append_assoc}
-use Rattle.dual_model.specs.Prices.{AreRising}
+use Rattle.dual_model.specs.Prelude.{AreRising}
 use Rattle.table_list.specs.Changes.{RampRow}
 use Rattle.cert_text.specs.inside.Drafts.{LieBefore}
 use Rattle.cert_text.proofs.RowSteps.{lie_before_more, rising_behind}

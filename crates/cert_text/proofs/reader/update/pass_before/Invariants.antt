@@ -1,6 +1,6 @@
 -- The rows passed so far come before the row; the others rise.
 use Rattle.std.proofs.Common.{◌≡◌, ◌++◌, length}
-use Rattle.dual_model.specs.Prices.{AreRising}
+use Rattle.dual_model.specs.Prelude.{AreRising}
 use Rattle.cert_text.specs.inside.Drafts.{LieBefore}
 use Rattle.cert_text.proofs.reader.update.pass_before.Given as goal
 

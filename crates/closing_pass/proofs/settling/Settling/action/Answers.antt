@@ -2,7 +2,7 @@
 use Rattle.std.proofs.Common.{◌∙◌, subst, sym}
 use Rattle.std.specs.Int.{w128}
 use Rattle.std.proofs.lemmas.Int.{to_z-of_z}
-use Rattle.search_machine.specs.Moves.{IsMoveLegal}
+use Rattle.search_machine.specs.Prelude.{IsMoveLegal}
 use Rattle.search_machine.specs.declared.event.Move.{Move}
 use Rattle.book.specs.BookView.{state_of}
 use Rattle.search_desk.specs.Commits.{move_of}

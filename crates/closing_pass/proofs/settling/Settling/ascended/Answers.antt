@@ -1,9 +1,9 @@
 -- One of two scales is new at the node.
 use Rattle.std.proofs.Common.{◌∙◌, ◌≢◌, ⊎_elim, ◌≡◌, ap, arith, length, subst, sym}
-use Rattle.dual_model.specs.Prices.{IsLawfulTable}
-use Rattle.uc_model.proofs.Ring.{linear}
+use Rattle.dual_model.specs.Prelude.{IsLawfulTable}
+use Rattle.uc_model.proofs.Common.{linear}
 use Rattle.branch_tree.specs.declared.found.Entry.{Entry}
-use Rattle.search_machine.specs.Machine.{entries_of}
+use Rattle.search_machine.specs.Prelude.{entries_of}
 use Rattle.book.specs.BookView.{state_of}
 use Rattle.uc_model.specs.declared.instance.Instance.{Instance}
 use Rattle.closing_pass.proofs.Settled.{fresh_second}

@@ -2,11 +2,8 @@
 use Rattle.std.proofs.Common.{◌≡◌, ◌∙◌, ◌<◌, FitsSigned, rules, subst, sym, true, ℤ}
 use Rattle.std.specs.Int.{w128}
 use Rattle.std.proofs.lemmas.Int.{to_z-of_z}
-use Rattle.dual_model.specs.Fixings.{IsNodeOf}
-use Rattle.branch_tree.specs.NumberedTree.{node_count}
-use Rattle.branch_tree.specs.StoredTree.{IsNodeAt}
-use Rattle.branch_tree.specs.TreeView.{HasFreeCell}
-use Rattle.branch_tree.specs.TrueFound.{IsOutcome}
+use Rattle.dual_model.specs.Prelude.{IsNodeOf}
+use Rattle.branch_tree.specs.Prelude.{node_count, IsNodeAt, HasFreeCell, IsOutcome}
 use Rattle.book.specs.BookView.{BookView}
 use Rattle.book.specs.Calls.{IsCommitted, IsStoredAt, MayCommit}
 use Rattle.uc_model.specs.declared.instance.Instance.{Instance}

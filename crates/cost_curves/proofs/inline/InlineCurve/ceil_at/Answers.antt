@@ -2,7 +2,7 @@
 use Rattle.std.proofs.Common.{◌∙◌, sym, subst, to_z, of_z, unsigned_abs}
 use Rattle.std.specs.Int.{w64}
 use Rattle.std.proofs.lemmas.Int.{to_z-of_z}
-use Rattle.uc_model.specs.Hull.{hull_cost}
+use Rattle.uc_model.specs.Prelude.{hull_cost}
 use Rattle.cost_curves.specs.LowerHull.{IsLowerHull}
 use Rattle.cost_curves.specs.LeastCost.{IsLeastCostUp}
 use Rattle.cost_curves.proofs.inline.InlineCurve.ceil_at.Goals as goal

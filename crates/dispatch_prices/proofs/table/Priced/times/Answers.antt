@@ -3,9 +3,8 @@ use Rattle.std.proofs.Common.{◌≤◌, pos, ◌∙◌, sym, ap, subst, slice_i
 use Rattle.std.specs.Int.{w64}
 use Rattle.std.proofs.lemmas.Int.{to_z-of_z, fits_signed_from_abs}
 use Rattle.std.proofs.lemmas.List.{get_or_default}
-use Rattle.dispatch_rules.specs.CommitmentTask.{limit_of, rule_of}
+use Rattle.dispatch_rules.specs.Prelude.{limit_of, rule_of, is_same, limit}
 use Rattle.dispatch_rules.specs.declared.limit.LimitAt.{LimitAt}
-use Rattle.dispatch_rules.specs.Dispatch.{is_same, limit}
 use Rattle.dispatch_prices.proofs.TimesBy.{times_at, times_none}
 use Rattle.dispatch_prices.proofs.table.Priced.times.Goals as goal
 

@@ -1,7 +1,6 @@
 -- No limit before is the one that is sought.
 use Rattle.std.proofs.Common.{◌≡◌, ℕ, ◌<◌, false}
-use Rattle.dispatch_rules.specs.CommitmentTask.{limit_of, rule_of}
-use Rattle.dispatch_rules.specs.Dispatch.{is_same, limit}
+use Rattle.dispatch_rules.specs.Prelude.{limit_of, rule_of, is_same, limit}
 use Rattle.dispatch_prices.specs.ReadOff.{limit_in}
 use Rattle.dispatch_prices.proofs.table.Priced.times.Given as goal
 

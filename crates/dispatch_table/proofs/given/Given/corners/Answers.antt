@@ -1,7 +1,7 @@
 -- A unit has at most 64 points, and its curve no more corners.
 use Rattle.std.proofs.Common.{◌≡◌, ◌≤◌, [], arith, ap, ◌∙◌, length}
 use Rattle.std.proofs.lemmas.List.{get_or_default}
-use Rattle.uc_model.specs.Schedule.{thermal_unit}
+use Rattle.uc_model.specs.Prelude.{thermal_unit}
 use Rattle.cost_curves.specs.UnitCurves.{curve_in}
 use Rattle.dispatch_table.proofs.Corners.{few_corners}
 use Rattle.dispatch_table.proofs.given.Given.corners.Goals as goal

@@ -1,9 +1,9 @@
 -- A rise is small.
 use Rattle.std.proofs.Common.{◌*◌, arith, ap, ◌∙◌, ◌-ℤ◌, add-one}
-use Rattle.uc_model.specs.Points.{point_of}
+use Rattle.uc_model.specs.Prelude.{point_of}
 use Rattle.uc_model.specs.declared.limits.TheConstants.{MAX_COST}
-use Rattle.uc_model.proofs.Sizes.{narrow}
-use Rattle.dispatch_rules.specs.Cells.{rise_at}
+use Rattle.uc_model.proofs.Common.{narrow}
+use Rattle.dispatch_rules.specs.Prelude.{rise_at}
 use Rattle.dispatch_table.proofs.given.Given.rise.Goals as goal
 
 pub returns-clause-value : goal.returns-clause-value

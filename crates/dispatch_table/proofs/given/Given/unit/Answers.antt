@@ -1,8 +1,7 @@
 -- The unit is the instance's.
 use Rattle.std.proofs.Common.{sym, subst, ap, ◌∙◌, ◌<◌, length, get_or}
 use Rattle.std.proofs.lemmas.List.{get_or_read}
-use Rattle.uc_model.specs.Limits.{IsLawfulThermal}
-use Rattle.uc_model.specs.Schedule.{no_unit}
+use Rattle.uc_model.specs.Prelude.{IsLawfulThermal, no_unit}
 use Rattle.dispatch_table.proofs.given.Given.unit.Goals as goal
 
 pub returns-clause-lawful : goal.returns-clause-lawful

@@ -2,12 +2,11 @@
 use Rattle.std.proofs.Common.{◌≡◌, ◌^◌, ◌≤◌, arith, ap, sym, subst, ◌∙◌, map, ℤ, ◌*ℤ◌, to_z, of_z, unsigned_abs, lit<}
 use Rattle.std.proofs.lemmas.List.{get_or-map, get_or_default}
 use Rattle.std.specs.Int.{w128}
-use Rattle.uc_model.specs.Rules.{Demand}
+use Rattle.uc_model.specs.Prelude.{Demand}
 use Rattle.uc_model.proofs.Sizes.{wide}
 use Rattle.dispatch_program.specs.Programs.{HasColumn, rule_number}
 use Rattle.dispatch_rules.specs.declared.amount.Amount.TheVariants.{Shed}
-use Rattle.dispatch_rules.specs.CommitmentTask.{limit_of}
-use Rattle.dispatch_rules.specs.Dispatch.{limit, parts, times_in}
+use Rattle.dispatch_rules.specs.Prelude.{limit_of, limit, parts, times_in}
 use Rattle.dispatch_table.specs.declared.column.Column.{Column}
 use Rattle.dispatch_table.specs.Numbers.{amount_from, column_of, limit_from, program_of}
 use Rattle.dispatch_table.proofs.program.Numbers.rule_number.Goals as goal

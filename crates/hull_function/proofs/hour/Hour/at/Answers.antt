@@ -1,7 +1,7 @@
 -- The prices of the period, within their limits.
 use Rattle.std.proofs.Common.{lit<, ◌∙◌, arith, refl, pos, ◌*ℤ◌, to_z, of_z, slice_index_or}
 use Rattle.std.specs.Int.{w64}
-use Rattle.uc_model.proofs.Sizes.{abs_narrow, narrow}
+use Rattle.uc_model.proofs.Common.{abs_narrow, narrow}
 use Rattle.hull_function.specs.Problems.{MAX_POWER}
 use Rattle.hull_function.proofs.HourPrices.{IsPricedAt, priced-at}
 use Rattle.hull_function.proofs.hour.Hour.at.Goals as goal

@@ -1,6 +1,7 @@
 -- The sum before the one period less that before the other.
 use Rattle.std.proofs.Common.{◌+◌, ◌*◌, sym, ◌∙◌, lit<, ◌-ℤ◌}
-use Rattle.uc_model.proofs.Sizes.{difference-is, difference-size, sum-fits, wide, wide-size}
+use Rattle.uc_model.proofs.Common.{difference-is, difference-size, sum-fits, wide-size}
+use Rattle.uc_model.proofs.Sizes.{wide}
 use Rattle.interval_graph.specs.Intervals.{MAX_INTERVAL}
 use Rattle.interval_graph.proofs.PlainSums.{apart}
 use Rattle.interval_graph.proofs.intervals.Intervals.between.Goals as goal

@@ -1,8 +1,9 @@
 -- One term; or the first one, what lies between, and the last one.
 use Rattle.std.proofs.Common.{◌≡◌, ◌+◌, ◌-◌, ◌*◌, add-one, subst, ◌∙◌, lit<, arith, ◌+ℤ◌, to_z, of_z}
 use Rattle.std.specs.Int.{w128}
-use Rattle.uc_model.specs.Sums.{sum_below}
-use Rattle.uc_model.proofs.Sizes.{sum-is, sum-size, wide}
+use Rattle.uc_model.specs.Prelude.{sum_below}
+use Rattle.uc_model.proofs.Common.{sum-is, sum-size}
+use Rattle.uc_model.proofs.Sizes.{wide}
 use Rattle.interval_graph.specs.Intervals.{AreTermRows, MAX_INTERVAL, MAX_TERM}
 use Rattle.interval_graph.specs.RunningSums.{full_value}
 use Rattle.interval_graph.proofs.IntervalCosts.{one-there, several, IsCost}

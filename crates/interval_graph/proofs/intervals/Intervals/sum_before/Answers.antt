@@ -1,7 +1,7 @@
 -- The sum before the period, of at most as many terms as there are periods.
 use Rattle.std.proofs.Common.{◌<◌, ◌≤◌, length, sym, subst, ◌∙◌, arith, pos, unsigned_abs}
 use Rattle.std.proofs.lemmas.List.{get_or_read}
-use Rattle.uc_model.proofs.Sizes.{wide-size}
+use Rattle.uc_model.proofs.Common.{wide-size}
 use Rattle.interval_graph.specs.Intervals.{MAX_INTERVAL}
 use Rattle.interval_graph.proofs.IntervalCosts.{full-size}
 use Rattle.interval_graph.proofs.intervals.Intervals.sum_before.Goals as goal

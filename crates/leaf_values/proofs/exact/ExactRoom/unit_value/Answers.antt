@@ -1,7 +1,7 @@
 -- The curve is the unit's.
 use Rattle.std.proofs.Common.{◌<◌, List, [], length, sym, subst, arith}
 use Rattle.std.proofs.lemmas.List.{get_or_read}
-use Rattle.uc_model.specs.Schedule.{thermal_unit}
+use Rattle.uc_model.specs.Prelude.{thermal_unit}
 use Rattle.cost_curves.specs.LowerHull.{IsLowerHull, Point}
 use Rattle.leaf_values.proofs.exact.ExactRoom.unit_value.Goals as goal
 

@@ -2,10 +2,8 @@
 use Rattle.std.proofs.Common.{◌≡◌, rules, ◌↔◌, ◌∙◌, ℤ, pos, ◌*ℤ◌, ◌<ℤ◌, ◌≤ℤ◌, IsTrue, int_le, subst, sym, arith, to_z, of_z, FitsSigned}
 use Rattle.std.specs.Int.{w64, w128}
 use Rattle.std.proofs.lemmas.Int.{to_z-of_z}
-use Rattle.uc_model.specs.Division.{IsFloor}
-use Rattle.uc_model.proofs.Quotients.{IsFloor-greatest}
-use Rattle.uc_model.proofs.Ring.{linear, mul-le-mul_right}
-use Rattle.uc_model.proofs.Tests.{int_le-true, le-int_le}
+use Rattle.uc_model.specs.Prelude.{IsFloor}
+use Rattle.uc_model.proofs.Common.{IsFloor-greatest, linear, mul-le-mul_right, int_le-true, le-int_le}
 use Rattle.leaf_values.proofs.least.Least.is_reached.Goals as goal
 
 -- the test of both numbers, each as it is read back

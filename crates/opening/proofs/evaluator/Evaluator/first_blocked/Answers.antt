@@ -1,7 +1,6 @@
 -- A value leaves no unit blocked.
 use Rattle.std.proofs.Common.{subst}
-use Rattle.dual_model.specs.Tree.{root}
-use Rattle.dual_model.specs.ValueKind.{IsValueOf}
+use Rattle.dual_model.specs.Prelude.{root, IsValueOf}
 use Rattle.dual_model.specs.declared.node.Node.{Node}
 use Rattle.opening.proofs.Blocked.{not_blocked}
 use Rattle.opening.proofs.evaluator.Evaluator.first_blocked.Goals as goal

@@ -1,7 +1,6 @@
 -- No unit is the first without an allowed pattern.
 use Rattle.std.proofs.Common.{false, subst}
-use Rattle.dual_model.specs.Fixings.{IsFirstEmpty}
-use Rattle.dual_model.specs.Tree.{root}
+use Rattle.dual_model.specs.Prelude.{IsFirstEmpty, root}
 use Rattle.dual_model.specs.declared.node.Node.{Node}
 use Rattle.dual_value.specs.NodeAnswer.{IsFaultOf}
 use Rattle.opening.proofs.Blocked.{not_first}

@@ -2,7 +2,7 @@
 use Rattle.std.proofs.Common.{◌≡◌, subst, arith}
 use Rattle.std.proofs.lemmas.Result.{IfOk-weaker}
 use Rattle.pivot_run.specs.Pivots.{row_at}
-use Rattle.dispatch_rules.specs.Dispatch.{program}
+use Rattle.dispatch_rules.specs.Prelude.{program}
 use Rattle.dispatch_prices.specs.ReadOff.{HasSmallMultipliers}
 use Rattle.dispatch_prices.specs.Readings.{IsUnfit}
 use Rattle.pivot_dispatch.specs.Answers.{IsAnswer}

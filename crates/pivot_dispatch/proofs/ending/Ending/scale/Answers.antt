@@ -1,8 +1,7 @@
 -- The scale.
 use Rattle.std.proofs.Common.{◌≡◌, ◌+◌, ◌-◌, ◌*◌, ◌^◌, ◌<◌, ◌≤◌, arith, sym, subst, ◌∙◌, ℤ, ◌*ℤ◌, unsigned_abs}
 use Rattle.std.proofs.lemmas.Result.{IfOk-weaker, IfErr-weaker, on_ok_weaker}
-use Rattle.dispatch_rules.specs.Dispatch.{Task}
-use Rattle.dispatch_rules.specs.Duals.{cost_times}
+use Rattle.dispatch_rules.specs.Prelude.{Task, cost_times}
 use Rattle.pivot_dispatch.specs.Answers.{cost_row}
 use Rattle.pivot_dispatch.specs.inside.Endings.{IsEndedBy}
 use Rattle.pivot_dispatch.proofs.Ended.{columns_are, rows_are, times_are}

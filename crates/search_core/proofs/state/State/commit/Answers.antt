@@ -1,8 +1,7 @@
 -- The claim's node is open, and there is room for its children; each field is what the commit makes of it.
 use Rattle.std.proofs.Common.{◌≡◌, ◌+◌, length, ap, sym, ◌∙◌, subst, arith, rules}
 use Rattle.search_machine.specs.declared.event.Event.TheVariants.{Commit}
-use Rattle.search_machine.specs.Machine.{Machine, IsHolding}
-use Rattle.search_machine.specs.Steps.{HasSeen, IsLegal, after}
+use Rattle.search_machine.specs.Prelude.{Machine, IsHolding, HasSeen, IsLegal, after}
 use Rattle.search_core.specs.Fields.{view_of}
 use Rattle.search_core.proofs.Kept.{commit_count, kept_by}
 use Rattle.search_machine.proofs.Claims.{IsHoldable, holdable}

@@ -1,7 +1,7 @@
 -- A node that is held is one of the tree.
 use Rattle.std.proofs.Common.{◌≡◌, ◌<◌, ap, sym, ◌∙◌, subst, Some}
-use Rattle.branch_tree.specs.NumberedTree.{node_count}
-use Rattle.search_machine.specs.Machine.{Machine, holder_in}
+use Rattle.branch_tree.specs.Prelude.{node_count}
+use Rattle.search_machine.specs.Prelude.{Machine, holder_in}
 use Rattle.search_core.specs.Fields.{view_of}
 use Rattle.search_machine.proofs.Claims.{holdable}
 use Rattle.search_core.proofs.state.State.held_by.Goals as goal

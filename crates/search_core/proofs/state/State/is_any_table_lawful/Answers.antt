@@ -1,8 +1,7 @@
 -- A node whose entries count to nothing has none, and what it stores is as the call tells.
 use Rattle.std.proofs.Common.{◌≡◌, sym, ◌∙◌, subst, rules, length, slice_get}
 use Rattle.std.proofs.lemmas.List.{nil_from_length}
-use Rattle.search_machine.specs.Machine.{Machine, entries_of}
-use Rattle.search_machine.specs.Steps.{IsStoredTable}
+use Rattle.search_machine.specs.Prelude.{Machine, entries_of, IsStoredTable}
 use Rattle.search_core.proofs.state.State.is_any_table_lawful.Goals as goal
 
 pub returns-clause-first : goal.returns-clause-first

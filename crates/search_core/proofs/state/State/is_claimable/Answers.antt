@@ -1,8 +1,7 @@
 -- The node is open by the tree and the claims.
 use Rattle.std.proofs.Common.{sym, subst, arith}
-use Rattle.branch_tree.specs.TreeView.{IsOpenAt}
-use Rattle.search_machine.specs.Machine.{Machine, IsHeldIn}
-use Rattle.search_machine.specs.Steps.{IsClaimable}
+use Rattle.branch_tree.specs.Prelude.{IsOpenAt}
+use Rattle.search_machine.specs.Prelude.{Machine, IsHeldIn, IsClaimable}
 use Rattle.search_core.proofs.state.State.is_claimable.Goals as goal
 
 pub returns-then-len-self : goal.returns-then-len-self

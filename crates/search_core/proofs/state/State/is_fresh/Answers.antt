@@ -2,8 +2,7 @@
 use Rattle.std.proofs.Common.{◌≡◌, All, List, sym, subst}
 use Rattle.branch_tree.specs.declared.found.Entry.{Entry}
 use Rattle.dual_model.specs.declared.table.Table.{Table}
-use Rattle.search_machine.specs.Machine.{Machine, entries_of}
-use Rattle.search_machine.specs.Steps.{IsFresh, IsElsewhere}
+use Rattle.search_machine.specs.Prelude.{Machine, entries_of, IsFresh, IsElsewhere}
 use Rattle.search_machine.proofs.OwnSteps.{all_of_node, each_of_node}
 use Rattle.search_core.proofs.state.State.is_fresh.Goals as goal
 

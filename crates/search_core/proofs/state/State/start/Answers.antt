@@ -1,10 +1,8 @@
 -- The fields are those of the start.
 use Rattle.std.proofs.Common.{◌≡◌, ap, sym, ◌∙◌, subst, None, to_z, of_z}
 use Rattle.std.specs.Int.{w128}
-use Rattle.branch_tree.specs.NumberedTree.{node_count}
-use Rattle.branch_tree.specs.TreeView.{TreeView}
-use Rattle.search_machine.specs.Machine.{start_of}
-use Rattle.search_machine.specs.Orderly.{IsOrderly}
+use Rattle.branch_tree.specs.Prelude.{node_count, TreeView}
+use Rattle.search_machine.specs.Prelude.{start_of, IsOrderly}
 use Rattle.search_machine.proofs.OrderlySteps.{orderly_start}
 use Rattle.search_core.proofs.state.State.start.Goals as goal
 

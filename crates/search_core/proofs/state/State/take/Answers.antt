@@ -2,8 +2,7 @@
 use Rattle.std.proofs.Common.{◌≡◌, ap, sym, subst, ◌∙◌, arith, ◌∷◌, []}
 use Rattle.std.proofs.lemmas.List.{get_or_read}
 use Rattle.search_machine.specs.declared.event.Event.TheVariants.{Steal}
-use Rattle.search_machine.specs.Machine.{Machine, no_desk, desk_in}
-use Rattle.search_machine.specs.Steps.{IsLegal, first_queued, with_desk, with_tickets, without_first, taken}
+use Rattle.search_machine.specs.Prelude.{Machine, no_desk, desk_in, IsLegal, first_queued, with_desk, with_tickets, without_first, taken}
 use Rattle.search_core.specs.Fields.{view_of}
 use Rattle.search_core.proofs.Kept.{kept_by}
 use Rattle.search_core.proofs.state.State.take.Goals as goal

@@ -1,7 +1,7 @@
 -- The run begins with the hour that is added.
 use Rattle.std.proofs.Common.{lit<, suc, ◌*◌, false, ◌==◌, sym, subst, ◌∙◌, arith, ◌≤ℤ◌}
-use Rattle.uc_model.proofs.Sizes.{narrow}
-use Rattle.uc_model.specs.Commitment.{cell_cap}
+use Rattle.uc_model.proofs.Common.{narrow}
+use Rattle.uc_model.specs.Prelude.{cell_cap}
 use Rattle.step_functions.specs.Functions.{run_count}
 use Rattle.hull_function.specs.Hours.{with_output}
 use Rattle.state_walk.specs.inside.CostToEnd.{cost_to_end, hours_after}

@@ -1,6 +1,6 @@
 -- An hour more where there are costs, and none where there are none.
 use Rattle.std.proofs.Common.{suc, ◌+◌, ◌*◌, ◌≤◌, false, ◌==◌, sym, subst, arith}
-use Rattle.uc_model.specs.Commitment.{cell_cap}
+use Rattle.uc_model.specs.Prelude.{cell_cap}
 use Rattle.hull_function.proofs.HullFunction.{hull-function}
 use Rattle.hull_function.specs.Hours.{with_output, IsCostsOf}
 use Rattle.hull_function.proofs.Represented.{none-with-output}

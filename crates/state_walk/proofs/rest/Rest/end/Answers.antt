@@ -1,6 +1,6 @@
 -- Both ends are the outputs before the end of a run.
 use Rattle.std.proofs.Common.{lit<, ◌+◌, ◌*◌, ◌≤◌, sym, subst, ◌∙◌, arith, unsigned_abs}
-use Rattle.uc_model.proofs.Sizes.{narrow}
+use Rattle.uc_model.proofs.Common.{narrow}
 use Rattle.state_walk.specs.inside.Problems.{MAX_POWER}
 use Rattle.state_walk.proofs.RestSizes.{ends-size}
 use Rattle.state_walk.proofs.Rests.{ended}

@@ -1,6 +1,6 @@
 -- Back to the output before where there are costs, and none where there are none.
 use Rattle.std.proofs.Common.{suc, ◌+◌, ◌*◌, ◌≤◌, true, false, ◌==◌, sym, subst, ◌∙◌, arith, ℤ, ◌+ℤ◌, ◌-ℤ◌}
-use Rattle.uc_model.specs.Commitment.{cell_cap}
+use Rattle.uc_model.specs.Prelude.{cell_cap}
 use Rattle.hull_function.specs.Hours.{IsCostsOf, MAX_RUN, with_output}
 use Rattle.hull_function.proofs.HourSums.{limit-bits, limit-is}
 use Rattle.unit_runs.specs.CostThrough.{least_between}

@@ -2,9 +2,9 @@
 use Rattle.std.proofs.Common.{◌≡◌, ◌+◌, ◌^◌, ◌<◌, min, false, sym, ap, subst, ◌∙◌, arith, lit<, ℤ, pos, neg_ℤ, ◌+ℤ◌, ◌*ℤ◌, FitsSigned, unsigned_abs, to_z, of_z, vec_capacity}
 use Rattle.std.specs.Int.{w64, w128}
 use Rattle.std.proofs.lemmas.Int.{ints, to_z-of_z}
-use Rattle.uc_model.proofs.Ring.{add-zero}
+use Rattle.uc_model.proofs.Common.{add-zero, wide-size}
 use lib.Signed.{le_z}
-use Rattle.uc_model.proofs.Sizes.{wide, wide-size}
+use Rattle.uc_model.proofs.Sizes.{wide}
 use Rattle.step_functions.specs.contracts.function.ConvexFunction.{the_view}
 use Rattle.step_functions.specs.Runs.{slope_at, steps_of}
 use Rattle.step_functions.specs.Functions.{Steps, IsPlace, IsSmall, IsWithin, MAX_VALUE, last_place, shortfall, value_at}

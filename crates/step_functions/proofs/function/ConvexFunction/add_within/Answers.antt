@@ -2,7 +2,8 @@
 use Rattle.std.proofs.Common.{◌≡◌, ℕ, ◌+◌, ◌≤◌, sym, ap, subst, ◌∙◌, arith, lit<, ℤ, pos, ◌+ℤ◌, ◌≤ℤ◌, unsigned_abs, to_z, of_z, vec_capacity}
 use Rattle.std.specs.Int.{w64, w128}
 use Rattle.std.proofs.lemmas.Int.{fits_signed_from_abs, ints}
-use Rattle.uc_model.proofs.Sizes.{abs_add, narrow, wide, wide-size}
+use Rattle.uc_model.proofs.Common.{abs_add, narrow, wide-size}
+use Rattle.uc_model.proofs.Sizes.{wide}
 use Rattle.step_functions.specs.contracts.function.ConvexFunction.{the_view}
 use Rattle.step_functions.specs.Runs.{steps_of}
 use Rattle.step_functions.specs.Functions.{Steps, IsPlace, IsSmall, IsWithin, MAX_PLACE, MAX_VALUE, last_place, value_at}

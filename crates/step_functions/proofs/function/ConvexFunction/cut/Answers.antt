@@ -4,7 +4,7 @@ use lib.Signed.{le_z, lt_z}
 use Rattle.std.specs.Int.{w64, int_max, int_min}
 use Rattle.std.proofs.lemmas.Bool.{false≢true, true≢false}
 use Rattle.std.proofs.lemmas.Int.{ints, clamps}
-use Rattle.uc_model.proofs.Sizes.{narrow}
+use Rattle.uc_model.proofs.Common.{narrow}
 use Rattle.step_functions.specs.Functions.{IsPlace, IsWithin, MAX_PLACE, last_place}
 use Rattle.step_functions.proofs.function.ConvexFunction.cut.Goals as goal
 use Rattle.step_functions.proofs.function.ConvexFunction.cut.Goals.{After-last-last, After-max, After-min}

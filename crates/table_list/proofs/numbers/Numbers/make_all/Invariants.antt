@@ -1,6 +1,6 @@
 -- The numbers so far, with the changes that are still to be made, are those of the table with all of them; and their rows rise.
 use Rattle.std.proofs.Common.{◌≡◌, drop}
-use Rattle.dual_model.specs.Prices.{AreRising}
+use Rattle.dual_model.specs.Prelude.{AreRising}
 use Rattle.table_list.specs.Changes.{all_changed}
 use Rattle.table_list.specs.TableChanges.{changes_of}
 use Rattle.table_list.specs.inside.Steps.{numbered}

@@ -3,7 +3,7 @@ use Rattle.std.proofs.Common.{lit<, ◌*◌, ◌≤◌, rules, sym, ap, subst, �
 use mir.Val.{SFits}
 use Rattle.std.specs.Int.{w64, w128}
 use Rattle.std.proofs.lemmas.Int.{to_z-of_z}
-use Rattle.uc_model.proofs.Sizes.{narrow}
+use Rattle.uc_model.proofs.Common.{narrow}
 use Rattle.unit_exact.proofs.LeastLeft.{none-alive, none-left, least-size, least-some}
 use Rattle.hull_function.proofs.Represented.{cut-between}
 use Rattle.hull_function.specs.Hours.{IsCostsOf}

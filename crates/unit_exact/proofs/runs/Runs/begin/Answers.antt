@@ -1,7 +1,7 @@
 -- No hour yet behind the output before.
 use Rattle.std.proofs.Common.{lit<, ◌+◌, ◌*◌, ◌≤◌, sym, subst, ◌∙◌, arith, ℤ, pos, Some, None, if◌then◌else◌}
 use Rattle.std.specs.Ordering.{int_eq}
-use Rattle.uc_model.proofs.Sizes.{narrow}
+use Rattle.uc_model.proofs.Common.{narrow}
 use Rattle.hull_function.specs.Hours.{IsCostsOf}
 use Rattle.hull_function.specs.Problems.{MAX_POWER}
 use Rattle.unit_exact.proofs.runs.Runs.begin.Goals as goal

@@ -2,7 +2,7 @@
 use Rattle.std.proofs.Common.{◌≡◌, ℕ, suc, ◌-◌, ◌*◌, ◌≤◌, ap, subst, ◌∙◌, arith, ℤ, pos, ◌+ℤ◌, ◌-ℤ◌, ◌*ℤ◌, ◌≤ℤ◌, refl, to_z, of_z, unsigned_abs}
 use Rattle.std.specs.Int.{w64, w128}
 use Rattle.std.proofs.lemmas.Int.{ints}
-use Rattle.uc_model.proofs.Ring.{linear}
+use Rattle.uc_model.proofs.Common.{linear}
 use Rattle.step_functions.specs.Functions.{Steps, IsPlace, last_place, value_at}
 use Rattle.unit_runs.specs.CostThrough.{cost_through}
 use Rattle.unit_exact.specs.inside.Problems.{MAX_SWITCH}

@@ -4,7 +4,7 @@ use mir.Val.{SFits}
 use Rattle.std.specs.Int.{w128}
 use Rattle.std.specs.Int.Signed.{le_z}
 use Rattle.std.proofs.lemmas.Int.{ints, to_z-of_z}
-use Rattle.uc_model.specs.Commitment.{cell_cap}
+use Rattle.uc_model.specs.Prelude.{cell_cap}
 use Rattle.hull_function.specs.Hours.{IsCostsOf}
 use Rattle.unit_runs.specs.CostThrough.{cost_through}
 use Rattle.unit_exact.proofs.RunBounds.{run-none-alive}
