@@ -3,7 +3,7 @@
 use Rattle.std.proofs.Common.{◌≡◌, ℕ, ⊎_elim, sym, subst, ℤ, Option, Some, IfSome}
 use Rattle.dual_model.specs.Choices.{Choice, IsOneOf}
 
-pub some-of : (Q : Choice → Type 0) (known result : Option Choice) (cost : Option ℤ) (at : ℕ) → IfSome known Q
+pub some-of : (Q : Choice → Type 0) (known result : Option Choice) (cost : Option ℤ) (at : Option ℕ) → IfSome known Q
     → ((v : ℤ) → cost ≡ Some v → Q (record { cost = v; at = at })) → IsOneOf known cost at result → IfSome result Q
 some-of Q known result cost at old new one = ⊎_elim
     (λ (same : result ≡ known). subst (λ o. IfSome o Q) (sym same) old)

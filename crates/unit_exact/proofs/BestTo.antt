@@ -1,5 +1,5 @@
 -- The best end of a state among those before a period, with the ways that go on from it, is the least way.
-use Rattle.std.proofs.Common.{◌≡◌, ℕ, suc, ◌-◌, ◌<◌, ◌≤◌, ⊎_elim, Bool, false, ◌==◌, refl, sym, subst, ◌∙◌, arith, ℤ, pos, IsTrue, Option, Some, None, IfSome}
+use Rattle.std.proofs.Common.{◌≡◌, ℕ, suc, ◌-◌, ◌<◌, ◌≤◌, ⊎_elim, Bool, false, ◌==◌, refl, sym, ap, subst, ◌∙◌, arith, ℤ, pos, IsTrue, Option, Some, None, IfSome, unwrap_or}
 use Rattle.std.proofs.lemmas.Bool.{cases_lt, cond-true, eq-eqb}
 use Rattle.dual_model.specs.CostToGo.{lesser_of}
 use Rattle.dual_model.proofs.BestChoices.{some-of}
@@ -22,29 +22,36 @@ module _ (periods : ℕ) (table : Table) (unit : Thermal) (fix : Fix) where
     size = tt;
   }
 
-  -- the plan to switch in period t
-  plan_at : (first : ℕ) (was : Bool) (since t : ℕ) (best : Option Choice) (total : Option ℤ) (v : ℤ) → IsBestTo periods table unit fix first was since t best
-      → t ≤ periods → IsCostBelow (choice_cost best) (switch_total periods table unit fix t was since) total → total ≡ Some v
-      → IsPlan periods table unit fix first was since (record { cost = v; at = t })
-  plan_at first was since t best total v known l is e =
-      record { later = known.later; within = l; stays = known.stays; attained = some-below (choice_cost best) _ total v is e }
+  -- the plan to switch in period t, or not at all
+  plan_at : (first : ℕ) (was : Bool) (since t : ℕ) (at : Option ℕ) (best : Option Choice) (total : Option ℤ) (v : ℤ) → t ≡ unwrap_or at periods
+      → IsBestTo periods table unit fix first was since t best → t ≤ periods
+      → IsCostBelow (choice_cost best) (switch_total periods table unit fix t was since) total → total ≡ Some v
+      → IsPlan periods table unit fix first was since (record { cost = v; at = at })
+  plan_at first was since t at best total v end known l is e =
+      let later = known.later in
+      record {
+        later = omega (arith, later, end);
+        within = omega (arith, l, end);
+        stays = λ k low high. known.stays k low (omega (arith, high, end));
+        attained = ap (λ k. switch_total periods table unit fix k was since) (sym end) ∙ some-below (choice_cost best) _ total v is e;
+      }
 
   -- a switch in period t more
-  module _ (first : ℕ) (was : Bool) (since t : ℕ) (best result : Option Choice) (total : Option ℤ) (l : t ≤ periods)
+  module _ (first : ℕ) (was : Bool) (since t : ℕ) (at : Option ℕ) (best result : Option Choice) (total : Option ℤ) (end : t ≡ unwrap_or at periods) (l : t ≤ periods)
       (known : IsBestTo periods table unit fix first was since t best) (is : IsCostBelow (choice_cost best) (switch_total periods table unit fix t was since) total)
       (sized : IfSome total (IsWithinSwitches (periods - t)))
-      (cost : choice_cost result ≡ lesser_of (choice_cost best) total) (one : IsOneOf best total t result) where
+      (cost : choice_cost result ≡ lesser_of (choice_cost best) total) (one : IsOneOf best total at result) where
     cost_by_total : choice_cost result ≡ lesser_of (choice_cost best) (switch_total periods table unit fix t was since)
     cost_by_total = cost ∙ lesser-below (choice_cost best) _ total is
 
     plan_more : IfSome result (IsPlan periods table unit fix first was since)
     plan_more =
-        some-of (IsPlan periods table unit fix first was since) best result total t known.plan
-        (λ v e. plan_at first was since t best total v known l is e) one
+        some-of (IsPlan periods table unit fix first was since) best result total at known.plan
+        (λ v e. plan_at first was since t at best total v end known l is e) one
 
     size_more : IfSome result (λ choice. IsWithinSwitches (periods - first) choice.cost)
     size_more =
-        some-of (λ choice. IsWithinSwitches (periods - first) choice.cost) best result total t known.size
+        some-of (λ choice. IsWithinSwitches (periods - first) choice.cost) best result total at known.size
         (λ v e.
         let own : IsWithinSwitches (periods - t) v = subst (λ o. IfSome o (IsWithinSwitches (periods - t))) e sized in
         let later = known.later in
@@ -74,9 +81,9 @@ module _ (periods : ℕ) (table : Table) (unit : Thermal) (fix : Fix) where
         }
 
     pub best-end : t ≡ periods → IsLeastSwitch periods table unit fix first was since result
-    best-end end =
+    best-end last =
         record {
-          cost = none_behind periods table unit fix t was since (choice_cost best) (choice_cost result) (to_go first was since) end known.cost cost_by_total;
+          cost = none_behind periods table unit fix t was since (choice_cost best) (choice_cost result) (to_go first was since) last known.cost cost_by_total;
           plan = plan_more;
           size = size_more;
         }

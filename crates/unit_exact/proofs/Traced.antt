@@ -12,7 +12,7 @@ use Rattle.unit_runs.specs.RunsToGo.{Fix, last_cost, run_until, runs_to_go, runs
 use Rattle.unit_runs.proofs.Changes.{way-kept, way-switched}
 use Rattle.unit_exact.specs.inside.Choices.{Choice, choice_cost}
 use Rattle.unit_exact.specs.inside.Problems.{Table, Thermal}
-use Rattle.unit_exact.specs.inside.Switches.{AreSwitches, IsLeastSwitch, IsPlan, Switches, next_after, switch_total}
+use Rattle.unit_exact.specs.inside.Switches.{AreSwitches, IsLeastSwitch, IsPlan, Switches, ends_at, next_after, switch_total}
 use Rattle.unit_exact.proofs.Steps.{total-before}
 
 -- two commitments are the same before period t
@@ -26,17 +26,19 @@ module _ (periods : ℕ) (table : Table) (unit : Thermal) (fix : Fix) where
   -- before period t the unit is on or off, is switched next in period `next`, and the pattern has what comes before
   pub record IsTraced (total : ℤ) (on : Commitment) (t : ℕ) (was : Bool) (next : ℕ) : Type 0 where
     pub since : ℕ
-    pub cost : ℤ
-    pub plan : IsPlan periods table unit fix t was since (record { cost = cost; at = next })
-    pub leads : (other : Commitment) → AgreeBefore t on other → way other t was since ≡ Some cost
+    pub choice : Choice
+    pub ends : ends_at choice periods ≡ next
+    pub plan : IsPlan periods table unit fix t was since choice
+    pub leads : (other : Commitment) → AgreeBefore t on other → way other t was since ≡ Some choice.cost
         → whole_way periods table unit fix other ≡ Some total
 
   -- at the beginning
-  pub begun : (on : Commitment) (choice : Choice) → IsPlan periods table unit fix 0 unit.on0 0 choice
-      → IsTraced choice.cost on 0 unit.on0 choice.at
-  begun on choice plan = record {
+  pub begun : (on : Commitment) (choice : Choice) (next : ℕ) → next ≡ ends_at choice periods → IsPlan periods table unit fix 0 unit.on0 0 choice
+      → IsTraced choice.cost on 0 unit.on0 next
+  begun on choice next e plan = record {
     since = 0;
-    cost = choice.cost;
+    choice = choice;
+    ends = sym e;
     plan = plan;
     leads = λ other same e. let left : periods ≡ periods - 0 = omega arith in
         ap (λ n. runs_way periods table unit fix other n 0 unit.on0 0) left ∙ e;
@@ -54,33 +56,37 @@ module _ (periods : ℕ) (table : Table) (unit : Thermal) (fix : Fix) where
       → after t ≡ was → IsTraced total on t was next → IsTraced total after (suc t) was next
   traced-stay total on after t was next l apart same bit traced = record {
     since = traced.since;
-    cost = traced.cost;
+    choice = traced.choice;
+    ends = traced.ends;
     plan =
         let later = traced.plan.later in
+        let ends = traced.ends in
         record {
-          later = omega (arith, later, apart);
+          later = omega (arith, later, ends, apart);
           within = traced.plan.within;
           stays = λ k low high. traced.plan.stays k (omega (arith, low)) high;
           attained = traced.plan.attained;
         };
     leads = λ other agree e.
         let later = traced.plan.later in
+        let ends = traced.ends in
         traced.leads other (λ k h. agree k (omega (arith, h)) ∙ same k h)
         (way-at other t was traced.since l
         ∙ way-kept periods table unit fix other (periods - suc t) t was traced.since (agree t (omega arith) ∙ bit)
-        (traced.plan.stays t (omega arith) (omega (arith, later, apart)))
+        (traced.plan.stays t (omega arith) (omega (arith, later, ends, apart)))
         ∙ e);
   }
 
   -- it is switched
   pub traced-switch : (total : ℤ) (on after : Commitment) (t : ℕ) (was : Bool) (choice : Choice) → t < periods → AgreeBefore t on after
       → after t ≡ not was → (traced : IsTraced total on t was t)
-      → (rest : Parts (switch_cost periods table unit fix t was traced.since) (runs_to_go periods table unit fix (periods - suc t) (suc t) (not was) (suc t)) traced.cost)
+      → (rest : Parts (switch_cost periods table unit fix t was traced.since) (runs_to_go periods table unit fix (periods - suc t) (suc t) (not was) (suc t)) traced.choice.cost)
       → rest.second ≡ choice.cost → IsPlan periods table unit fix (suc t) (not was) (suc t) choice
-      → IsTraced total after (suc t) (not was) choice.at
+      → IsTraced total after (suc t) (not was) (ends_at choice periods)
   traced-switch total on after t was choice l same bit traced rest cost plan = record {
     since = suc t;
-    cost = choice.cost;
+    choice = choice;
+    ends = refl;
     plan = plan;
     leads = λ other agree e.
         traced.leads other (λ k h. agree k (omega (arith, h)) ∙ same k h)
@@ -98,7 +104,7 @@ module _ (periods : ℕ) (table : Table) (unit : Thermal) (fix : Fix) where
       let later = traced.plan.later in
       let within = traced.plan.within in
       let left : periods - t ≡ 0 = omega arith in
-      let at : t ≡ next = omega (arith, later, within, end) in
+      let at : t ≡ ends_at traced.choice periods = omega (arith, later, within, end) in
       traced.leads on (λ k h. refl)
       (ap (λ n. runs_way periods table unit fix on n t was traced.since) left
       ∙ sym (cond-true (t == periods) (last_cost periods table unit t was traced.since) _ (eq-eqb t periods end))
@@ -135,8 +141,9 @@ module _ (periods : ℕ) (table : Table) (unit : Thermal) (fix : Fix) where
   traced-next total on after t was entry l same bit are traced =
       let next = if not was then entry.start else entry.stop in
       let rest = total_of-parts (switch_cost periods table unit fix t was traced.since)
-      (runs_to_go periods table unit fix (periods - suc t) (suc t) (not was) (suc t)) traced.cost
-      (sym (total-before periods table unit fix t was traced.since l) ∙ traced.plan.attained) in
+      (runs_to_go periods table unit fix (periods - suc t) (suc t) (not was) (suc t)) traced.choice.cost
+      (sym (total-before periods table unit fix t was traced.since l)
+      ∙ ap (λ k. switch_total periods table unit fix k was traced.since) (sym traced.ends) ∙ traced.plan.attained) in
       let least = least_after t was traced.since rest.first entry are rest.first_is in
       let found = chosen (IsPlan periods table unit fix (suc t) (not was) (suc t)) next rest.second (least.cost ∙ rest.second_is) least.plan in
       subst (λ o. IsTraced total after (suc t) (not was) (next_after o periods)) (sym found.is)

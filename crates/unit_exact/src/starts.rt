@@ -24,12 +24,12 @@ pub(crate) fn next_start(entries: &[Switches], problem: &Problem, since: usize) 
     // Invariant, before period t: what `best` leaves and the ways that rest until t make up the least way; it rests until then.
     let mut best = None;
     for t in since..problem.periods {
-        best = better(best, start_total(&entries[t], problem, since, t), t);
+        best = better(best, start_total(&entries[t], problem, since, t), Some(t));
         if !may_stay_off(problem, t) {
             return best;
         }
     }
-    better(best, Some(0), problem.periods)
+    better(best, Some(0), None)
 }
 
 // What a start in period t costs with all that follows, of a unit that is off since `since`.

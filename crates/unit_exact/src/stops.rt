@@ -42,7 +42,7 @@ pub(crate) fn first_stop(runs: &mut Runs, entries: &[Switches], problem: &Proble
     ensures room { HasRoom problem.now.periods problem.now.hull.now runs.new }
     ensures least { IsLeastSwitch problem.now.periods problem.now.table.now problem.now.unit.now problem.now.fix.now 0 true 0 result }
 {
-    let known = better(None, stop_at_once(entries, problem), 0);
+    let known = better(None, stop_at_once(entries, problem), Some(0));
     if !may_stay_on(problem, 0) {
         return known;
     }
@@ -87,14 +87,14 @@ fn later_stop(
     let mut best = known;
     for t in from..last {
         let total = stop_total(runs, &entries[t + 1], problem, &best, since, t);
-        best = better(best, total, t + 1);
+        best = better(best, total, Some(t + 1));
         if !may_stay_on(problem, t + 1) {
             return best;
         }
         runs.go_on(problem, from, t);
     }
     let total = runs.cost_below(problem, from, last, &cost_of(&best));
-    better(best, total, problem.periods)
+    better(best, total, None)
 }
 
 // The period in which the run began of a unit that is on since `since`.

@@ -7,7 +7,7 @@ ghost use Rattle.unit_runs.specs.RunsToGo.{whole_way};
 ghost use Rattle.unit_exact.specs.inside.Switches.{IsPlan, IsTableFrom, next_after};
 
 use crate::choices::Switches;
-use dual_model::choices::{Choice, switch_or_end};
+use dual_model::choices::{Choice, ends_at, switch_or_end};
 use hull_function::Problem;
 use uc_model::Pattern;
 use uc_model::limits::MAX_PERIODS;
@@ -25,7 +25,7 @@ pub(crate) fn pattern_of(entries: &[Switches], problem: &Problem, first: &Choice
     let mut pattern = Pattern::all_off();
     let mut state = State {
         on: problem.unit.on0,
-        next: first.at,
+        next: ends_at(first, problem.periods),
     };
     for t in 0..problem.periods {
         state = state_in(state, &entries[t], t, problem.periods);

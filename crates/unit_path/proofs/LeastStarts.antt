@@ -1,10 +1,10 @@
 -- The least way of a unit that is off: of one that has just been switched off, and of one whose starts are cold.
-use Rattle.std.proofs.Common.{◌≡◌, ℕ, suc, ◌+◌, ◌-◌, ◌<◌, ◌≤◌, ◌⊎◌, ⊎_elim, true, false, sym, ap, subst, ◌∙◌, arith, ℤ, pos, ◌*ℤ◌, Option, Some, None, IfSome}
+use Rattle.std.proofs.Common.{◌≡◌, ℕ, suc, ◌+◌, ◌-◌, ◌<◌, ◌≤◌, ◌⊎◌, ⊎_elim, true, false, refl, sym, ap, subst, ◌∙◌, arith, ℤ, pos, ◌*ℤ◌, Option, Some, None, IfSome, unwrap_or}
 use Rattle.std.proofs.lemmas.Bool.{cases_Bool}
 use Rattle.uc_model.specs.Prelude.{IsLawfulThermal, sigma, period_count, may_start}
 use Rattle.dual_model.specs.Prelude.{AreSizedTerms, may_be_off, stop_since, IsWithin, MAX_COST_TO_GO}
 use Rattle.dual_model.specs.CostToGo.{lesser_of, total_of}
-use Rattle.unit_path.specs.inside.Choices.{Fix, Terms, Thermal, Choice, choice_cost, rests, start_total, IsLeastStart, IsOneOf, IsStart}
+use Rattle.unit_path.specs.inside.Choices.{Fix, Terms, Thermal, Choice, choice_cost, ends_at, rests, start_total, IsLeastStart, IsOneOf, IsStart}
 use Rattle.unit_path.specs.inside.Hours.{IsCold, IsColdStart, IsStartIn}
 use Rattle.dual_model.proofs.BestChoices.{some-of}
 use Rattle.dual_model.proofs.Costs.{lesser-assoc, lesser-comm, total-zero}
@@ -14,13 +14,16 @@ use Rattle.unit_path.proofs.Switched.{start-total_of}
 
 -- ---- chosen starts
 -- a start behind a rest that costs nothing
-pub start-at : (terms : Terms) (unit : Thermal) (fix : Fix) (since t at : ℕ) (cost : ℤ) → t ≤ at → at ≤ period_count terms
-    → rests unit fix t (at - t) ≡ Some (pos 0) → start_total terms unit fix since at ≡ Some cost
+pub start-at : (terms : Terms) (unit : Thermal) (fix : Fix) (since t : ℕ) (at : Option ℕ) (cost : ℤ) → t ≤ unwrap_or at (period_count terms)
+    → unwrap_or at (period_count terms) ≤ period_count terms → rests unit fix t (unwrap_or at (period_count terms) - t) ≡ Some (pos 0)
+    → start_total terms unit fix since (unwrap_or at (period_count terms)) ≡ Some cost
     → IsStart terms unit fix since t (record { cost = cost; at = at })
 start-at terms unit fix since t at cost low high free is = record {
   later = low;
   within = high;
-  attained = ap (λ x. total_of x (start_total terms unit fix since at)) free ∙ total-zero (start_total terms unit fix since at) ∙ is;
+  attained =
+      let total = start_total terms unit fix since (unwrap_or at (period_count terms)) in
+      ap (λ x. total_of x total) free ∙ total-zero total ∙ is;
 }
 
 pub start-further : (terms : Terms) (unit : Thermal) (fix : Fix) (since t from : ℕ) (choice : Option Choice) → t ≤ from
@@ -28,22 +31,24 @@ pub start-further : (terms : Terms) (unit : Thermal) (fix : Fix) (since t from :
 start-further terms unit fix since t from None h free start = tt
 start-further terms unit fix since t from (Some choice) h free start =
     let later = start.later in
-    let count : choice.at - t ≡ (from - t) + (choice.at - from) = omega arith in
+    let to = ends_at choice (period_count terms) in
+    let count : to - t ≡ (from - t) + (to - from) = omega (arith, later) in
     let at : t + (from - t) ≡ from = omega arith in
     record {
-      later = omega arith;
+      later = omega (arith, later);
       within = start.within;
       attained =
-          ap (λ x. total_of x (start_total terms unit fix since choice.at))
-          (ap (rests unit fix t) count ∙ rests-split unit fix t (from - t) (choice.at - from)
-          ∙ (λ i. total_of (free i) (rests unit fix (at i) (choice.at - from)))
-          ∙ total-zero (rests unit fix from (choice.at - from)))
+          ap (λ x. total_of x (start_total terms unit fix since to))
+          (ap (rests unit fix t) count ∙ rests-split unit fix t (from - t) (to - from)
+          ∙ (λ i. total_of (free i) (rests unit fix (at i) (to - from)))
+          ∙ total-zero (rests unit fix from (to - from)))
           ∙ start.attained;
     }
 
 -- a choice that is one of two, or a new one
-pub start-of_one : (terms : Terms) (unit : Thermal) (fix : Fix) (since t at : ℕ) (known result : Option Choice) (cost : Option ℤ) → t ≤ at → at ≤ period_count terms
-    → rests unit fix t (at - t) ≡ Some (pos 0) → cost ≡ start_total terms unit fix since at
+pub start-of_one : (terms : Terms) (unit : Thermal) (fix : Fix) (since t : ℕ) (at : Option ℕ) (known result : Option Choice) (cost : Option ℤ)
+    → t ≤ unwrap_or at (period_count terms) → unwrap_or at (period_count terms) ≤ period_count terms
+    → rests unit fix t (unwrap_or at (period_count terms) - t) ≡ Some (pos 0) → cost ≡ start_total terms unit fix since (unwrap_or at (period_count terms))
     → IfSome known (IsStart terms unit fix since t) → IsOneOf known cost at result → IfSome result (IsStart terms unit fix since t)
 start-of_one terms unit fix since t at known result cost low high free is start one =
     some-of (IsStart terms unit fix since t) known result cost at start (λ v new. start-at terms unit fix since t at v low high free (sym is ∙ new)) one
@@ -81,14 +86,14 @@ pub best-more : (terms : Terms) (unit : Thermal) (fix : Fix) (since from t : ℕ
     → from ≤ t → t < period_count terms → may_start unit since from ≡ true → ((k : ℕ) → from ≤ k → k ≤ t → may_be_off unit fix k ≡ true)
     → IsStartIn terms unit fix t start → cost ≡ total_of (Some (terms.k *ℤ sigma unit (stop_since since) t)) (choice_cost start)
     → IsBestTo terms unit fix since from t best
-    → choice_cost result ≡ lesser_of (choice_cost best) cost → IsOneOf best cost t result
+    → choice_cost result ≡ lesser_of (choice_cost best) cost → IsOneOf best cost (Some t) result
     → IsBestTo terms unit fix since from (suc t) result
 best-more terms unit fix since from t start best result cost low high may off entry is so_far chosen one =
     let started : cost ≡ start_total terms unit fix since t =
     is ∙ start-total_of terms unit fix since t start high (lasted-later (unit.dt - unit.dt0) unit.dt since from t low may) entry in
     record {
       cost = warmer terms unit fix since t best result cost _ high (off t low (omega arith)) started so_far.cost chosen;
-      start = start-of_one terms unit fix since from t best result cost low (omega arith)
+      start = start-of_one terms unit fix since from (Some t) best result cost low (omega arith)
           (rests-free unit fix from (t - from) (λ k a b. off k a (omega arith))) started so_far.start one;
     }
 
@@ -121,7 +126,7 @@ pub least-to : (terms : Terms) (unit : Thermal) (fix : Fix) → IsLawfulThermal 
     → ((k : ℕ) → since ≤ k → k < until → may_be_off unit fix k ≡ true) → may_be_off unit fix until ≡ false
     → IsStartIn terms unit fix until start → cost ≡ total_of (Some (terms.k *ℤ sigma unit (stop_since since) until)) (choice_cost start)
     → IsBestTo terms unit fix since from until best
-    → choice_cost result ≡ lesser_of (choice_cost best) cost → IsOneOf best cost until result
+    → choice_cost result ≡ lesser_of (choice_cost best) cost → IsOneOf best cost (Some until) result
     → IsLeastStart terms unit fix since since result
 least-to terms unit fix lawful sized since from until start best result cost low order high barred may off last entry is so_far chosen one =
     let started : cost ≡ start_total terms unit fix since until = is ∙ start-total_of terms unit fix since until start high may entry in
@@ -129,7 +134,7 @@ least-to terms unit fix lawful sized since from until start best result cost low
     (chosen ∙ ap (lesser_of (choice_cost best)) (started ∙ sym (off-barred terms unit fix since until high last))
     ∙ so_far.cost
     ∙ sym (rest-free terms unit fix since from low (omega arith) barred (λ k a b. off k a (omega arith))))
-    (start-of_one terms unit fix since since until best result cost (omega arith) (omega arith)
+    (start-of_one terms unit fix since since (Some until) best result cost (omega arith) (omega arith)
     (rests-free unit fix since (until - since) (λ k a b. off k a (omega arith))) started
     (start-further terms unit fix since since from best low (rests-free unit fix since (from - since) (λ k a b. off k a (omega arith))) so_far.start)
     one)
@@ -157,15 +162,15 @@ least-from_cold terms unit fix lawful sized since from cold start best result lo
 
 -- at the end of the horizon there is nothing to pay
 pub least-start_end : (terms : Terms) (unit : Thermal) (fix : Fix) → IsLawfulThermal unit → AreSizedTerms unit terms
-    → (since t at : ℕ) (choice : Option Choice) → t ≡ period_count terms → at ≡ t
-    → choice_cost choice ≡ Some (pos 0) → IsOneOf None (Some (pos 0)) at choice
+    → (since t : ℕ) (choice : Option Choice) → t ≡ period_count terms
+    → choice_cost choice ≡ Some (pos 0) → IsOneOf None (Some (pos 0)) None choice
     → IsLeastStart terms unit fix since t choice
-least-start_end terms unit fix lawful sized since t at choice end e chosen one =
+least-start_end terms unit fix lawful sized since t choice end chosen one =
     least-start terms unit fix lawful sized since t choice (omega arith)
     (chosen ∙ sym (to_go-end terms unit fix t end false since))
-    (start-of_one terms unit fix since t at None choice (Some (pos 0)) (omega arith) (omega arith)
-    (ap (rests unit fix t) (let none : at - t ≡ 0 = omega arith in none))
-    (sym (start_total-end terms unit fix since at (omega arith)))
+    (start-of_one terms unit fix since t None None choice (Some (pos 0)) (omega arith) (omega arith)
+    (ap (rests unit fix t) (let none : period_count terms - t ≡ 0 = omega arith in none))
+    (sym (start_total-end terms unit fix since (period_count terms) refl))
     tt one)
 
 -- ---- cold starts
@@ -176,11 +181,11 @@ pub least-cold : (terms : Terms) (unit : Thermal) (fix : Fix) → IsLawfulTherma
     → IsStartIn terms unit fix t start
     → cost ≡ total_of (Some (terms.k *ℤ sigma unit None t)) (choice_cost start)
     → choice_cost result ≡ lesser_of (choice_cost later) cost
-    → IsOneOf later cost t result
+    → IsOneOf later cost (Some t) result
     → IsColdStart terms unit fix t result
 least-cold terms unit fix lawful sized t start next later result cost within off on least entry is chosen one since h may cold =
     least-start terms unit fix lawful sized since t result (omega arith) whole
-    (start-of_one terms unit fix since t t later result cost (omega arith) (omega arith) (ap (rests unit fix t) none) started known one)
+    (start-of_one terms unit fix since t (Some t) later result cost (omega arith) (omega arith) (ap (rests unit fix t) none) started known one)
   where
     none : t - t ≡ 0
     none = omega arith

@@ -1,10 +1,10 @@
 -- The least way of a unit that is on: of one that has just been switched on, and of one that has been on for long enough.
-use Rattle.std.proofs.Common.{◌≡◌, ℕ, suc, ◌+◌, ◌-◌, ◌<◌, ◌≤◌, ◌⊎◌, ⊎_elim, true, false, refl, sym, ap, subst, ◌∙◌, arith, ℤ, pos, ◌+ℤ◌, Option, Some, None, IfSome, ◌==◌}
+use Rattle.std.proofs.Common.{◌≡◌, ℕ, suc, ◌+◌, ◌-◌, ◌<◌, ◌≤◌, ◌⊎◌, ⊎_elim, true, false, refl, sym, ap, subst, ◌∙◌, arith, ℤ, pos, ◌+ℤ◌, Option, Some, None, IfSome, unwrap_or, ◌==◌}
 use Rattle.std.proofs.lemmas.Bool.{cases_Bool, ne_eqb}
 use Rattle.uc_model.specs.Prelude.{IsLawfulThermal, period_count, may_stop}
 use Rattle.dual_model.specs.Prelude.{AreSizedTerms, hour_before, may_be_on, move, IsWithin, MAX_COST_TO_GO}
 use Rattle.dual_model.specs.CostToGo.{lesser_of, total_of}
-use Rattle.unit_path.specs.inside.Choices.{Fix, Terms, Thermal, Choice, choice_cost, longer_of, stays, stop_cost, IsLeastStop, IsOneOf, IsStop, IsStopAtOnce}
+use Rattle.unit_path.specs.inside.Choices.{Fix, Terms, Thermal, Choice, choice_cost, ends_at, longer_of, stays, stop_cost, IsLeastStop, IsOneOf, IsStop, IsStopAtOnce}
 use Rattle.unit_path.specs.inside.Hours.{leave_cost, IsOnward, IsStopIn}
 use Rattle.dual_model.proofs.BestChoices.{some-of}
 use Rattle.dual_model.proofs.Costs.{total-assoc, total-zero}
@@ -18,13 +18,13 @@ longer-cost cost (Some choice) = refl
 
 -- ---- chosen stops
 -- a stop in period t itself
-pub stop-here : (terms : Terms) (unit : Thermal) (fix : Fix) (since t at : ℕ) (cost : ℤ) → at ≡ t → t ≤ period_count terms
+pub stop-here : (terms : Terms) (unit : Thermal) (fix : Fix) (since t : ℕ) (at : Option ℕ) (cost : ℤ) → unwrap_or at (period_count terms) ≡ t → t ≤ period_count terms
     → stop_cost terms unit fix since t ≡ Some cost → IsStop terms unit fix since t (record { cost = cost; at = at })
 stop-here terms unit fix since t at cost e h is = record {
   later = omega arith;
   within = omega arith;
   attained =
-      (λ i. total_of (stays terms unit fix since t ((let none : at - t ≡ 0 = omega arith in none) i)) (stop_cost terms unit fix since (e i)))
+      (λ i. total_of (stays terms unit fix since t ((let none : unwrap_or at (period_count terms) - t ≡ 0 = omega arith in none) i)) (stop_cost terms unit fix since (e i)))
       ∙ total-zero (stop_cost terms unit fix since t) ∙ is;
 }
 
@@ -34,16 +34,17 @@ pub stop-further : (terms : Terms) (unit : Thermal) (fix : Fix) (since t from : 
     → IsStop terms unit fix since t (record { cost = spent +ℤ choice.cost; at = choice.at })
 stop-further terms unit fix since t from spent choice h is stop =
     let later = stop.later in
-    let count : choice.at - t ≡ (from - t) + (choice.at - from) = omega arith in
+    let to = ends_at choice (period_count terms) in
+    let count : to - t ≡ (from - t) + (to - from) = omega (arith, later) in
     let at : t + (from - t) ≡ from = omega arith in
     record {
-      later = omega arith;
+      later = omega (arith, later);
       within = stop.within;
       attained =
-          ap (λ x. total_of x (stop_cost terms unit fix since choice.at))
-          (ap (stays terms unit fix since t) count ∙ stays-split terms unit fix since t (from - t) (choice.at - from)
-          ∙ (λ i. total_of (sym is i) (stays terms unit fix since (at i) (choice.at - from))))
-          ∙ total-assoc (Some spent) (stays terms unit fix since from (choice.at - from)) (stop_cost terms unit fix since choice.at)
+          ap (λ x. total_of x (stop_cost terms unit fix since to))
+          (ap (stays terms unit fix since t) count ∙ stays-split terms unit fix since t (from - t) (to - from)
+          ∙ (λ i. total_of (sym is i) (stays terms unit fix since (at i) (to - from))))
+          ∙ total-assoc (Some spent) (stays terms unit fix since from (to - from)) (stop_cost terms unit fix since to)
           ∙ ap (total_of (Some spent)) stop.attained;
     }
 
@@ -54,10 +55,10 @@ longer-stop terms unit fix since t from spent None h is stop = tt
 longer-stop terms unit fix since t from spent (Some choice) h is stop = stop-further terms unit fix since t from spent choice h is stop
 
 at_once-stop : (terms : Terms) (unit : Thermal) (fix : Fix) (since : ℕ) (known : Option Choice) → since ≤ period_count terms
-    → choice_cost known ≡ stop_cost terms unit fix since since → IfSome known (λ choice. choice.at ≡ since)
+    → choice_cost known ≡ stop_cost terms unit fix since since → IfSome known (λ choice. choice.at ≡ Some since)
     → IfSome known (IsStop terms unit fix since since)
 at_once-stop terms unit fix since None h cost at = tt
-at_once-stop terms unit fix since (Some known) h cost at = stop-here terms unit fix since since known.at known.cost at h (sym cost)
+at_once-stop terms unit fix since (Some known) h cost at = stop-here terms unit fix since since known.at known.cost (ap (λ o. unwrap_or o (period_count terms)) at) h (sym cost)
 
 -- ---- a unit that has just been switched on
 pub least-at_once : (terms : Terms) (unit : Thermal) (fix : Fix) → IsLawfulThermal unit → AreSizedTerms unit terms
@@ -106,7 +107,7 @@ pub least-onward : (terms : Terms) (unit : Thermal) (fix : Fix) → IsLawfulTher
     → Some stay ≡ hour_before terms unit t false false
     → exit ≡ total_of (leave_cost terms unit fix t false) (choice_cost stop) → IsStopIn terms unit fix t stop
     → choice_cost result ≡ lesser_of (total_of (Some stay) (choice_cost later)) exit
-    → IsOneOf (longer_of stay later) exit t result
+    → IsOneOf (longer_of stay later) exit (Some t) result
     → IsOnward terms unit fix t result
 least-onward terms unit fix lawful sized t stay next later stop result exit within on off least is leaves entry chosen one since h may =
     record {
@@ -150,31 +151,31 @@ least-onward terms unit fix lawful sized t stay next later stop result exit with
         (λ (b : may_be_on fix t ≡ false). subst (λ o. IfSome o (IsStop terms unit fix since t)) (sym (e ∙ ap (longer_of stay) (off b))) tt)
         (cases_Bool (may_be_on fix t))
 
-    new_stop : (v : ℤ) × (exit ≡ Some v) × (result ≡ Some (record { cost = v; at = t })) → IfSome result (IsStop terms unit fix since t)
+    new_stop : (v : ℤ) × (exit ≡ Some v) × (result ≡ Some (record { cost = v; at = Some t })) → IfSome result (IsStop terms unit fix since t)
     new_stop new =
         subst (λ o. IfSome o (IsStop terms unit fix since t)) (sym new.2)
-        (stop-here terms unit fix since t t new.0 refl (omega arith) (sym left ∙ new.1))
+        (stop-here terms unit fix since t (Some t) new.0 refl (omega arith) (sym left ∙ new.1))
 
 -- ---- the stop at once, and the end of the horizon
 pub at_once-from : (terms : Terms) (unit : Thermal) (fix : Fix) (since : ℕ) (known : Option Choice) (cost : Option ℤ)
-    → cost ≡ stop_cost terms unit fix since since → choice_cost known ≡ cost → IsOneOf None cost since known
+    → cost ≡ stop_cost terms unit fix since since → choice_cost known ≡ cost → IsOneOf None cost (Some since) known
     → IsStopAtOnce terms unit fix since since known
 at_once-from terms unit fix since known cost is chosen one = record {
   cost = chosen ∙ is;
   at =
-      some-of (λ choice. choice.at ≡ since) None known cost since tt (λ v new. refl) one;
+      some-of (λ choice. choice.at ≡ Some since) None known cost (Some since) tt (λ v new. refl) one;
 }
 
 pub least-end : (terms : Terms) (unit : Thermal) (fix : Fix) → IsLawfulThermal unit → AreSizedTerms unit terms
-    → (since t at : ℕ) (choice : Option Choice) (cost : Option ℤ) → t ≡ period_count terms → at ≡ t
-    → cost ≡ hour_before terms unit t (since == t) false → choice_cost choice ≡ cost → IsOneOf None cost at choice
+    → (since t : ℕ) (choice : Option Choice) (cost : Option ℤ) → t ≡ period_count terms
+    → cost ≡ hour_before terms unit t (since == t) false → choice_cost choice ≡ cost → IsOneOf None cost None choice
     → IsLeastStop terms unit fix since t choice
-least-end terms unit fix lawful sized since t at choice cost end e is chosen one =
+least-end terms unit fix lawful sized since t choice cost end is chosen one =
     let whole : choice_cost choice ≡ to_go terms unit fix t true since = chosen ∙ is ∙ sym (to_go-end terms unit fix t end true since) in
     record {
       cost = whole;
       size = subst (IsWithin MAX_COST_TO_GO) (sym whole) (to_go-fits unit terms fix lawful sized t (omega arith) true since);
       stop =
-          some-of (IsStop terms unit fix since t) None choice cost at tt
-          (λ v new. stop-here terms unit fix since t at v e (omega arith) (stop_cost-end terms unit fix since t end ∙ sym is ∙ new)) one;
+          some-of (IsStop terms unit fix since t) None choice cost None tt
+          (λ v new. stop-here terms unit fix since t None v (sym end) (omega arith) (stop_cost-end terms unit fix since t end ∙ sym is ∙ new)) one;
     }

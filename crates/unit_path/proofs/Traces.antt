@@ -5,7 +5,7 @@ use Rattle.uc_model.specs.Prelude.{Commitment, commitment_of, period_count, may_
 use Rattle.dual_model.specs.Prelude.{holds_initially, may_be_off, may_be_on, move, end_cost, way}
 use Rattle.dual_model.specs.CostToGo.{total_of}
 use Rattle.dual_model.proofs.Optimum.{total_of-parts}
-use Rattle.unit_path.specs.inside.Choices.{Fix, Terms, Thermal, Choice, choice_cost, rests, start_total, stays, stop_cost, next_after, IsStart, IsStop, IsSwitch}
+use Rattle.unit_path.specs.inside.Choices.{Fix, Terms, Thermal, Choice, choice_cost, ends_at, rests, start_total, stays, stop_cost, next_after, IsStart, IsStop, IsSwitch}
 use Rattle.unit_path.specs.inside.Hours.{Hour, IsHour}
 use Rattle.unit_path.specs.inside.Ways.{Pattern, IsWay}
 use Rattle.unit_path.proofs.Going.{start_total-at, start_total-end, stop_cost-at, stop_cost-end, to_go}
@@ -14,14 +14,15 @@ use Rattle.unit_path.proofs.WayLaws.{ended, lasting, switched, way_from}
 -- the pattern has the way's part before period `from`, from which on the unit is `on`, or off, to its next switch in period `to`
 pub record IsTraced (terms : Terms) (unit : Thermal) (fix : Fix) (total : ℤ) (pattern : Pattern) (on : Bool) (from to : ℕ) : Type 0 where
   pub since : ℕ
-  pub cost : ℤ
+  pub choice : Choice
+  pub ends : ends_at choice (period_count terms) ≡ to
   pub after : from ≤ since
   pub soon : since ≤ suc from
-  pub switch : IsSwitch terms unit fix on since (record { cost = cost; at = to })
+  pub switch : IsSwitch terms unit fix on since choice
   pub off : (k : ℕ) → from ≤ k → commitment_of pattern k ≡ false
   pub leads : (other : Commitment) → ((k : ℕ) → k < from → other k ≡ commitment_of pattern k)
       → ((k : ℕ) → from ≤ k → k < since → other k ≡ on)
-      → way_from terms unit fix other since on since ≡ Some cost
+      → way_from terms unit fix other since on since ≡ Some choice.cost
       → way terms unit fix other (period_count terms) 0 unit.on0 0 ≡ Some total
 
 -- the next pattern has the run too
@@ -78,25 +79,26 @@ switch-end terms unit fix true since t h = stop_cost-end terms unit fix since t 
 switch-end terms unit fix false since t h = start_total-end terms unit fix since t h
 
 -- what a chosen switch of either state has
-record HasSwitch (terms : Terms) (unit : Thermal) (fix : Fix) (on : Bool) (since : ℕ) (choice : Choice) : Type 0 where
-  later : since ≤ choice.at
-  within : choice.at ≤ period_count terms
-  attained :
-      total_of (lasting terms unit fix on since since (choice.at - since)) (switch_total terms unit fix on since choice.at) ≡ Some choice.cost
+record HasSwitch (terms : Terms) (unit : Thermal) (fix : Fix) (on : Bool) (since to : ℕ) (choice : Choice) : Type 0 where
+  later : since ≤ to
+  within : to ≤ period_count terms
+  attained : total_of (lasting terms unit fix on since since (to - since)) (switch_total terms unit fix on since to) ≡ Some choice.cost
 
-has-switch : (terms : Terms) (unit : Thermal) (fix : Fix) (on : Bool) (since : ℕ) (choice : Choice) → IsSwitch terms unit fix on since choice
-    → HasSwitch terms unit fix on since choice
-has-switch terms unit fix true since choice switch = record { later = switch.later; within = switch.within; attained = switch.attained }
-has-switch terms unit fix false since choice switch = record { later = switch.later; within = switch.within; attained = switch.attained }
+has-switch : (terms : Terms) (unit : Thermal) (fix : Fix) (on : Bool) (since to : ℕ) (choice : Choice) → ends_at choice (period_count terms) ≡ to
+    → IsSwitch terms unit fix on since choice → HasSwitch terms unit fix on since to choice
+has-switch terms unit fix true since to choice e switch =
+    subst (λ k. HasSwitch terms unit fix true since k choice) e (record { later = switch.later; within = switch.within; attained = switch.attained })
+has-switch terms unit fix false since to choice e switch =
+    subst (λ k. HasSwitch terms unit fix false since k choice) e (record { later = switch.later; within = switch.within; attained = switch.attained })
 
 -- the switch behind a chosen one
-switch-behind : (terms : Terms) (unit : Thermal) (fix : Fix) (on : Bool) (since to : ℕ) (cost : ℤ) (hour : Hour) → to < period_count terms
-    → IsSwitch terms unit fix on since (record { cost = cost; at = to }) → IsHour terms unit fix to hour
+switch-behind : (terms : Terms) (unit : Thermal) (fix : Fix) (on : Bool) (since to : ℕ) (choice : Choice) (hour : Hour) → to < period_count terms
+    → HasSwitch terms unit fix on since to choice → IsHour terms unit fix to hour
     → Behind (IsSwitch terms unit fix (not on) (suc to)) (if not on then hour.start else hour.stop)
-    (λ rest. total_of (lasting terms unit fix on since since (to - since)) (total_of (move terms unit fix to on since (not on)) rest)) cost
-switch-behind terms unit fix true since to cost hour h switch is =
+    (λ rest. total_of (lasting terms unit fix on since since (to - since)) (total_of (move terms unit fix to on since (not on)) rest)) choice.cost
+switch-behind terms unit fix true since to choice hour h switch is =
     next-behind (IsStart terms unit fix (suc to) (suc to)) hour.stop (stays terms unit fix since since (to - since)) (move terms unit fix to true since false)
-    (to_go terms unit fix (suc to) false (suc to)) cost
+    (to_go terms unit fix (suc to) false (suc to)) choice.cost
     (ap (total_of (stays terms unit fix since since (to - since))) (sym (stop_cost-at terms unit fix since to h)) ∙ switch.attained)
     (λ v moves. ⊎_elim
     (λ (may : may_be_off unit fix to ≡ true). let least = is.stop.least may in (least.cost, least.start))
@@ -105,9 +107,9 @@ switch-behind terms unit fix true since to cost hour h switch is =
     (cond-false ((may_be_off unit fix to && holds_initially unit to true) && may_stop unit since to) _ _
     (ap (λ b. (b && holds_initially unit to true) && may_stop unit since to) barred)) moves))
     (cases_Bool (may_be_off unit fix to)))
-switch-behind terms unit fix false since to cost hour h switch is =
+switch-behind terms unit fix false since to choice hour h switch is =
     next-behind (IsStop terms unit fix (suc to) (suc to)) hour.start (rests unit fix since (to - since)) (move terms unit fix to false since true)
-    (to_go terms unit fix (suc to) true (suc to)) cost
+    (to_go terms unit fix (suc to) true (suc to)) choice.cost
     (ap (total_of (rests unit fix since (to - since))) (sym (start_total-at terms unit fix since to h)) ∙ switch.attained)
     (λ v moves. ⊎_elim
     (λ (may : may_be_on fix to ≡ true). let least = is.start.least may in (least.cost, least.stop))
@@ -117,22 +119,22 @@ switch-behind terms unit fix false since to cost hour h switch is =
     (cases_Bool (may_be_on fix to)))
 
 -- ---- one switch more
-pub trace-more : (terms : Terms) (unit : Thermal) (fix : Fix) (total : ℤ) (old new : Pattern) (on : Bool) (from to next end : ℕ) (hour : Hour)
+pub trace-more : (terms : Terms) (unit : Thermal) (fix : Fix) (total : ℤ) (old new : Pattern) (on : Bool) (from to next : ℕ) (hour : Hour)
     → to < period_count terms → IsHour terms unit fix to hour → IsTraced terms unit fix total old on from to → HasRun old new on from to
-    → next ≡ next_after (if not on then hour.start else hour.stop) end
+    → next ≡ next_after (if not on then hour.start else hour.stop) (period_count terms)
     → IsTraced terms unit fix total new (not on) to next
-trace-more terms unit fix total old new on from to next end hour h is traced run e =
-    let switch = has-switch terms unit fix on traced.since (record { cost = traced.cost; at = to }) traced.switch in
+trace-more terms unit fix total old new on from to next hour h is traced run e =
+    let switch = has-switch terms unit fix on traced.since to traced.choice traced.ends traced.switch in
     let low = switch.later in
     let first = traced.after in
-    let behind = switch-behind terms unit fix on traced.since to traced.cost hour h traced.switch is in
-    let at : next ≡ behind.chosen.at = e ∙ ap (λ o. next_after o end) behind.is in
+    let behind = switch-behind terms unit fix on traced.since to traced.choice hour h switch is in
     record {
       since = suc to;
-      cost = behind.chosen.cost;
+      choice = behind.chosen;
+      ends = ap (λ o. next_after o (period_count terms)) (sym behind.is) ∙ sym e;
       after = omega arith;
       soon = omega arith;
-      switch = subst (λ k. IsSwitch terms unit fix (not on) (suc to) (record { cost = behind.chosen.cost; at = k })) (sym at) behind.holds;
+      switch = behind.holds;
       off = λ k high. run.after k high ∙ traced.off k (omega arith);
       leads = λ other same here rest.
           traced.leads other (λ k short. same k (omega arith) ∙ run.before k short)
@@ -143,26 +145,25 @@ trace-more terms unit fix total old new on from to next end hour h is traced run
     }
 
 -- and it is a later one
-pub more-later : (terms : Terms) (unit : Thermal) (fix : Fix) (total : ℤ) (pattern : Pattern) (on : Bool) (from to next end : ℕ) (hour : Hour)
+pub more-later : (terms : Terms) (unit : Thermal) (fix : Fix) (total : ℤ) (pattern : Pattern) (on : Bool) (from to next : ℕ) (hour : Hour)
     → to < period_count terms → IsHour terms unit fix to hour → IsTraced terms unit fix total pattern on from to
-    → next ≡ next_after (if not on then hour.start else hour.stop) end
+    → next ≡ next_after (if not on then hour.start else hour.stop) (period_count terms)
     → to < next
-more-later terms unit fix total pattern on from to next end hour h is traced e =
-    let behind = switch-behind terms unit fix on traced.since to traced.cost hour h traced.switch is in
-    let at : next ≡ behind.chosen.at = e ∙ ap (λ o. next_after o end) behind.is in
-    let later : suc to ≤ behind.chosen.at = (has-switch terms unit fix (not on) (suc to) behind.chosen behind.holds).later in
-    omega arith
+more-later terms unit fix total pattern on from to next hour h is traced e =
+    let switch = has-switch terms unit fix on traced.since to traced.choice traced.ends traced.switch in
+    let behind = switch-behind terms unit fix on traced.since to traced.choice hour h switch is in
+    (has-switch terms unit fix (not on) (suc to) next behind.chosen (ap (λ o. next_after o (period_count terms)) (sym behind.is) ∙ sym e) behind.holds).later
 
 pub switch-within : (terms : Terms) (unit : Thermal) (fix : Fix) (total : ℤ) (pattern : Pattern) (on : Bool) (from to : ℕ)
     → IsTraced terms unit fix total pattern on from to → to ≤ period_count terms
 switch-within terms unit fix total pattern on from to traced =
-    (has-switch terms unit fix on traced.since (record { cost = traced.cost; at = to }) traced.switch).within
+    (has-switch terms unit fix on traced.since to traced.choice traced.ends traced.switch).within
 
 -- ---- the end
 pub trace-end : (terms : Terms) (unit : Thermal) (fix : Fix) (total : ℤ) (old new : Pattern) (on : Bool) (from to end : ℕ)
     → to ≡ period_count terms → end ≡ to → IsTraced terms unit fix total old on from to → HasRun old new on from end → IsWay terms unit fix total new
 trace-end terms unit fix total old new on from to end h e traced run =
-    let switch = has-switch terms unit fix on traced.since (record { cost = traced.cost; at = to }) traced.switch in
+    let switch = has-switch terms unit fix on traced.since to traced.choice traced.ends traced.switch in
     let low = switch.later in
     let first = traced.after in
     record {
@@ -175,12 +176,13 @@ trace-end terms unit fix total old new on from to end h e traced run =
     }
 
 -- ---- the beginning
-pub trace-start : (terms : Terms) (unit : Thermal) (fix : Fix) (pattern : Pattern) (first : Choice)
+pub trace-start : (terms : Terms) (unit : Thermal) (fix : Fix) (pattern : Pattern) (first : Choice) (to : ℕ) → ends_at first (period_count terms) ≡ to
     → IsSwitch terms unit fix unit.on0 0 first → ((k : ℕ) → commitment_of pattern k ≡ false)
-    → IsTraced terms unit fix first.cost pattern unit.on0 0 first.at
-trace-start terms unit fix pattern first switch off = record {
+    → IsTraced terms unit fix first.cost pattern unit.on0 0 to
+trace-start terms unit fix pattern first to e switch off = record {
   since = 0;
-  cost = first.cost;
+  choice = first;
+  ends = e;
   after = omega arith;
   soon = omega arith;
   switch = switch;

@@ -105,8 +105,8 @@ fn end(intervals: &Intervals, terms: &Terms, unit: &Thermal, fix: &Fix) -> Hour
     Hour {
         on_until: periods,
         off_until: periods,
-        onward: better(None, Some(last), periods),
-        cold_start: better(None, Some(0), periods),
+        onward: better(None, Some(last), None),
+        cold_start: better(None, Some(0), None),
         ..UNKNOWN
     }
 }

@@ -40,7 +40,7 @@ pub(crate) fn next_start(
         better(
             best,
             from_start(&hours[until], terms, unit, since, until),
-            until,
+            Some(until),
         )
     } else {
         let best = best_warm(hours, terms, unit, fix, since, from, cold);
@@ -74,7 +74,7 @@ fn best_warm(
     // Invariant, before period t: both clauses with t in place of `to`.
     let mut best = None;
     for t in from..to {
-        best = better(best, from_start(&hours[t], terms, unit, since, t), t);
+        best = better(best, from_start(&hours[t], terms, unit, since, t), Some(t));
     }
     best
 }
@@ -106,9 +106,9 @@ pub(crate) fn cold_start(
     requires cost { IsCost cost }
     requires start { IsWithin MAX_COST_TO_GO (choice_cost start.now) }
     ensures cost { choice_cost result ≡ lesser_of (choice_cost later) (total_of (Some (terms.now.k *ℤ cost)) (choice_cost start.now)) }
-    ensures choice { IsOneOf later (total_of (Some (terms.now.k *ℤ cost)) (choice_cost start.now)) t result }
+    ensures choice { IsOneOf later (total_of (Some (terms.now.k *ℤ cost)) (choice_cost start.now)) (Some t) result }
 {
-    better(later, priced_start(start, terms, cost), t)
+    better(later, priced_start(start, terms, cost), Some(t))
 }
 
 // A start of this cost, in micro-dollars, with the way that begins with it.

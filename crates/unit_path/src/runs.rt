@@ -32,10 +32,10 @@ pub(crate) fn next_stop(
     let end = hours.len() - 1;
     if since == end {
         let last = hour_before(terms, unit, end, true, false);
-        return better(None, last, end);
+        return better(None, last, None);
     }
     let at_once = at_once(&hours[since], terms, unit, fix, since);
-    let known = better(None, at_once, since);
+    let known = better(None, at_once, Some(since));
     match hour_to(terms, unit, fix, since, true, false) {
         None => known,
         Some(spent) => later_stop(hours, terms, unit, fix, known, spent, since),
@@ -126,7 +126,7 @@ pub(crate) fn onward(
     requires stay { unsigned_abs stay ≤ MAX_MOVE }
     requires later { IsWithin MAX_COST_TO_GO (choice_cost later) }
     ensures cost { choice_cost result ≡ lesser_of (total_of (Some stay) (choice_cost later)) exit }
-    ensures choice { IsOneOf (longer_of stay later) exit t result }
+    ensures choice { IsOneOf (longer_of stay later) exit (Some t) result }
 {
-    better(longer_by(stay, later), exit, t)
+    better(longer_by(stay, later), exit, Some(t))
 }

@@ -9,7 +9,7 @@ ghost use Rattle.unit_path.specs.inside.Ways.{IsWay};
 
 use crate::hour::Hour;
 use dual_model::Fix;
-use dual_model::choices::{Choice, switch_or_end};
+use dual_model::choices::{Choice, ends_at, switch_or_end};
 use uc_model::limits::MAX_PERIODS;
 use uc_model::{Pattern, Terms, Thermal};
 
@@ -31,7 +31,7 @@ pub(crate) fn pattern_of(
     let mut pattern = Pattern::all_off();
     let mut on = unit.on0;
     let mut from = 0;
-    let mut to = first.at;
+    let mut to = ends_at(first, end);
     // Invariant: the unit is `on`, or off, in the periods from `from` to `to` - 1 of the way, whose part before `from`
     // the pattern has; it is off in the pattern from `from` on; and each commitment that has that part and from there
     // a way of the cost that the choice of `to` tells has from the beginning one of the cost of `first`.

@@ -7,7 +7,7 @@ use Rattle.dual_model.specs.CostToGo.{lesser_of, total_of}
 use Rattle.unit_runs.specs.RunsToGo.{Fix, last_cost, may_stay, runs_to_go, switch_cost}
 use Rattle.unit_exact.specs.inside.Choices.{Choice, choice_cost}
 use Rattle.unit_exact.specs.inside.Problems.{Table, Thermal, MAX_SWITCH}
-pub use Rattle.dual_model.specs.Prelude.{next_after}
+pub use Rattle.dual_model.specs.Prelude.{ends_at, next_after}
 pub use Rattle.unit_exact.specs.declared.choices.Switches.{Switches}
 
 -- what a switch in period t costs with all that follows; at the end of the horizon what is left to pay
@@ -18,10 +18,10 @@ switch_total periods table unit fix t was since =
 
 -- a chosen end of a state, before period t: the state may last until then, and the switch there has the choice's cost
 pub record IsPlan (periods : ℕ) (table : Table) (unit : Thermal) (fix : Fix) (t : ℕ) (was : Bool) (since : ℕ) (choice : Choice) : Type 0 where
-  pub later : t ≤ choice.at
-  pub within : choice.at ≤ periods
-  pub stays : (k : ℕ) → t ≤ k → k < choice.at → IsTrue (may_stay unit fix k was)
-  pub attained : switch_total periods table unit fix choice.at was since ≡ Some choice.cost
+  pub later : t ≤ ends_at choice periods
+  pub within : ends_at choice periods ≤ periods
+  pub stays : (k : ℕ) → t ≤ k → k < ends_at choice periods → IsTrue (may_stay unit fix k was)
+  pub attained : switch_total periods table unit fix (ends_at choice periods) was since ≡ Some choice.cost
 
 -- a cost with n periods left
 abbrev pub IsWithinSwitches : ℕ → ℤ → Type 0

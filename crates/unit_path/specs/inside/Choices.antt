@@ -8,7 +8,7 @@ pub use Rattle.dual_model.specs.declared.node.Fix.{Fix}
 use Rattle.dual_model.specs.Prelude.{may_be_off, move, cost_to_go, end_cost, IsWithin, MAX_COST_TO_GO}
 use Rattle.dual_model.specs.CostToGo.{total_of}
 pub use Rattle.dual_model.specs.declared.choices.Choice.{Choice}
-pub use Rattle.dual_model.specs.Prelude.{choice_cost, next_after, IsOneOf}
+pub use Rattle.dual_model.specs.Prelude.{choice_cost, ends_at, next_after, IsOneOf}
 
 -- the choice with a cost before it
 abbrev pub longer_of : ℤ → Option Choice → Option Choice
@@ -29,10 +29,10 @@ stop_cost terms unit fix since t =
 
 -- a chosen stop of a unit that is on since `since`, before period t, attains the choice's cost
 pub record IsStop (terms : Terms) (unit : Thermal) (fix : Fix) (since t : ℕ) (choice : Choice) : Type 0 where
-  pub later : t ≤ choice.at
-  pub within : choice.at ≤ period_count terms
+  pub later : t ≤ ends_at choice (period_count terms)
+  pub within : ends_at choice (period_count terms) ≤ period_count terms
   pub attained :
-      total_of (stays terms unit fix since t (choice.at - t)) (stop_cost terms unit fix since choice.at) ≡ Some choice.cost
+      total_of (stays terms unit fix since t (ends_at choice (period_count terms) - t)) (stop_cost terms unit fix since (ends_at choice (period_count terms))) ≡ Some choice.cost
 
 -- and none costs less
 pub record IsLeastStop (terms : Terms) (unit : Thermal) (fix : Fix) (since t : ℕ) (choice : Option Choice) : Type 0 where
@@ -43,7 +43,7 @@ pub record IsLeastStop (terms : Terms) (unit : Thermal) (fix : Fix) (since t : �
 -- the stop in period t itself, or that there is none
 pub record IsStopAtOnce (terms : Terms) (unit : Thermal) (fix : Fix) (since t : ℕ) (choice : Option Choice) : Type 0 where
   pub cost : choice_cost choice ≡ stop_cost terms unit fix since t
-  pub at : IfSome choice (λ choice. choice.at ≡ t)
+  pub at : IfSome choice (λ choice. choice.at ≡ Some t)
 
 -- ---- rests
 -- the unit may be off in the n periods from t on
@@ -59,10 +59,10 @@ start_total terms unit fix since t =
 
 -- a chosen start of a unit that is off since `since`, before period t, attains the choice's cost
 pub record IsStart (terms : Terms) (unit : Thermal) (fix : Fix) (since t : ℕ) (choice : Choice) : Type 0 where
-  pub later : t ≤ choice.at
-  pub within : choice.at ≤ period_count terms
+  pub later : t ≤ ends_at choice (period_count terms)
+  pub within : ends_at choice (period_count terms) ≤ period_count terms
   pub attained :
-      total_of (rests unit fix t (choice.at - t)) (start_total terms unit fix since choice.at) ≡ Some choice.cost
+      total_of (rests unit fix t (ends_at choice (period_count terms) - t)) (start_total terms unit fix since (ends_at choice (period_count terms))) ≡ Some choice.cost
 
 -- and none costs less
 pub record IsLeastStart (terms : Terms) (unit : Thermal) (fix : Fix) (since t : ℕ) (choice : Option Choice) : Type 0 where

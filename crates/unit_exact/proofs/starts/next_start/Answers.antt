@@ -1,6 +1,5 @@
 -- One start more, or the last one.
-use Rattle.std.proofs.Common.{◌≡◌, add-one, inl, false, sym, subst, ◌∙◌, arith, pos, Some}
-use Rattle.unit_exact.specs.inside.Choices.{IsOneOf}
+use Rattle.std.proofs.Common.{◌≡◌, add-one, inl, false, refl, sym, subst, ◌∙◌, arith, pos, Some, None}
 use Rattle.unit_exact.specs.inside.Switches.{IsBestTo}
 use Rattle.unit_exact.proofs.BestTo.{nothing_known, best-more, best-last, best-end, rest-total}
 use Rattle.unit_exact.proofs.starts.next_start.Goals as goal
@@ -14,21 +13,21 @@ pub loop-t-preserved : goal.loop-t-preserved
 loop-t-preserved c =
     let p = c.args.problem.now in
     subst (λ k. IsBestTo p.periods p.table.now p.unit.now p.fix.now c.args.since false c.args.since k c.better-best.result) (sym (add-one c.loop-t.t))
-    (best-more p.periods p.table.now p.unit.now p.fix.now c.args.since false c.args.since c.loop-t.t c.loop-t.best c.better-best.result
-    c.start_total.result (omega arith) c.loop-t.invariant (inl c.start_total.ensures.total) c.start_total.ensures.size c.better-best.ensures.cost
+    (best-more p.periods p.table.now p.unit.now p.fix.now c.args.since false c.args.since c.loop-t.t (Some c.loop-t.t) c.loop-t.best c.better-best.result
+    c.start_total.result refl (omega arith) c.loop-t.invariant (inl c.start_total.ensures.total) c.start_total.ensures.size c.better-best.ensures.cost
     c.better-best.ensures.choice (omega arith) (sym c.may_stay_off.ensures ∙ c.if-not-may_stay_off.false))
 
 pub returns-then-not-may_stay_off : goal.returns-then-not-may_stay_off
 returns-then-not-may_stay_off c =
     let p = c.args.problem.now in
-    best-last p.periods p.table.now p.unit.now p.fix.now c.args.since false c.args.since c.loop-t.t c.loop-t.best c.better-best.result
-    c.start_total.result (omega arith) c.loop-t.invariant (inl c.start_total.ensures.total) c.start_total.ensures.size c.better-best.ensures.cost
+    best-last p.periods p.table.now p.unit.now p.fix.now c.args.since false c.args.since c.loop-t.t (Some c.loop-t.t) c.loop-t.best c.better-best.result
+    c.start_total.result refl (omega arith) c.loop-t.invariant (inl c.start_total.ensures.total) c.start_total.ensures.size c.better-best.ensures.cost
     c.better-best.ensures.choice (omega arith) (sym c.may_stay_off.ensures ∙ c.if-not-may_stay_off.true)
 
 pub returns : goal.returns
 returns c =
     let p = c.args.problem.now in
     let end : c.loop-t.t ≡ p.periods = omega (arith, c.loop-t-test.false, c.requires.past) in
-    best-end p.periods p.table.now p.unit.now p.fix.now c.args.since false c.args.since c.loop-t.t c.loop-t.best c.better.result (Some (pos 0))
-    (omega (arith, end)) c.loop-t.invariant (inl (rest-total p.periods p.table.now p.unit.now p.fix.now c.args.since c.loop-t.t end)) (omega arith) c.better.ensures.cost
-    (subst (λ k. IsOneOf c.loop-t.best (Some (pos 0)) k c.better.result) (sym end) c.better.ensures.choice) end
+    best-end p.periods p.table.now p.unit.now p.fix.now c.args.since false c.args.since c.loop-t.t None c.loop-t.best c.better.result (Some (pos 0))
+    end (omega (arith, end)) c.loop-t.invariant (inl (rest-total p.periods p.table.now p.unit.now p.fix.now c.args.since c.loop-t.t end)) (omega arith) c.better.ensures.cost
+    c.better.ensures.choice end

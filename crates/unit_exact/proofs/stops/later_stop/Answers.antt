@@ -1,5 +1,5 @@
 -- One stop more, or the end of the horizon.
-use Rattle.std.proofs.Common.{◌≡◌, add-one, suc, ◌+◌, ◌-◌, true, refl, sym, ap, subst, ◌∙◌, arith}
+use Rattle.std.proofs.Common.{◌≡◌, add-one, suc, ◌+◌, ◌-◌, true, refl, sym, ap, subst, ◌∙◌, arith, Some, None}
 use Rattle.unit_runs.specs.CostThrough.{run_cost}
 use Rattle.unit_runs.specs.RunsToGo.{may_stay, run_from, run_until}
 use Rattle.unit_exact.specs.inside.Choices.{choice_cost, IsCostBelow, IsOneOf}
@@ -52,9 +52,9 @@ loop-t-preserved c =
           (subst (λ k. IsRunning p.periods p.table.now p.unit.now p.hull.now k (suc (t - k)) c.go_on.new.self) begun c.go_on.ensures);
       best =
           subst (λ k. IsBestTo p.periods p.table.now p.unit.now p.fix.now c.args.since true c.args.since (suc k) c.better-best.result) (sym (add-one t))
-          (best-more p.periods p.table.now p.unit.now p.fix.now c.args.since true c.args.since (suc t) c.loop-t.best c.better-best.result
-          c.stop_total-total.result (omega arith) c.loop-t.invariant.best c.stop_total-total.ensures.total c.stop_total-total.ensures.size
-          c.better-best.ensures.cost (subst (λ k. IsOneOf c.loop-t.best c.stop_total-total.result k c.better-best.result) (add-one t) c.better-best.ensures.choice)
+          (best-more p.periods p.table.now p.unit.now p.fix.now c.args.since true c.args.since (suc t) (Some (suc t)) c.loop-t.best c.better-best.result
+          c.stop_total-total.result refl (omega arith) c.loop-t.invariant.best c.stop_total-total.ensures.total c.stop_total-total.ensures.size
+          c.better-best.ensures.cost (subst (λ k. IsOneOf c.loop-t.best c.stop_total-total.result (Some k) c.better-best.result) (add-one t) c.better-best.ensures.choice)
           (omega arith) may);
     }
 
@@ -63,9 +63,9 @@ returns-then-not-may_stay_on-clause-least c =
     let p = c.args.problem.now in
     let t = c.loop-t.t in
     let may = ap (λ k. may_stay p.unit.now p.fix.now k true) (sym (add-one t)) ∙ sym c.may_stay_on.ensures ∙ c.if-not-may_stay_on.true in
-    best-last p.periods p.table.now p.unit.now p.fix.now c.args.since true c.args.since (suc t) c.loop-t.best c.better-best.result
-    c.stop_total-total.result (omega arith) c.loop-t.invariant.best c.stop_total-total.ensures.total c.stop_total-total.ensures.size
-    c.better-best.ensures.cost (subst (λ k. IsOneOf c.loop-t.best c.stop_total-total.result k c.better-best.result) (add-one t) c.better-best.ensures.choice)
+    best-last p.periods p.table.now p.unit.now p.fix.now c.args.since true c.args.since (suc t) (Some (suc t)) c.loop-t.best c.better-best.result
+    c.stop_total-total.result refl (omega arith) c.loop-t.invariant.best c.stop_total-total.ensures.total c.stop_total-total.ensures.size
+    c.better-best.ensures.cost (subst (λ k. IsOneOf c.loop-t.best c.stop_total-total.result (Some k) c.better-best.result) (add-one t) c.better-best.ensures.choice)
     (omega arith) may
 
 pub returns-clause-least : goal.returns-clause-least
@@ -84,7 +84,7 @@ returns-clause-least c =
     ∙ ap (run_until p.periods p.table.now p.unit.now since) last in
     let whole = run-last p.periods p.table.now p.unit.now p.fix.now since cost until in
     let found = c.cost_below-total.result in
-    best-end p.periods p.table.now p.unit.now p.fix.now since true since p.periods c.loop-t.best c.better.result found (omega arith)
+    best-end p.periods p.table.now p.unit.now p.fix.now since true since p.periods None c.loop-t.best c.better.result found refl (omega arith)
     (subst (λ k. IsBestTo p.periods p.table.now p.unit.now p.fix.now since true since k c.loop-t.best) end c.loop-t.invariant.best)
     (subst (λ o. IsCostBelow (choice_cost c.loop-t.best) o found) whole
     (subst (λ l. IsCostBelow l cost found) c.cost_of.ensures c.cost_below-total.ensures.cost))

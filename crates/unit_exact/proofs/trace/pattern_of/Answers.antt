@@ -9,7 +9,7 @@ pub loop-t-init : goal.loop-t-init
 loop-t-init c =
     let p = c.args.problem.now in
     record {
-      way = begun p.periods p.table.now p.unit.now p.fix.now _ c.args.first.now c.requires.first;
+      way = begun p.periods p.table.now p.unit.now p.fix.now _ c.args.first.now _ c.ends_at.ensures c.requires.first;
       after = λ k low. c.all_off-pattern.ensures k;
     }
 

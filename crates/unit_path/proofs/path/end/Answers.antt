@@ -20,12 +20,12 @@ returns c =
       off_until = periods;
       start = refl;
       stop = refl;
-      onward = λ since h. least-end terms unit fix c.requires.lawful c.requires.sized since (period_count terms) c.periods-periods.result c.better.result _ refl periods
+      onward = λ since h. least-end terms unit fix c.requires.lawful c.requires.sized since (period_count terms) c.better.result _ refl
           (ap Some kept ∙ c.full_hour_before-last.ensures.value
           ∙ (λ i. hour_before terms unit (periods i) (sym (ne_eqb since (period_count terms) (λ e. omega arith)) i) false))
           c.better.ensures.cost c.better.ensures.choice;
       onward_size = subst (λ o. IsWithin MAX_MOVE o) (sym c.better.ensures.cost) (wide-size c.full_hour_before-last.result MAX_MOVE c.full_hour_before-last.ensures.size);
-      cold_start = λ since h. least-start_end terms unit fix c.requires.lawful c.requires.sized since (period_count terms) c.periods-periods.result c.better-2.result refl periods
+      cold_start = λ since h. least-start_end terms unit fix c.requires.lawful c.requires.sized since (period_count terms) c.better-2.result refl
           c.better-2.ensures.cost c.better-2.ensures.choice;
       cold_start_size = subst (λ o. IsWithin MAX_MOVE o) (sym c.better-2.ensures.cost) (omega arith);
     }

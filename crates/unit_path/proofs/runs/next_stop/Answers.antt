@@ -12,8 +12,8 @@ use Rattle.unit_path.proofs.runs.next_stop.Goals as goal
 pub returns-then-since-end : goal.returns-then-since-end
 returns-then-since-end c =
     let end : c.args.since ≡ length c.args.hours.now - 1 = c.if-since-end.true in
-    least-end c.args.terms.now c.args.unit.now c.args.fix.now c.requires.lawful c.requires.sized c.args.since c.args.since _
-    c.better.result c.hour_before-last.result (omega (arith, c.requires.later.count)) (sym end)
+    least-end c.args.terms.now c.args.unit.now c.args.fix.now c.requires.lawful c.requires.sized c.args.since c.args.since
+    c.better.result c.hour_before-last.result (omega (arith, c.requires.later.count))
     (c.hour_before-last.ensures.value
     ∙ (λ i. hour_before c.args.terms.now c.args.unit.now (sym end i) (sym (eq-eqb c.args.since c.args.since refl) i) false))
     c.better.ensures.cost c.better.ensures.choice
