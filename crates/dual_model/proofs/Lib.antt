@@ -19,6 +19,7 @@ pub mod TermLists
 pub mod CellCaps
 pub mod CostSizes
 pub mod BestChoices
+pub mod Following
 pub mod Costs
 pub mod Optimum
 pub mod Switches

@@ -20,6 +20,7 @@ pub mod PatternValue
 pub mod TableValue
 pub mod Bellman
 pub mod Choices
+pub mod Traces
 pub mod Moves
 pub mod CostToGo
 pub mod Prelude

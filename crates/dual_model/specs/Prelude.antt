@@ -19,5 +19,6 @@ pub use Rattle.dual_model.specs.PatternValue.{IsLeastValue, IsPattern, is_follow
 pub use Rattle.dual_model.specs.TableValue.{ArePricesOf, AreRowsOf, AreTermsFor, AreTermsOf, AreTermsOfRows, IsCellTerm, IsLawfulRow, IsLawfulScale, IsTermOfRow, IsUnitValueOf, row_at}
 pub use Rattle.dual_model.specs.Bellman.{EndCosts, MoveCosts, least_cost, way_cost}
 pub use Rattle.dual_model.specs.Choices.{IsOneOf, choice_cost, ends_at, next_after}
-pub use Rattle.dual_model.specs.Moves.{allowed, holds_initially, hour_before, hour_cost, may_be_off, may_be_on, may_move, move, stop_since}
+pub use Rattle.dual_model.specs.Traces.{AreLeast, Choices, IsAttained, IsLeastBehind, IsTraced, lasting, stretch, switch_total}
+pub use Rattle.dual_model.specs.Moves.{allowed, holds_initially, hour_and_start, hour_before, hour_cost, may_be_off, may_be_on, may_move, move, stop_since}
 pub use Rattle.dual_model.specs.CostToGo.{IsWithin, MAX_COST_TO_GO, MAX_MOVE, cost_to_go, end_cost, way}

@@ -38,14 +38,14 @@ pub fn cost_of(choice: &Option<Choice>) -> Option<i128>
 }
 
 /// The period in which the unit is switched next, or `end` where it is not.
-pub fn ends_at(choice: &Choice, end: usize) -> usize
+pub(crate) fn ends_at(choice: &Choice, end: usize) -> usize
     ensures { result ≡ ends_at choice.now end }
 {
     choice.at.unwrap_or(end)
 }
 
 /// The same, or `end` where there is no choice.
-pub fn switch_or_end(choice: &Option<Choice>, end: usize) -> usize
+pub(crate) fn switch_or_end(choice: &Option<Choice>, end: usize) -> usize
     ensures { result ≡ next_after choice.now end }
 {
     match choice {

@@ -14,6 +14,7 @@ pub mod moves;
 pub mod node;
 mod places;
 pub mod table;
+pub mod traces;
 pub mod valued;
 
 pub use node::{Fix, Fixing, Node};

@@ -15,7 +15,7 @@ use Rattle.unit_path.proofs.Switched.{start-total_of}
 -- ---- chosen starts
 -- a start behind a rest that costs nothing
 pub start-at : (terms : Terms) (unit : Thermal) (fix : Fix) (since t : ℕ) (at : Option ℕ) (cost : ℤ) → t ≤ unwrap_or at (period_count terms)
-    → unwrap_or at (period_count terms) ≤ period_count terms → rests unit fix t (unwrap_or at (period_count terms) - t) ≡ Some (pos 0)
+    → unwrap_or at (period_count terms) ≤ period_count terms → rests terms unit fix since t (unwrap_or at (period_count terms) - t) ≡ Some (pos 0)
     → start_total terms unit fix since (unwrap_or at (period_count terms)) ≡ Some cost
     → IsStart terms unit fix since t (record { cost = cost; at = at })
 start-at terms unit fix since t at cost low high free is = record {
@@ -27,7 +27,7 @@ start-at terms unit fix since t at cost low high free is = record {
 }
 
 pub start-further : (terms : Terms) (unit : Thermal) (fix : Fix) (since t from : ℕ) (choice : Option Choice) → t ≤ from
-    → rests unit fix t (from - t) ≡ Some (pos 0) → IfSome choice (IsStart terms unit fix since from) → IfSome choice (IsStart terms unit fix since t)
+    → rests terms unit fix since t (from - t) ≡ Some (pos 0) → IfSome choice (IsStart terms unit fix since from) → IfSome choice (IsStart terms unit fix since t)
 start-further terms unit fix since t from None h free start = tt
 start-further terms unit fix since t from (Some choice) h free start =
     let later = start.later in
@@ -39,16 +39,16 @@ start-further terms unit fix since t from (Some choice) h free start =
       within = start.within;
       attained =
           ap (λ x. total_of x (start_total terms unit fix since to))
-          (ap (rests unit fix t) count ∙ rests-split unit fix t (from - t) (to - from)
-          ∙ (λ i. total_of (free i) (rests unit fix (at i) (to - from)))
-          ∙ total-zero (rests unit fix from (to - from)))
+          (ap (rests terms unit fix since t) count ∙ rests-split terms unit fix since t (from - t) (to - from)
+          ∙ (λ i. total_of (free i) (rests terms unit fix since (at i) (to - from)))
+          ∙ total-zero (rests terms unit fix since from (to - from)))
           ∙ start.attained;
     }
 
 -- a choice that is one of two, or a new one
 pub start-of_one : (terms : Terms) (unit : Thermal) (fix : Fix) (since t : ℕ) (at : Option ℕ) (known result : Option Choice) (cost : Option ℤ)
     → t ≤ unwrap_or at (period_count terms) → unwrap_or at (period_count terms) ≤ period_count terms
-    → rests unit fix t (unwrap_or at (period_count terms) - t) ≡ Some (pos 0) → cost ≡ start_total terms unit fix since (unwrap_or at (period_count terms))
+    → rests terms unit fix since t (unwrap_or at (period_count terms) - t) ≡ Some (pos 0) → cost ≡ start_total terms unit fix since (unwrap_or at (period_count terms))
     → IfSome known (IsStart terms unit fix since t) → IsOneOf known cost at result → IfSome result (IsStart terms unit fix since t)
 start-of_one terms unit fix since t at known result cost low high free is start one =
     some-of (IsStart terms unit fix since t) known result cost at start (λ v new. start-at terms unit fix since t at v low high free (sym is ∙ new)) one
@@ -94,7 +94,7 @@ best-more terms unit fix since from t start best result cost low high may off en
     record {
       cost = warmer terms unit fix since t best result cost _ high (off t low (omega arith)) started so_far.cost chosen;
       start = start-of_one terms unit fix since from (Some t) best result cost low (omega arith)
-          (rests-free unit fix from (t - from) (λ k a b. off k a (omega arith))) started so_far.start one;
+          (rests-free terms unit fix since from (t - from) (λ k a b. off k a (omega arith))) started so_far.start one;
     }
 
 -- ---- a unit that has just been switched off
@@ -104,7 +104,7 @@ pub rest-free : (terms : Terms) (unit : Thermal) (fix : Fix) (since from : ℕ) 
     → to_go terms unit fix since false since ≡ to_go terms unit fix from false since
 rest-free terms unit fix since from low high barred off =
     rest-until terms unit fix since from low high barred
-    ∙ ap (λ x. total_of x (to_go terms unit fix from false since)) (rests-free unit fix since (from - since) (λ k a b. off k a (omega arith)))
+    ∙ ap (λ x. total_of x (to_go terms unit fix from false since)) (rests-free terms unit fix since since (from - since) (λ k a b. off k a (omega arith)))
     ∙ total-zero (to_go terms unit fix from false since)
 
 -- and if it may not rest for so long, there is no way
@@ -116,7 +116,7 @@ least-none terms unit fix lawful sized since from until low short high barred of
     least-start terms unit fix lawful sized since since None (omega arith)
     (sym (
     rest-until terms unit fix since from (omega arith) high barred
-    ∙ ap (λ x. total_of x (to_go terms unit fix from false since)) (rests-barred unit fix since until (from - since) low (omega arith) off)
+    ∙ ap (λ x. total_of x (to_go terms unit fix from false since)) (rests-barred terms unit fix since since until (from - since) low (omega arith) off)
     )) tt
 
 -- the best start before the last period in which it may rest, or the one there
@@ -135,8 +135,8 @@ least-to terms unit fix lawful sized since from until start best result cost low
     ∙ so_far.cost
     ∙ sym (rest-free terms unit fix since from low (omega arith) barred (λ k a b. off k a (omega arith))))
     (start-of_one terms unit fix since since (Some until) best result cost (omega arith) (omega arith)
-    (rests-free unit fix since (until - since) (λ k a b. off k a (omega arith))) started
-    (start-further terms unit fix since since from best low (rests-free unit fix since (from - since) (λ k a b. off k a (omega arith))) so_far.start)
+    (rests-free terms unit fix since since (until - since) (λ k a b. off k a (omega arith))) started
+    (start-further terms unit fix since since from best low (rests-free terms unit fix since since (from - since) (λ k a b. off k a (omega arith))) so_far.start)
     one)
 
 -- the best start before the cold ones, or the best of these
@@ -155,9 +155,9 @@ least-from_cold terms unit fix lawful sized since from cold start best result lo
     ∙ sym (rest-free terms unit fix since from low (omega arith) barred (λ k a b. off k a (omega arith))))
     (⊎_elim
     (λ (e : result ≡ best). subst (λ o. IfSome o (IsStart terms unit fix since since)) (sym e)
-    (start-further terms unit fix since since from best low (rests-free unit fix since (from - since) (λ k a b. off k a (omega arith))) so_far.start))
+    (start-further terms unit fix since since from best low (rests-free terms unit fix since since (from - since) (λ k a b. off k a (omega arith))) so_far.start))
     (λ (e : result ≡ start). subst (λ o. IfSome o (IsStart terms unit fix since since)) (sym e)
-    (start-further terms unit fix since since cold start (omega arith) (rests-free unit fix since (cold - since) (λ k a b. off k a (omega arith))) least.start))
+    (start-further terms unit fix since since cold start (omega arith) (rests-free terms unit fix since since (cold - since) (λ k a b. off k a (omega arith))) least.start))
     one)
 
 -- at the end of the horizon there is nothing to pay
@@ -169,7 +169,7 @@ least-start_end terms unit fix lawful sized since t choice end chosen one =
     least-start terms unit fix lawful sized since t choice (omega arith)
     (chosen ∙ sym (to_go-end terms unit fix t end false since))
     (start-of_one terms unit fix since t None None choice (Some (pos 0)) (omega arith) (omega arith)
-    (ap (rests unit fix t) (let none : period_count terms - t ≡ 0 = omega arith in none))
+    (ap (rests terms unit fix since t) (let none : period_count terms - t ≡ 0 = omega arith in none))
     (sym (start_total-end terms unit fix since (period_count terms) refl))
     tt one)
 
@@ -185,7 +185,7 @@ pub least-cold : (terms : Terms) (unit : Thermal) (fix : Fix) → IsLawfulTherma
     → IsColdStart terms unit fix t result
 least-cold terms unit fix lawful sized t start next later result cost within off on least entry is chosen one since h may cold =
     least-start terms unit fix lawful sized since t result (omega arith) whole
-    (start-of_one terms unit fix since t (Some t) later result cost (omega arith) (omega arith) (ap (rests unit fix t) none) started known one)
+    (start-of_one terms unit fix since t (Some t) later result cost (omega arith) (omega arith) (ap (rests terms unit fix since t) none) started known one)
   where
     none : t - t ≡ 0
     none = omega arith
@@ -214,7 +214,7 @@ least-cold terms unit fix lawful sized t start next later result cost within off
         ⊎_elim
         (λ (b : may_be_off unit fix t ≡ true).
         start-further terms unit fix since t (suc t) later (omega arith)
-        (rests-free unit fix t (suc t - t) (λ k low high. ap (may_be_off unit fix) (let e : k ≡ t = omega arith in e) ∙ b))
+        (rests-free terms unit fix since t (suc t - t) (λ k low high. ap (may_be_off unit fix) (let e : k ≡ t = omega arith in e) ∙ b))
         (subst (λ o. IfSome o (IsStart terms unit fix since (suc t))) (sym (off b)) behind.start))
         (λ (b : may_be_off unit fix t ≡ false). subst (λ o. IfSome o (IsStart terms unit fix since t)) (sym (on b)) tt)
         (cases_Bool (may_be_off unit fix t))

@@ -10,5 +10,4 @@ pub mod RunLaws
 pub mod SizedRows
 pub mod Switched
 pub mod Tables
-pub mod Traces
-pub mod WayLaws
+pub mod Traced

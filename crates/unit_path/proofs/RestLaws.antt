@@ -29,38 +29,38 @@ start-barred terms unit fix since t h e =
     (cond-false (may_be_on fix t && may_start unit since t) _ _ (ap (λ b. may_be_on fix t && b) e ∙ and-false (may_be_on fix t)))
 
 -- ---- rests
-pub rests-split : (unit : Thermal) (fix : Fix) (t m n : ℕ) → rests unit fix t (m + n) ≡ total_of (rests unit fix t m) (rests unit fix (t + m) n)
-rests-split unit fix t m zero = ap (rests unit fix t) (let e : m + 0 ≡ m = omega arith in e) ∙ sym (zero-total (rests unit fix t m))
-rests-split unit fix t m (suc n) =
+pub rests-split : (terms : Terms) (unit : Thermal) (fix : Fix) (since t m n : ℕ) → rests terms unit fix since t (m + n) ≡ total_of (rests terms unit fix since t m) (rests terms unit fix since (t + m) n)
+rests-split terms unit fix since t m zero = ap (rests terms unit fix since t) (let e : m + 0 ≡ m = omega arith in e) ∙ sym (zero-total (rests terms unit fix since t m))
+rests-split terms unit fix since t m (suc n) =
     let count : m + suc n ≡ suc (m + n) = omega arith in
     let at : t + (m + n) ≡ (t + m) + n = omega arith in
-    ap (rests unit fix t) count
-    ∙ (λ i. total_of (rests-split unit fix t m n i) (if may_be_off unit fix (at i) then Some (pos 0) else None))
-    ∙ total-assoc (rests unit fix t m) (rests unit fix (t + m) n) (if may_be_off unit fix ((t + m) + n) then Some (pos 0) else None)
+    ap (rests terms unit fix since t) count
+    ∙ (λ i. total_of (rests-split terms unit fix since t m n i) (if may_be_off unit fix (at i) then Some (pos 0) else None))
+    ∙ total-assoc (rests terms unit fix since t m) (rests terms unit fix since (t + m) n) (if may_be_off unit fix ((t + m) + n) then Some (pos 0) else None)
 
 -- where the unit may rest throughout, it costs nothing
-pub rests-free : (unit : Thermal) (fix : Fix) (t n : ℕ) → ((k : ℕ) → t ≤ k → k < t + n → may_be_off unit fix k ≡ true) → rests unit fix t n ≡ Some (pos 0)
-rests-free unit fix t zero may = refl
-rests-free unit fix t (suc n) may =
-    λ i. total_of (rests-free unit fix t n (λ k a b. may k a (omega arith)) i)
+pub rests-free : (terms : Terms) (unit : Thermal) (fix : Fix) (since t n : ℕ) → ((k : ℕ) → t ≤ k → k < t + n → may_be_off unit fix k ≡ true) → rests terms unit fix since t n ≡ Some (pos 0)
+rests-free terms unit fix since t zero may = refl
+rests-free terms unit fix since t (suc n) may =
+    λ i. total_of (rests-free terms unit fix since t n (λ k a b. may k a (omega arith)) i)
     (cond-true (may_be_off unit fix (t + n)) (Some (pos 0)) None (may (t + n) (omega arith) (omega arith)) i)
 
 -- and through a period in which it may not be off there is none
-pub rests-barred : (unit : Thermal) (fix : Fix) (t k n : ℕ) → t ≤ k → k < t + n → may_be_off unit fix k ≡ false → rests unit fix t n ≡ None
-rests-barred unit fix t k n low high e =
+pub rests-barred : (terms : Terms) (unit : Thermal) (fix : Fix) (since t k n : ℕ) → t ≤ k → k < t + n → may_be_off unit fix k ≡ false → rests terms unit fix since t n ≡ None
+rests-barred terms unit fix since t k n low high e =
     let count : n ≡ suc (k - t) + (n - suc (k - t)) = omega arith in
     let at : t + (k - t) ≡ k = omega arith in
     let here : (if may_be_off unit fix (t + (k - t)) then Some (pos 0) else None) ≡ None =
     cond-false (may_be_off unit fix (t + (k - t))) (Some (pos 0)) None (ap (may_be_off unit fix) at ∙ e) in
-    ap (rests unit fix t) count
-    ∙ rests-split unit fix t (suc (k - t)) (n - suc (k - t))
-    ∙ ap (λ x. total_of x (rests unit fix (t + suc (k - t)) (n - suc (k - t))))
-    (ap (total_of (rests unit fix t (k - t))) here ∙ total-none (rests unit fix t (k - t)))
+    ap (rests terms unit fix since t) count
+    ∙ rests-split terms unit fix since t (suc (k - t)) (n - suc (k - t))
+    ∙ ap (λ x. total_of x (rests terms unit fix since (t + suc (k - t)) (n - suc (k - t))))
+    (ap (total_of (rests terms unit fix since t (k - t))) here ∙ total-none (rests terms unit fix since t (k - t)))
 
 -- until it may start, the unit has to stay off
 pub forced-rests : (terms : Terms) (unit : Thermal) (fix : Fix) (since t n : ℕ) → t + n ≤ period_count terms
     → ((k : ℕ) → t ≤ k → k < t + n → may_start unit since k ≡ false)
-    → to_go terms unit fix t false since ≡ total_of (rests unit fix t n) (to_go terms unit fix (t + n) false since)
+    → to_go terms unit fix t false since ≡ total_of (rests terms unit fix since t n) (to_go terms unit fix (t + n) false since)
 forced-rests terms unit fix since t zero h barred =
     ap (λ k. to_go terms unit fix k false since) (let e : t ≡ t + 0 = omega arith in e) ∙ sym (total-zero (to_go terms unit fix (t + 0) false since))
 forced-rests terms unit fix since t (suc n) h barred =
@@ -69,19 +69,19 @@ forced-rests terms unit fix since t (suc n) h barred =
     let none = start-barred terms unit fix since here (omega arith) (barred here (omega arith) (omega arith)) in
     let rest = move terms unit fix here false since false in
     forced-rests terms unit fix since t n (omega arith) (λ k a b. barred k a (omega arith))
-    ∙ ap (total_of (rests unit fix t n))
+    ∙ ap (total_of (rests terms unit fix since t n))
     (off-step terms unit fix since here (omega arith) ∙ ap (λ x. lesser_of x (total_of rest (to_go terms unit fix (suc here) false since))) none)
-    ∙ sym (total-assoc (rests unit fix t n) rest (to_go terms unit fix (suc here) false since))
-    ∙ ap (λ k. total_of (rests unit fix t (suc n)) (to_go terms unit fix k false since)) next
+    ∙ sym (total-assoc (rests terms unit fix since t n) rest (to_go terms unit fix (suc here) false since))
+    ∙ ap (λ k. total_of (rests terms unit fix since t (suc n)) (to_go terms unit fix k false since)) next
 
 -- from period `since` to `from`
 pub rest-until : (terms : Terms) (unit : Thermal) (fix : Fix) (since from : ℕ) → since ≤ from → from ≤ period_count terms
     → ((k : ℕ) → since ≤ k → k < from → may_start unit since k ≡ false)
-    → to_go terms unit fix since false since ≡ total_of (rests unit fix since (from - since)) (to_go terms unit fix from false since)
+    → to_go terms unit fix since false since ≡ total_of (rests terms unit fix since since (from - since)) (to_go terms unit fix from false since)
 rest-until terms unit fix since from low high barred =
     let end : since + (from - since) ≡ from = omega arith in
     forced-rests terms unit fix since since (from - since) (omega arith) (λ k a b. barred k a (omega arith))
-    ∙ ap (λ k. total_of (rests unit fix since (from - since)) (to_go terms unit fix k false since)) end
+    ∙ ap (λ k. total_of (rests terms unit fix since since (from - since)) (to_go terms unit fix k false since)) end
 
 -- where it may rest, the least of a start and of a rest; else a start
 pub off-free : (terms : Terms) (unit : Thermal) (fix : Fix) (since t : ℕ) → t < period_count terms → may_be_off unit fix t ≡ true

@@ -1,20 +1,18 @@
 -- What the path knows of each period: the least ways from a switch in it on. Source: Bellman's principle of optimality
 -- (Dynamic Programming, 1957), over the graph of A. Frangioni and C. Gentile, "Solving Nonlinear Single-Unit Commitment
 -- Problems with Ramping Constraints" (Operations Research 54, 2006).
-use Rattle.std.specs.Prelude.{◌≡◌, ℕ, suc, ◌-◌, ◌*◌, ◌<◌, ◌≤◌, Bool, true, false, not, ◌==◌, List, ℤ, length, slice_index_or, unsigned_abs, IsTrue, Option, Some, None, IfSome, if◌then◌else◌}
-use Rattle.dual_model.specs.Prelude.{may_be_off, may_be_on}
-use Rattle.dual_model.specs.CostToGo.{lesser_of, total_of}
-use Rattle.unit_runs.specs.RunsToGo.{Fix, last_cost, may_stay, runs_to_go, switch_cost}
+use Rattle.std.specs.Prelude.{◌≡◌, ℕ, suc, ◌-◌, ◌*◌, ◌<◌, ◌≤◌, Bool, true, false, List, ℤ, length, slice_index_or, unsigned_abs, IsTrue, Option, Some, None, IfSome}
+use Rattle.dual_model.specs.Prelude.{Choices, allowed, ends_at, may_be_off, may_be_on, switch_total as total_by_costs}
+use Rattle.dual_model.specs.CostToGo.{lesser_of}
+use Rattle.unit_runs.specs.RunsToGo.{Fix, last_cost, may_stay, run_and_start, runs_to_go}
 use Rattle.unit_exact.specs.inside.Choices.{Choice, choice_cost}
 use Rattle.unit_exact.specs.inside.Problems.{Table, Thermal, MAX_SWITCH}
-pub use Rattle.dual_model.specs.Prelude.{ends_at, next_after}
 pub use Rattle.unit_exact.specs.declared.choices.Switches.{Switches}
 
 -- what a switch in period t costs with all that follows; at the end of the horizon what is left to pay
 abbrev pub switch_total : ℕ → Table → Thermal → Fix → ℕ → Bool → ℕ → Option ℤ
 switch_total periods table unit fix t was since =
-    if t == periods then last_cost periods table unit t was since
-    else total_of (switch_cost periods table unit fix t was since) (runs_to_go periods table unit fix (periods - suc t) (suc t) (not was) (suc t))
+    total_by_costs (allowed unit fix (run_and_start periods table unit)) (last_cost periods table unit) periods t was since
 
 -- a chosen end of a state, before period t: the state may last until then, and the switch there has the choice's cost
 pub record IsPlan (periods : ℕ) (table : Table) (unit : Thermal) (fix : Fix) (t : ℕ) (was : Bool) (since : ℕ) (choice : Choice) : Type 0 where
@@ -54,3 +52,8 @@ entry_in entries t = slice_index_or entries t (record { start = None; stop = Non
 pub record IsTableFrom (periods : ℕ) (table : Table) (unit : Thermal) (fix : Fix) (from : ℕ) (entries : List Switches) : Type 0 where
   pub count : length entries ≡ periods
   pub entry : (t : ℕ) → from ≤ t → t < periods → AreSwitches periods table unit fix t (entry_in entries t)
+
+-- its choices
+abbrev pub choices_in : List Switches → Choices
+choices_in entries t true = (entry_in entries t).start
+choices_in entries t false = (entry_in entries t).stop

@@ -2,7 +2,7 @@
 -- principle of optimality (Dynamic Programming, 1957).
 use Rattle.std.specs.Prelude.{◌≡◌, ℕ, suc, ◌+◌, ◌-◌, ◌*◌, ◌<◌, ◌≤◌, Bool, true, false, ◌&&◌, List, ℤ, pos, unsigned_abs, length, slice_index_or, Option, Some, None, if◌then◌else◌}
 use Rattle.uc_model.specs.Prelude.{sigma, period_count, may_start, may_stop}
-use Rattle.dual_model.specs.Prelude.{holds_initially, hour_before, may_be_off, may_be_on, stop_since, IsWithin, MAX_MOVE}
+use Rattle.dual_model.specs.Prelude.{holds_initially, hour_before, may_be_off, may_be_on, stop_since, Choices, IsWithin, MAX_MOVE}
 use Rattle.unit_path.specs.inside.Choices.{Fix, Terms, Thermal, Choice, choice_cost, IsLeastStart, IsLeastStop}
 pub use Rattle.unit_path.specs.declared.hour.Hour.{Hour}
 
@@ -77,6 +77,11 @@ pub record IsEnd (terms : Terms) (unit : Thermal) (fix : Fix) (hour : Hour) : Ty
 abbrev pub hour_in : List Hour → ℕ → Hour
 hour_in hours t = slice_index_or hours t
     (record { stay = pos 0; start_cost = pos 0; on_until = 0; off_until = 0; start = None; stop = None; onward = None; cold_start = None })
+
+-- its choices
+abbrev pub choices_in : List Hour → Choices
+choices_in hours t true = (hour_in hours t).start
+choices_in hours t false = (hour_in hours t).stop
 
 -- the table is right from period `from` on
 pub record IsTableFrom (terms : Terms) (unit : Thermal) (fix : Fix) (from : ℕ) (hours : List Hour) : Type 0 where
