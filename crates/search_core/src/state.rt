@@ -1,7 +1,8 @@
 //! The state, and its steps.
 
 use crate::holder::{end_claim, holder_of, is_open};
-use crate::{costs, desk, desks, log, record, start};
+use crate::record::{Added, record};
+use crate::{costs, desk, desks, log, start};
 use branch_tree::{Entry, Leaf, Outcome, Tree, is_within_gap};
 use dual_model::Table;
 use search_machine::desk::Desk;
@@ -490,13 +491,12 @@ impl State {
         };
         let both = [self.count, self.count + 1];
         let children = moves::children(action, &both);
-        record::record(
+        record(
             alloc,
             &mut self.log,
             &mut self.tables,
             &mut self.desks,
-            entry,
-            table,
+            Added { entry, table },
             children,
         )?;
         moves::make(
