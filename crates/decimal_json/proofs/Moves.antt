@@ -66,10 +66,6 @@ same_scan bytes at outer spot other each last = go (drop at bytes) (λ c cs e. e
   go [] same = last
   go (c ∷ cs) same = ap (λ s. after s (λ o t. outcome (suc at) o t cs)) (same c cs refl)
 
--- the byte at a place, where it is known
-pub byte_is : (bytes : List ℕ) (at c : ℕ) → at < length bytes → get_or bytes at 0 ≡ c → drop at bytes ≡ c ∷ drop (at + 1) bytes
-byte_is bytes at c h e = byte_and_rest bytes at h ∙ ap (λ b. b ∷ drop (at + 1) bytes) e
-
 -- ---- What the machine does at bytes of the grammar, whatever follows them.
 -- These bytes lead from a spot to another, whatever follows.
 abbrev pub Moves : ℕ → List Frame → Spot → List ℕ → List Frame → Spot → Type 0

@@ -50,7 +50,3 @@ pub there : (rows : List RampRow) (row d : RampRow) (place : ℕ) (behind : Bool
     → with_row (drop place rows) row ≡ placed row (drop (cond (not behind) (suc place) place) rows)
 there rows row d place true h lt e = rw (drop-cons rows place d lt, h.front d lt, sym e) refl
 there rows row d place false h lt e = rw (drop-cons rows place d lt, h.front d lt, sym e) refl
-
--- or none
-pub past : (rows : List RampRow) (row : RampRow) (place : ℕ) → length rows ≤ place → with_row (drop place rows) row ≡ placed row (drop place rows)
-past rows row place le = rw (drop_all place rows le) refl
