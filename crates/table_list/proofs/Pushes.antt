@@ -1,6 +1,8 @@
 -- A list with one more table, kept whole or by its changes.
-use Rattle.std.proofs.Common.{◌≡◌, ℕ, ℤ, ◌-◌, ◌<◌, List, [], ◌∷◌, ◌++◌, length, take, drop, get_or, slice_get, Some, refl, sym, ap, subst, ◌∙◌, append-nil, length-append, arith}
+use Rattle.std.proofs.Common.{◌≡◌, ℕ, ℤ, ◌-◌, ◌<◌, List, [], ◌∷◌, ◌++◌, length, take, drop, get_or, slice_get, Some, Result, refl, sym, ap, subst, ◌∙◌, append-nil, length-append, arith}
+use Rattle.std.specs.Result.{OnOk}
 use Rattle.std.proofs.Math.Seq.{drop-append_seam}
+use Rattle.std.proofs.lemmas.Result.{on_ok_weaker}
 use Rattle.std.proofs.lemmas.List.{length-map, drop-append-le, drop_all, get_or_at}
 use Rattle.dual_model.specs.Prelude.{IsWellFormed}
 use Rattle.table_list.specs.Changes.{Table, Change, all_changed, table_changes}
@@ -23,6 +25,10 @@ both_first (whole ∷ wholes) (other ∷ tables) table e = e
 some_first : (tables : List Table) (table : Table) → 0 < length tables → slice_get tables 0 ≡ slice_get (tables ++ table ∷ []) 0
 some_first [] table some = absurd (omega arith)
 some_first (other ∷ tables) table some = refl
+
+-- two facts that follow from what a call ensures
+pub both_on_ok : {T E A B C : Type 0} (r : Result T E) → (A → B × C) → OnOk r A → OnOk r B × OnOk r C
+both_on_ok r each a = (on_ok_weaker r (λ a. (each a).0) a, on_ok_weaker r (λ a. (each a).1) a)
 
 -- ---- a table that is kept whole
 pub listed_whole : (old mid new : Kept) (more : List Change) (table : Table) (start : ℕ)
