@@ -3,3 +3,4 @@ pub mod OnCells
 pub mod PricedPeriods
 pub mod RayNumbers
 pub mod RayTables
+pub mod NoPrices

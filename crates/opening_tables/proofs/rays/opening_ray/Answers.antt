@@ -5,33 +5,33 @@ use Rattle.dual_model.specs.Prelude.{HasRayNumbers, ray_table, IsLawfulTable, Is
 use Rattle.opening_tables.proofs.RayNumbers.{ray_numbers}
 use Rattle.opening_tables.proofs.RayTables.{made_of, ray_lawful, ray_table-made}
 use Rattle.opening_tables.proofs.rays.opening_ray.Goals as goal
+use Rattle.opening_tables.proofs.rays.opening_ray.Goals.{After-drop-pi-2}
+
+is_ray : (c : After-drop-pi-2)
+    → made_of (length c.as_slice.result.now) c.deref.result.now c.deref-2.result.now c.deref-3.result.now ≡ ray_table c.args.instance.now c.args.n
+is_ray c =
+    ray_table-made c.args.instance.now c.args.n c.ray_of-ray.result _ _ _ _ c.ray_of-ray.ensures.ray c.ray_of-ray.ensures.period (ap length c.as_slice.ensures)
+    (c.deref.ensures.value ∙ c.in_ok-pi.ensures) (c.deref-2.ensures.value ∙ c.in_ok-mu.ensures) (c.deref-3.ensures.value ∙ c.in_ok-ramps.ensures)
 
 pub new-requires : goal.new-requires
 new-requires c =
-    let is : made_of (length c.as_slice.result.now) c.deref.result.now c.deref-2.result.now c.deref-3.result.now ≡ ray_table c.args.instance.now c.args.n =
-    ray_table-made c.args.instance.now c.args.n c.ray_of-ray.result (length c.as_slice.result.now) c.deref.result.now c.deref-2.result.now c.deref-3.result.now
-    c.ray_of-ray.ensures.ray c.ray_of-ray.ensures.period (ap length c.as_slice.ensures)
-    (c.deref.ensures.value ∙ c.in_ok-pi.ensures) (c.deref-2.ensures.value ∙ c.in_ok-mu.ensures) (c.deref-3.ensures.value ∙ c.in_ok-ramps.ensures) in
-    subst IsWellFormed (sym is) (ray_lawful c.args.instance.now c.args.n c.requires.lawful c.requires.number).size.form
+    subst IsWellFormed
+    (sym (ray_table-made c.args.instance.now c.args.n c.ray_of-ray.result _ _ _ _ c.ray_of-ray.ensures.ray c.ray_of-ray.ensures.period (ap length c.as_slice.ensures)
+    (c.deref.ensures.value ∙ c.in_ok-pi.ensures) (c.deref-2.ensures.value ∙ c.in_ok-mu.ensures) (c.deref-3.ensures.value ∙ c.in_ok-ramps.ensures)))
+    (ray_lawful c.args.instance.now c.args.n c.requires.lawful c.requires.number).size.form
+
+pub returns-clause-table : goal.returns-clause-table
+returns-clause-table c =
+    IfOk-weaker c.new.result (λ made. made ≡ made_of _ _ _ _) (λ made. made ≡ ray_table c.args.instance.now c.args.n) (λ made same. same ∙ is_ray c) c.new.ensures
 
 pub returns-clause-lawful : goal.returns-clause-lawful
 returns-clause-lawful c =
-    let table = made_of (length c.as_slice.result.now) c.deref.result.now c.deref-2.result.now c.deref-3.result.now in
-    let is : table ≡ ray_table c.args.instance.now c.args.n =
-    ray_table-made c.args.instance.now c.args.n c.ray_of-ray.result (length c.as_slice.result.now) c.deref.result.now c.deref-2.result.now c.deref-3.result.now
-    c.ray_of-ray.ensures.ray c.ray_of-ray.ensures.period (ap length c.as_slice.ensures)
-    (c.deref.ensures.value ∙ c.in_ok-pi.ensures) (c.deref-2.ensures.value ∙ c.in_ok-mu.ensures) (c.deref-3.ensures.value ∙ c.in_ok-ramps.ensures) in
-    IfOk-weaker c.new.result (λ made. made ≡ table) (IsLawfulTable c.args.instance.now)
-    (λ made same. subst (IsLawfulTable c.args.instance.now) (sym (same ∙ is)) (ray_lawful c.args.instance.now c.args.n c.requires.lawful c.requires.number))
+    IfOk-weaker c.new.result (λ made. made ≡ made_of _ _ _ _) (IsLawfulTable c.args.instance.now)
+    (λ made same. subst (IsLawfulTable c.args.instance.now) (sym (same ∙ is_ray c)) (ray_lawful c.args.instance.now c.args.n c.requires.lawful c.requires.number))
     c.new.ensures
 
 pub returns-clause-numbers : goal.returns-clause-numbers
 returns-clause-numbers c =
-    let table = made_of (length c.as_slice.result.now) c.deref.result.now c.deref-2.result.now c.deref-3.result.now in
-    let is : table ≡ ray_table c.args.instance.now c.args.n =
-    ray_table-made c.args.instance.now c.args.n c.ray_of-ray.result (length c.as_slice.result.now) c.deref.result.now c.deref-2.result.now c.deref-3.result.now
-    c.ray_of-ray.ensures.ray c.ray_of-ray.ensures.period (ap length c.as_slice.ensures)
-    (c.deref.ensures.value ∙ c.in_ok-pi.ensures) (c.deref-2.ensures.value ∙ c.in_ok-mu.ensures) (c.deref-3.ensures.value ∙ c.in_ok-ramps.ensures) in
-    IfOk-weaker c.new.result (λ made. made ≡ table) (HasRayNumbers c.args.instance.now c.args.n)
-    (λ made same. subst (HasRayNumbers c.args.instance.now c.args.n) (sym (same ∙ is)) (ray_numbers c.args.instance.now c.args.n c.requires.lawful))
+    IfOk-weaker c.new.result (λ made. made ≡ made_of _ _ _ _) (HasRayNumbers c.args.instance.now c.args.n)
+    (λ made same. subst (HasRayNumbers c.args.instance.now c.args.n) (sym (same ∙ is_ray c)) (ray_numbers c.args.instance.now c.args.n c.requires.lawful))
     c.new.ensures
