@@ -8,7 +8,7 @@ use Rattle.search_machine.specs.Prelude.{Machine, holder_in, holder_of, IsHoldin
 use Rattle.branch_tree.specs.declared.found.Entry.{Entry}
 use Rattle.dual_model.specs.declared.table.Table.{Table}
 use Rattle.search_machine.specs.declared.holder.Holder.{Holder}
-use Rattle.search_machine.specs.declared.desk.Desk.{Desk}
+use Rattle.search_machine.specs.declared.desk.WorkerState.{WorkerState}
 use Rattle.search_machine.specs.declared.event.Move.TheVariants.{Again, Prune}
 use Rattle.search_machine.specs.declared.event.Move.{Move}
 use Rattle.branch_tree.specs.declared.found.Outcome.{Outcome}
@@ -18,7 +18,7 @@ use Rattle.search_machine.proofs.Claims.{one_held}
 use Rattle.book.specs.Replay.{with_unit}
 
 -- the state with other claims and desks, and with its log's units renamed
-abbrev pub renamed : (ℕ → ℕ) → List (Option Holder) → List Desk → Machine → Machine
+abbrev pub renamed : (ℕ → ℕ) → List (Option Holder) → List WorkerState → Machine → Machine
 renamed f claims desks m = record m { claims = claims; log = map (with_unit f) m.log; desks = desks }
 
 -- who holds the unit still holds it by its new name
@@ -43,7 +43,7 @@ none_renamed : (f : ℕ → ℕ) (log : List Entry) (node : ℕ) → entries_of 
 none_renamed f log node none = nil_from_length (entries_of log node) (sym (count_renamed f log node) ∙ ap length none)
 
 -- ---- a commit
-move_renamed : (f : ℕ → ℕ) (claims : List (Option Holder)) (desks : List Desk) (m : Machine) (worker node : ℕ) (table : Table) (exact : Bool)
+move_renamed : (f : ℕ → ℕ) (claims : List (Option Holder)) (desks : List WorkerState) (m : Machine) (worker node : ℕ) (table : Table) (exact : Bool)
     (outcome : Outcome) (action : Move) → IsMoveLegal (AnyCost m worker) m node table exact outcome action
     → IsMoveLegal (AnyCost (renamed f claims desks m) worker) (renamed f claims desks m) node table exact outcome action
 move_renamed f claims desks m worker node table exact outcome Again legal = (
@@ -54,7 +54,7 @@ move_renamed f claims desks m worker node table exact outcome (Prune seen) legal
     (legal.0, record { looked = tt; within = legal.1.within })
 move_renamed f claims desks m worker node table exact outcome _ legal = legal
 
-pub legal_renamed : (f : ℕ → ℕ) (claims : List (Option Holder)) (desks : List Desk) (m : Machine) (worker unit : ℕ) (table : Table)
+pub legal_renamed : (f : ℕ → ℕ) (claims : List (Option Holder)) (desks : List WorkerState) (m : Machine) (worker unit : ℕ) (table : Table)
     (exact : Bool) (outcome : Outcome) (action : Move) → length m.desks ≡ length desks → StillHolds f claims m unit
     → IsLegalBy AnyCost m (event.Commit worker unit table exact outcome action)
     → IsLegalBy AnyCost (renamed f claims desks m) (event.Commit worker (f unit) table exact outcome action)
@@ -72,7 +72,7 @@ legal_renamed f claims desks m worker unit table exact outcome action same held 
   },
 )
 
-pub true_renamed : (instance : Instance) (f : ℕ → ℕ) (claims : List (Option Holder)) (desks : List Desk) (m : Machine) (worker unit : ℕ)
+pub true_renamed : (instance : Instance) (f : ℕ → ℕ) (claims : List (Option Holder)) (desks : List WorkerState) (m : Machine) (worker unit : ℕ)
     (table : Table) (exact : Bool) (outcome : Outcome) (action : Move) → StillHolds f claims m unit
     → IsLegalBy AnyCost m (event.Commit worker unit table exact outcome action)
     → IsTrueEvent instance m (event.Commit worker unit table exact outcome action)
@@ -89,7 +89,7 @@ pub after_commit : (m : Machine) (worker unit node : ℕ) (table : Table) (exact
 after_commit m worker unit node table exact outcome action holds =
     ap (committed_by m worker unit table exact outcome action) holds
 
-pub committed_renamed : (f : ℕ → ℕ) (claims : List (Option Holder)) (desks : List Desk) (m : Machine) (worker unit node : ℕ) (table : Table)
+pub committed_renamed : (f : ℕ → ℕ) (claims : List (Option Holder)) (desks : List WorkerState) (m : Machine) (worker unit node : ℕ) (table : Table)
     (exact : Bool) (outcome : Outcome) (action : Move)
     → committed (renamed f claims desks m) worker (f unit) node table exact outcome action
     ≡ renamed f (slice_set claims (f unit - 1) None) (with_desk desks worker (λ desk. with_tickets desk (tickets_of m.tree action)))

@@ -3,7 +3,7 @@
 -- project's own form.
 use Rattle.std.specs.Prelude.{ℕ, ◌-◌, List, [], ◌∷◌, ◌++◌, None, map, take, drop}
 use Rattle.branch_tree.specs.Prelude.{table_at}
-use Rattle.search_machine.specs.declared.desk.Desk.{Desk}
+use Rattle.search_machine.specs.declared.desk.WorkerState.{WorkerState}
 pub use Rattle.search_machine.specs.declared.event.Event.{Event}
 use Rattle.search_machine.specs.declared.event.Event.TheVariants as event
 use Rattle.book.specs.BookView.{BookView, Entry, Table, Machine}
@@ -40,7 +40,7 @@ abbrev pub replay : BookView → List Event
 replay book = woven 0 (kept_claims book.claims) (map (commit_event book.claims book.tables) book.log)
 
 -- the state that the replay has to give, with these desks: the book's tree and tables, the nodes that are held, and the log
-abbrev pub replayed : BookView → List Desk → Machine
+abbrev pub replayed : BookView → List WorkerState → Machine
 replayed book desks = record {
   budget = book.budget;
   gap = book.gap;

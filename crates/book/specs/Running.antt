@@ -1,7 +1,7 @@
 -- What holds of a book whenever its lock is free. Source: this project's own form; the machine is that of `search_machine`.
 use Rattle.std.specs.Prelude.{◌≡◌, ℕ, suc, ◌<◌, ◌≤◌, All, List, Option, Some, length, slice_get}
 use Rattle.branch_tree.specs.Prelude.{IsTrueLog}
-use Rattle.search_machine.specs.declared.desk.Desk.{Desk}
+use Rattle.search_machine.specs.declared.desk.WorkerState.{WorkerState}
 use Rattle.search_machine.specs.Prelude.{AnyCost, IsTrueRunBy, TreeHoldsAt, after_all}
 use Rattle.book.specs.BookView.{BookView, Entry}
 use Rattle.book.specs.Claims.{Claim, Holder, Move, Committed, holders, IsRising}
@@ -23,7 +23,7 @@ pub record IsMarked (claims : List Claim) (tables : ℕ) (entry : Entry) : Type 
 -- the replay is a run of legal and true claims and commits, in which a Prune asks for its number test alone, and it gives the book
 pub record IsReplayed (opening : Opening) (book : BookView) : Type 0 where
   pub run : IsTrueRunBy AnyCost opening.instance (start_by opening) (replay book)
-  pub desks : List Desk
+  pub desks : List WorkerState
   pub workers : length desks ≡ 256
   pub gives : after_all (start_by opening) (replay book) ≡ replayed book desks
   -- each claim has its place in the replay, and each entry its claim

@@ -78,7 +78,7 @@ pub struct Bundle {
 
 /// The moves of the prices that move, by their places in rising order, and by how much the bound rises at most with them.
 #[derive(Drop)]
-pub struct Move {
+pub struct PriceStep {
     pub moved: Vec<(usize, i64)>,
     pub predicted: i128,
 }
@@ -279,7 +279,12 @@ impl Bundle {
     }
 
     /// The move from the centre, at which the bound is some `size`.
-    pub fn step(&mut self, alloc: Global, center: &[i64], size: i128) -> Result<Move, NoMemory> {
+    pub fn step(
+        &mut self,
+        alloc: Global,
+        center: &[i64],
+        size: i128,
+    ) -> Result<PriceStep, NoMemory> {
         let field = Field::of(alloc, &self.cuts, center, self.free)?;
         let mut moves = self.moves(alloc, &field)?;
         for _ in 0..PASSES {
@@ -293,7 +298,7 @@ impl Bundle {
         }
         let moved = moved(alloc, &field.places, &moves)?;
         let predicted = self.predicted(&moved);
-        Ok(Move { moved, predicted })
+        Ok(PriceStep { moved, predicted })
     }
 
     // The moves of a field's prices by the weights, that of a price which would end at or below 0, where it may not, being to 0, and that of

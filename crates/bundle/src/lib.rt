@@ -7,5 +7,5 @@ mod field;
 mod numbers;
 mod products;
 
-pub use cuts::{Bundle, Cut, Move, WHOLE};
+pub use cuts::{Bundle, Cut, PriceStep, WHOLE};
 pub use numbers::{at, times, word};

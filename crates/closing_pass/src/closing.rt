@@ -15,7 +15,7 @@ use crate::settling::{Held, Settling};
 use book::{Book, Claimed};
 use decided_nodes::Pivoting;
 use outside::Gate;
-use search_desk::{Run, cheaper, is_closed};
+use search_desk::{SearchCase, cheaper, is_closed};
 use search_machine::laws::tree_runs_hold;
 use std::sync::Wait;
 use uc_model::{Instance, NoMemory, Printed};
@@ -25,12 +25,12 @@ const CALLER: u8 = 0;
 
 /// The book, and the best schedule so far with its cost in micro-dollars.
 #[derive(Drop)]
-pub struct Progress<C: Run> {
+pub struct Progress<C: SearchCase> {
     pub book: Book<C>,
     pub best: Option<(Printed, i64)>,
 }
 
-impl<C: Run> Progress<C> {
+impl<C: SearchCase> Progress<C> {
     ghost use Rattle.std.specs.Prelude.{◌≡◌};
     ghost use Rattle.found_schedule.specs.Found.{IsFoundIfAny};
     ghost use Rattle.search_desk.specs.Best.{IsNoWorse, cost_of};
@@ -71,7 +71,7 @@ pub struct Closing {
 
 /// Commits each claim that is still held, and claims open nodes until the schedule closes the tree, no node is open or the budget is spent. The
 /// only error is `NoMemory`.
-pub fn close<C: Run, R: Wait, G: Gate>(
+pub fn close<C: SearchCase, R: Wait, G: Gate>(
     host: &Host<R, G>,
     instance: &Instance,
     progress: &mut Progress<C>,
@@ -110,7 +110,7 @@ pub fn close<C: Run, R: Wait, G: Gate>(
 }
 
 // A claim that is held, or a new one of an open node; none where the schedule closes the tree, no node is open or the budget is spent.
-fn next<C: Run, R: Wait, G: Gate>(
+fn next<C: SearchCase, R: Wait, G: Gate>(
     host: &Host<R, G>,
     progress: &mut Progress<C>,
     closing: Closing,
@@ -155,7 +155,7 @@ fn next<C: Run, R: Wait, G: Gate>(
 }
 
 // Whether the schedule's cost is within the gap of the tree's bound, or no leaf has one.
-fn is_finished<C: Run>(progress: &Progress<C>, gap: u32) -> bool
+fn is_finished<C: SearchCase>(progress: &Progress<C>, gap: u32) -> bool
     requires { gap ≤ WHOLE_GAP }
     ensures { result ≡ is_finished progress.now.best (tree_bound progress.now.book.tree) gap }
 {

@@ -26,8 +26,8 @@ use branch_tree::Outcome;
 use decided_nodes::{Decided, Pivoting, exact_dispatch};
 use dual_model::{Node, Table};
 use opening::Evaluator;
-use prices::{Ascent, CutPool, Target, Values, next_ascent};
-use search_desk::{Evaluated, Run, ending, stored_bound};
+use prices::{Ascent, CutPool, TriedNode, Values, next_ascent};
+use search_desk::{Evaluated, SearchCase, ending, stored_bound};
 use search_machine::Move;
 use search_machine::laws::tree_runs_hold;
 use search_machine::limits::NODE_ENTRIES;
@@ -73,7 +73,7 @@ struct Trial {
 
 impl Settling<'_> {
     /// Evaluates the claim and commits it. Up to which scale tables are used then. The only error is `NoMemory`.
-    pub(crate) fn settle<C: Run>(
+    pub(crate) fn settle<C: SearchCase>(
         &self,
         alloc: Global,
         progress: &mut Progress<C>,
@@ -118,7 +118,7 @@ impl Settling<'_> {
     }
 
     // What the node is evaluated at: the table of an exact dispatch, where there is one, or else the one that it stores or an ascent's.
-    fn trial<C: Run>(
+    fn trial<C: SearchCase>(
         &self,
         alloc: Global,
         book: &Book<C>,
@@ -141,7 +141,7 @@ impl Settling<'_> {
     }
 
     // The exact dispatch, at the first claim of a node at which each cell is decided, where the search uses it.
-    fn dispatched<C: Run>(
+    fn dispatched<C: SearchCase>(
         &self,
         alloc: Global,
         book: &Book<C>,
@@ -176,7 +176,7 @@ impl Settling<'_> {
     }
 
     // What the node is evaluated at without an exact dispatch: the table that it stores, where it wasn't evaluated yet; or that of an ascent from it.
-    fn priced<C: Run>(
+    fn priced<C: SearchCase>(
         &self,
         alloc: Global,
         book: &Book<C>,
@@ -200,7 +200,7 @@ impl Settling<'_> {
     }
 
     // The table of an ascent, whose scale no entry of the node has: a first entry may have one of two, but not both.
-    fn ascended<C: Run>(
+    fn ascended<C: SearchCase>(
         &self,
         alloc: Global,
         book: &Book<C>,
@@ -243,7 +243,7 @@ impl Settling<'_> {
             exact: self.closing.exact,
         };
         let mut pool = CutPool::closed(alloc);
-        let target = Target {
+        let target = TriedNode {
             node: &holding.path,
             had: scale,
             enough: i128::MAX,
@@ -267,7 +267,7 @@ impl Settling<'_> {
 
     // The cell that the node is split on where it isn't closed: the first undecided one, once it had all the entries that it may have, or at once
     // where the budget has a claim for each node.
-    fn split_cell<C: Run>(&self, book: &Book<C>) -> Option<(u32, u32)>
+    fn split_cell<C: SearchCase>(&self, book: &Book<C>) -> Option<(u32, u32)>
         requires within { self.now.held.node < node_count book.now.tree.nodes }
         requires count { self.now.held.had ≡ length (entries_of book.now.log self.now.held.node) }
         ensures cell { MatchOption result (MayGoOn (state_of book.now) self.now.held.node)
@@ -282,7 +282,7 @@ impl Settling<'_> {
     }
 
     // The move that ends the claim.
-    fn action<C: Run>(&self, progress: &Progress<C>, bound: &i128, done: &Evaluated) -> Move
+    fn action<C: SearchCase>(&self, progress: &Progress<C>, bound: &i128, done: &Evaluated) -> Move
         requires gap { self.now.closing.gap ≡ progress.now.book.gap }
         requires whole { self.now.closing.gap ≤ WHOLE_GAP }
         requires stored { bound.now ≡ (stored_at progress.now.book.tree self.now.held.node).value }
@@ -297,7 +297,7 @@ impl Settling<'_> {
     }
 
     // Commits the evaluation.
-    fn enter<C: Run>(&self, book: &mut Book<C>, path: &Node, done: Evaluated, action: Move)
+    fn enter<C: SearchCase>(&self, book: &mut Book<C>, path: &Node, done: Evaluated, action: Move)
         requires told { IsTrueOutcome self.now.closing.exact C.opening.instance path.now done.table done.outcome }
         requires may { MayCommit book.old self.now.held.worker self.now.held.unit path.now done.table self.now.closing.exact done.outcome action }
         ensures { IsCommitted book.old self.now.held.worker self.now.held.unit path.now done.table self.now.closing.exact done.outcome action book.new }

@@ -7,9 +7,9 @@ pub use Rattle.dual_model.specs.declared.node.Node.{Node}
 use Rattle.dispatch_rules.specs.Prelude.{commitment_at}
 use Rattle.pivot_dispatch.specs.Answers.{IsAnswer}
 pub use Rattle.pivot_dispatch.specs.Commitments.{Instance, Pattern}
-use Rattle.pivot_dispatch.specs.declared.pivot.Pivot.{Pivot}
-use Rattle.pivot_dispatch.specs.declared.pivot.What.{What}
-use Rattle.pivot_dispatch.specs.declared.pivot.Pivot.TheVariants.{Best, Ray, Wide}
+use Rattle.pivot_dispatch.specs.declared.pivot.DispatchAnswer.{DispatchAnswer}
+use Rattle.pivot_dispatch.specs.declared.pivot.WideCause.{WideCause}
+use Rattle.pivot_dispatch.specs.declared.pivot.DispatchAnswer.TheVariants.{Best, Ray, Wide}
 use Rattle.found_schedule.specs.Found.{IsFoundIfAny}
 use Rattle.decided_nodes.specs.declared.decided.Decided.{Decided}
 
@@ -37,7 +37,7 @@ pub record ArePatternsAt (instance : Instance) (node : Node) (patterns : List Pa
 
 -- ---- its dispatch
 -- what is told is the table of prices, with the schedule and its printed cost; or the ray
-abbrev pub IsToldBy : Instance → Pivot → Decided → Type 0
+abbrev pub IsToldBy : Instance → DispatchAnswer → Decided → Type 0
 IsToldBy instance (Best printed table) told = (told.table ≡ table) × (told.schedule ≡ Some (printed, printed_cost instance printed))
 IsToldBy instance (Ray table) told = (told.table ≡ table) × (told.schedule ≡ None)
 IsToldBy instance (Wide what size other pivots) told = ⊥
@@ -48,7 +48,7 @@ pub record IsDecided (instance : Instance) (node : Node) (told : Decided) : Type
   pub found : IsFoundIfAny true instance told.schedule
   pub patterns : List Pattern
   pub are : ArePatternsAt instance node patterns
-  pub pivot : Pivot
+  pub pivot : DispatchAnswer
   pub answer : IsAnswer instance patterns pivot
   pub is : IsToldBy instance pivot told
 
@@ -56,7 +56,7 @@ pub record IsDecided (instance : Instance) (node : Node) (told : Decided) : Type
 pub record IsWideAt (instance : Instance) (node : Node) : Type 0 where
   pub patterns : List Pattern
   pub are : ArePatternsAt instance node patterns
-  pub what : What
+  pub what : WideCause
   pub size : ℤ
   pub other : ℤ
   pub pivots : ℕ

@@ -14,7 +14,7 @@ use dual_model::{Node, Table, Valued};
 use dual_value::{ValueFault, value};
 use found_schedule::accepted;
 use opening_tables::zero;
-use pivot_dispatch::{Pivot, best};
+use pivot_dispatch::{DispatchAnswer, best};
 use std::alloc::Global;
 use uc_model::{Instance, List, NoMemory, Pattern, Printed};
 use unit_path::Scratch;
@@ -73,18 +73,18 @@ fn dispatched(
         → IfOk result (λ found. MatchOption found (IsWideAt instance.now node) (IsDecided instance.now node)) }
 {
     match best(alloc, instance, patterns)? {
-        Pivot::Best { schedule, table } => {
+        DispatchAnswer::Best { schedule, table } => {
             let cost = accepted(instance, &schedule);
             Ok(Some(Decided {
                 table,
                 schedule: priced(schedule, cost),
             }))
         }
-        Pivot::Ray(table) => Ok(Some(Decided {
+        DispatchAnswer::Ray(table) => Ok(Some(Decided {
             table,
             schedule: None,
         })),
-        Pivot::Wide { .. } => Ok(None),
+        DispatchAnswer::Wide { .. } => Ok(None),
     }
 }
 

@@ -10,7 +10,7 @@ use Rattle.dispatch_rules.specs.Prelude.{Task, limit, limits, is_demand, right_o
 use Rattle.uc_model.specs.Prelude.{Demand}
 use Rattle.dispatch_rules.specs.declared.limit.LimitAt.{LimitAt}
 use Rattle.dispatch_prices.specs.ReadOff.{IsEndOf, ReadingForms, rules_of}
-use Rattle.dispatch_prices.specs.Readings.{End, Unfit, HasSize, IsEndAt, IsUnfit}
+use Rattle.dispatch_prices.specs.Readings.{FinalTableau, Unfit, HasSize, IsEndAt, IsUnfit}
 use Rattle.dispatch_prices.specs.declared.unfit.Unfit.TheVariants.{Product, Multiplier, NoMemory}
 use Rattle.dispatch_prices.proofs.TimesBy.{count_is, limit_is}
 
@@ -122,7 +122,7 @@ module _ (task : Task) (unknowns : ℕ) (listed_limits : List LimitAt) (rights :
       (h.0, within, h.2, h.3 ∙ multiplier_same row h.0 within, h.4)
   unfit_same row NoMemory h = tt
 
-pub has_size : (task : Task) (end : End) → IsEndAt task end → HasSize end
+pub has_size : (task : Task) (end : FinalTableau) → IsEndAt task end → HasSize end
 has_size task end is = record {
   columns = columns_is task end.unknowns end.limits.now end.rights.now end.table.now is;
   rows = rows_is task end.unknowns end.limits.now end.rights.now end.table.now is;

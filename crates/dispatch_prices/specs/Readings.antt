@@ -9,23 +9,23 @@ use Rattle.dual_model.specs.declared.table.Table.{Table}
 use Rattle.uc_model.specs.Prelude.{thermal_count}
 use Rattle.dispatch_prices.specs.ReadOff.{IsEndOf, IsLargeMultiplier, ReadingForms, all_rows, is_priced, limit_in, rules_of}
 use Rattle.dispatch_rules.specs.declared.limit.LimitAt.{LimitAt}
-pub use Rattle.dispatch_prices.specs.declared.multipliers.End.{End}
+pub use Rattle.dispatch_prices.specs.declared.multipliers.FinalTableau.{FinalTableau}
 pub use Rattle.dispatch_prices.specs.declared.multipliers.Places.{Places}
 pub use Rattle.dispatch_prices.specs.declared.unfit.Unfit.{Unfit}
 use Rattle.dispatch_prices.specs.declared.unfit.Unfit.TheVariants.{Product, Multiplier, NoMemory}
 
 -- the rules of the table
-abbrev pub rules_at : End → Program
+abbrev pub rules_at : FinalTableau → Program
 rules_at end = rules_of end.unknowns end.limits.now end.rights.now
 
 -- the table has a column for each unknown, slack and artificial one, the two values and the right side, and a row for each rule, the sum and the cost
-pub record HasSize (end : End) : Type 0 where
+pub record HasSize (end : FinalTableau) : Type 0 where
   pub columns : end.table.now.columns ≡ place (rules_at end) RightSide + 1
   pub rows : length end.table.now.rows ≡ length end.limits.now + 2
   pub rights : length end.rights.now ≡ length end.limits.now
 
 -- the end is that of a run on the commitment's table
-abbrev pub IsEndAt : Task → End → Type 0
+abbrev pub IsEndAt : Task → FinalTableau → Type 0
 IsEndAt task end = IsEndOf task end.unknowns end.limits.now end.rights.now end.table.now
 
 -- the columns of the slack and of the artificial column of rule i, where it has one

@@ -7,5 +7,5 @@ mod multipliers;
 mod table;
 mod unfit;
 
-pub use multipliers::End;
+pub use multipliers::FinalTableau;
 pub use unfit::Unfit;

@@ -16,7 +16,7 @@ const MAX_MULTIPLIER: u128 = 100_000_000_000_000;
 
 /// The end of a run on a commitment's table, with what its rules are.
 #[derive(Clone, Copy)]
-pub struct End<'a> {
+pub struct FinalTableau<'a> {
     pub table: &'a Tableau,
     /// How many amounts there are, in the first columns.
     pub unknowns: usize,
@@ -32,7 +32,7 @@ pub(crate) struct Places {
     pub artificial: usize,
 }
 
-impl End<'_> {
+impl FinalTableau<'_> {
     /// The multipliers of the priced rules in row `o`, with 0 for all others.
     pub(crate) fn multipliers(&self, alloc: Global, o: usize) -> Result<Vec<i64>, Unfit>
         requires size { HasSize self.now }

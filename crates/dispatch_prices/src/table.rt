@@ -7,14 +7,14 @@ ghost use Rattle.dispatch_prices.specs.ReadOff.{HasSmallMultipliers, ReadingForm
 ghost use Rattle.dispatch_prices.specs.Readings.{IsEndAt, IsPriceTable, IsUnfit};
 ghost use Rattle.dispatch_prices.specs.PricedLimits.{ArePrices, IsLawfulPriced, IsTableOf, demand_price, down_price, price_of, reserve_price, up_price};
 
-use crate::multipliers::End;
+use crate::multipliers::FinalTableau;
 use crate::unfit::Unfit;
 use dispatch_rules::{LimitAt, LimitRule};
 use dual_model::{RampRow, Table};
 use std::alloc::Global;
 use uc_model::{Instance, NoMemory};
 
-impl End<'_> {
+impl FinalTableau<'_> {
     /// The table of the prices that row `o` gives, at the scale `k`: the multipliers of demand, of the reserve and of the ramps.
     pub fn prices(
         &self,

@@ -12,7 +12,7 @@ use Rattle.dispatch_repair.specs.Segments.{Segment, AreInMeritOrder, source_coun
 use Rattle.dispatch_repair.specs.Stuck.{Stuck, IsDispatchOf, IsFree, IsRegular, IsStuckOf}
 use Rattle.dispatch_repair.specs.Amounts.{IsSizedOutput, amount_at, thermal_amount}
 use Rattle.dispatch_repair.specs.Filled.{Shortage, IsDispatchedFrom}
-use Rattle.dispatch_repair.specs.Filling.{Start, IsFirstLeft, IsStart}
+use Rattle.dispatch_repair.specs.Filling.{PeriodStart, IsFirstLeft, IsStart}
 use Rattle.dispatch_repair.specs.inside.Rows.{IsWritten, list_of, written}
 use Rattle.dispatch_repair.specs.Totals.{MAX_POWER, MAX_UNITS}
 use Rattle.dispatch_repair.proofs.Committing.{idle, idle_committed}
@@ -66,7 +66,7 @@ module _ (instance : Instance) (patterns : List Pattern) (order : List Segment) 
       abbrev kept : Period
       kept = served period (shed_of period) (short_of period)
 
-      abbrev start : Start
+      abbrev start : PeriodStart
       start = record {
         shortage = record { shed = shed_of period; short = short_of period };
         left = record { need = demand_of kept -ℤ total_output kept (low_of kept); room = thermal_limit kept -ℤ thermal_sum kept (low_of kept) };

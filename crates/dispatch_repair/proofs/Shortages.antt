@@ -14,7 +14,7 @@ use Rattle.dispatch_repair.specs.Dispatch.{period_after, IsFilled}
 use Rattle.dispatch_repair.specs.Stuck.{HaveRanges, IsFree}
 use Rattle.dispatch_repair.specs.Amounts.{Range, AreHeadsOf, AreRangesOf}
 use Rattle.dispatch_repair.specs.Filled.{Shortage, AreShortages, IsDispatchedFrom, served_by}
-use Rattle.dispatch_repair.specs.Filling.{Left, Start, IsFillable, IsFilledTo, IsFirstLeft, IsStart}
+use Rattle.dispatch_repair.specs.Filling.{Left, PeriodStart, IsFillable, IsFilledTo, IsFirstLeft, IsStart}
 use Rattle.dispatch_repair.specs.Totals.{Totals, AreTotalsOf, IsSizedLeft}
 use Rattle.dispatch_repair.specs.Segments.{Segment, AreInMeritOrder}
 use Rattle.dispatch_repair.proofs.Filled.{filled_period, max_left, max_right}
@@ -362,7 +362,7 @@ kept_size instance patterns t before shortage lawful within are well =
 
 -- ---- from an obstacle's absence to a dispatch
 -- what a period without an obstacle is filled from
-pub started : (period : Period) (start : Start) → IsLawfulInstance period.instance → period.t < period.instance.periods → IsFree period
+pub started : (period : Period) (start : PeriodStart) → IsLawfulInstance period.instance → period.t < period.instance.periods → IsFree period
     → AreShortages period start.shortage → IsFirstLeft (served_by period start.shortage) start.left → IsSizedLeft start.left.need → IsSizedLeft start.left.room
     → IsStart period start
 started period start lawful within free are first need room =
@@ -376,7 +376,7 @@ started period start lawful within free are first need room =
     }
 
 -- a period that is filled from that is dispatched
-pub dispatched_from : (instance : Instance) (patterns : List Pattern) (t : ℕ) (before : ℕ → ℤ) (order : List Segment) (ranges : List Range) (start : Start)
+pub dispatched_from : (instance : Instance) (patterns : List Pattern) (t : ℕ) (before : ℕ → ℤ) (order : List Segment) (ranges : List Range) (start : PeriodStart)
     (amounts numbers : List ℤ) (rest : Left) → IsLawfulInstance instance → t < instance.periods → AreInMeritOrder instance order
     → AreRangesOf (period_after instance patterns t before) ranges → AreHeadsOf (period_after instance patterns t before) numbers
     → IsStart (period_after instance patterns t before) start → IsFilledTo instance order ranges start.left (length order) amounts rest

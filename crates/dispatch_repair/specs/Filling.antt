@@ -12,7 +12,7 @@ use Rattle.dispatch_repair.specs.Segments.{Segment, IsAtMost, source_at, source_
 use Rattle.dispatch_repair.specs.Filled.{AreShortages, served_by}
 use Rattle.dispatch_repair.specs.Totals.{IsSizedLeft}
 pub use Rattle.dispatch_repair.specs.declared.fill.Left.{Left}
-pub use Rattle.dispatch_repair.specs.declared.period.Start.{Start}
+pub use Rattle.dispatch_repair.specs.declared.period.PeriodStart.{PeriodStart}
 
 -- what is left isn't negative, and has the size of a sum over units
 pub record IsLeft (left : Left) : Type 0 where
@@ -106,7 +106,7 @@ pub record IsFillable (period : Period) : Type 0 where
   pub reserve : need_of period ≤ℤ reserve_room period
 
 -- this is missing, the rest can be filled, and this is left of it at first
-pub record IsStart (period : Period) (start : Start) : Type 0 where
+pub record IsStart (period : Period) (start : PeriodStart) : Type 0 where
   pub shortages : AreShortages period start.shortage
   pub fillable : IsFillable (served_by period start.shortage)
   pub first : IsFirstLeft (served_by period start.shortage) start.left

@@ -24,7 +24,7 @@ pub use fill::Left;
 pub use most_on_commitment::{MostFault, most_on};
 pub use obstacle::Totals;
 pub use one_dispatch::commitments_have_one_dispatch;
-pub use period::{Start, dispatch_after, set_initial, start_from};
+pub use period::{PeriodStart, dispatch_after, set_initial, start_from};
 pub use range::{Range, Reach, unit_reach};
 pub use room::Room;
 pub use rows::{Rows, committed, committed_cell};

@@ -111,7 +111,7 @@ pub fn dispatch_after(
 
 /// What a period is filled from: what is missing, and what is left to give where each source gives its least.
 #[derive(Clone, Copy)]
-pub struct Start {
+pub struct PeriodStart {
     pub shortage: Shortage,
     pub left: Left,
 }
@@ -122,7 +122,7 @@ fn begin_period(
     instance: &Instance,
     patterns: &[Pattern],
     t: usize,
-) -> Result<Start, Why>
+) -> Result<PeriodStart, Why>
     requires room { IsRoomOf instance.now room.now }
     requires lawful { IsLawfulInstance instance.now }
     requires patterns { length patterns.now ≡ thermal_count instance.now }
@@ -150,7 +150,7 @@ pub fn start_from(
     totals: &Totals,
     demand: &i64,
     need: &i64,
-) -> Result<Start, Why>
+) -> Result<PeriodStart, Why>
     requires lawful { IsLawfulInstance instance.now }
     requires sizes { AreSizedTotals totals.now }
     requires demand { IsPower demand.now }
@@ -166,7 +166,7 @@ pub fn start_from(
 }
 
 // What is missing of this demand and need of reserve, in watts, and what is left to give of the rest.
-fn start_of(instance: &Instance, totals: &Totals, demand: &i64, need: &i64) -> Start
+fn start_of(instance: &Instance, totals: &Totals, demand: &i64, need: &i64) -> PeriodStart
     requires sizes { AreSizedTotals totals.now }
     requires demand { IsPower demand.now }
     requires need { IsPower need.now }
@@ -183,7 +183,7 @@ fn start_of(instance: &Instance, totals: &Totals, demand: &i64, need: &i64) -> S
         without(*demand, shortage.shed),
         without(*need, shortage.short),
     );
-    Start { shortage, left }
+    PeriodStart { shortage, left }
 }
 
 // Fills the ranges from their low ends; answers what is left to give.

@@ -10,7 +10,7 @@ use Rattle.decided_nodes.specs.declared.pivoting.Pivoting.{Pivoting}
 use Rattle.decided_nodes.specs.declared.pivoting.Pivoting.TheVariants.{Exhaustive}
 use Rattle.search_machine.specs.Prelude.{IsTrueOutcome}
 use Rattle.opening.specs.Outcomes.{IsSized}
-use Rattle.search_desk.specs.declared.desk.Claim.{Claim}
+use Rattle.search_desk.specs.declared.desk.HeldNode.{HeldNode}
 use Rattle.search_desk.specs.declared.desk.Evaluated.{Evaluated}
 use Rattle.search_desk.specs.Best.{cost_of}
 use Rattle.search_desk.specs.Desks.{IsLaterWithin}
@@ -30,19 +30,19 @@ IsNextAt instance unit None = Unit {0}
 IsNextAt instance unit (Some ascent) = IsAscentFor instance unit ascent
 
 -- a lawful table, of a scale at most that of the claim where the node has an entry
-pub record IsTableFor (instance : Instance) (claim : Claim) (table : Table) : Type 0 where
+pub record IsTableFor (instance : Instance) (claim : HeldNode) (table : Table) : Type 0 where
   pub lawful : IsLawfulTable instance table
   pub scaled : (limit : ℕ) → claim.unit ≤ limit → IsLaterWithin limit claim.had table
 
 -- an evaluation of the kind of the claim's node at such a table
-pub record IsEvaluatedFor (exact : Bool) (instance : Instance) (claim : Claim) (done : Evaluated) : Type 0 where
+pub record IsEvaluatedFor (exact : Bool) (instance : Instance) (claim : HeldNode) (done : Evaluated) : Type 0 where
   pub table : IsTableFor instance claim done.table
   pub told : IsTrueOutcome exact instance claim.path done.table done.outcome
   pub sized : IsSized done.outcome
 
 -- an exhaustive search has a cell to split the node on, unless each is decided; and the first evaluation of such a node is by the exact dispatch,
 -- where the search uses it, with its schedule
-pub record IsVisitedBy (pivoting : Pivoting) (instance : Instance) (claim : Claim) (visited : Visited) : Type 0 where
+pub record IsVisitedBy (pivoting : Pivoting) (instance : Instance) (claim : HeldNode) (visited : Visited) : Type 0 where
   pub direct : pivoting ≡ Exhaustive → visited.done.cell ≡ None → DecidesEach instance claim.path
   pub exact : uses_exact_dispatch pivoting ≡ true → claim.had ≡ 0 → DecidesEach instance claim.path
       → IsByDispatch instance claim.path (cost_of visited.found) visited.done.table visited.done.outcome

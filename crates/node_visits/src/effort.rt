@@ -28,7 +28,7 @@ const ERRORS: u64 = 1 << 21;
 
 /// How far a repair goes: so many moves, and to a cost that is low enough, in micro-dollars.
 #[derive(Clone, Copy)]
-pub struct Effort {
+pub struct RepairEffort {
     pub moves: u32,
     pub enough: i64,
 }

@@ -8,8 +8,8 @@ mod start;
 mod visit;
 mod worker;
 
-pub use effort::{Effort, enough, moves};
+pub use effort::{RepairEffort, enough, moves};
 pub use pair::beside;
-pub use start::{Start, first_ascent};
+pub use start::{SearchStart, first_ascent};
 pub use visit::{Aim, Visited, evaluated};
 pub use worker::Worker;

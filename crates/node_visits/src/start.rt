@@ -6,14 +6,14 @@ ghost use Rattle.node_visits.specs.Trials.{IsAscentFor};
 
 use dual_model::{Node, Table};
 use opening::Priced;
-use prices::{Ascent, CutPool, Target, Values, next_ascent, zero};
+use prices::{Ascent, CutPool, TriedNode, Values, next_ascent, zero};
 use std::alloc::Global;
 use uc_model::{NoMemory, Printed};
 
 /// The opening's table with its value, the best schedule so far with its cost in micro-dollars, and the ascent to the table of the first
 /// claim, where it was made already.
 #[derive(Drop)]
-pub struct Start {
+pub struct SearchStart {
     pub opening: Priced,
     pub best: Option<(Printed, i64)>,
     pub next: Option<Ascent>,
@@ -40,7 +40,7 @@ pub(crate) fn root_ascent(
     ensures { IfOk result (IsAscentFor values.entry.instance.now 1) }
 {
     let root = Node::root(alloc);
-    let target = Target {
+    let target = TriedNode {
         node: &root,
         had: 1,
         enough: i128::MAX,

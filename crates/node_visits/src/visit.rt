@@ -19,9 +19,9 @@ use claims::{Branching, Hints, split_cell};
 use decided_nodes::{Decided, Pivoting, exact_dispatch};
 use dual_model::{Node, Table};
 use opening::{is_positive, node_ray};
-use prices::{Ascent, CutPool, Target, Values, next_ascent, with_cell, with_ray};
+use prices::{Ascent, CutPool, TriedNode, Values, next_ascent, with_cell, with_ray};
 use schedule_repair::is_small;
-use search_desk::{Claim, Evaluated};
+use search_desk::{Evaluated, HeldNode};
 use std::alloc::Global;
 use uc_model::{Instance, NoMemory, Printed};
 
@@ -97,7 +97,7 @@ impl Trial {
 pub fn evaluated(
     alloc: Global,
     worker: &mut Worker,
-    claim: &Claim,
+    claim: &HeldNode,
     aim: Aim,
     next: &mut Option<Ascent>,
 ) -> Result<Visited, NoMemory>
@@ -147,7 +147,7 @@ struct Search {
 }
 
 // After how many entries the node is split.
-fn branching(claim: &Claim, aim: Aim) -> Branching
+fn branching(claim: &HeldNode, aim: Aim) -> Branching
     ensures { aim.pivoting ≡ Exhaustive → (result.ripe ≡ 0) × (result.late ≡ 0) }
 {
     match (aim.pivoting, claim.node, aim.shared) {
@@ -162,7 +162,7 @@ fn branching(claim: &Claim, aim: Aim) -> Branching
 fn chosen(
     alloc: Global,
     worker: &mut Worker,
-    claim: &Claim,
+    claim: &HeldNode,
     search: Search,
     next: &mut Option<Ascent>,
 ) -> Result<Trial, NoMemory>
@@ -181,7 +181,7 @@ fn chosen(
 fn dispatched(
     alloc: Global,
     instance: &Instance,
-    claim: &Claim,
+    claim: &HeldNode,
     pivoting: Pivoting,
 ) -> Result<Option<Trial>, NoMemory>
     requires { IsHeldClaim instance.now claim.now }
@@ -206,7 +206,7 @@ fn dispatched(
 fn priced(
     alloc: Global,
     worker: &mut Worker,
-    claim: &Claim,
+    claim: &HeldNode,
     search: Search,
     next: &mut Option<Ascent>,
 ) -> Result<Trial, NoMemory>
@@ -229,7 +229,7 @@ fn priced(
 fn ascended(
     alloc: Global,
     worker: &mut Worker,
-    claim: &Claim,
+    claim: &HeldNode,
     search: Search,
     next: &mut Option<Ascent>,
 ) -> Result<Trial, NoMemory>
@@ -253,7 +253,7 @@ fn ascended(
 fn ascended_table(
     alloc: Global,
     worker: &mut Worker,
-    claim: &Claim,
+    claim: &HeldNode,
     ascent: &Ascent,
     exact: bool,
 ) -> Result<Table, NoMemory>
@@ -272,7 +272,7 @@ fn ascended_table(
 fn opening_ray(
     alloc: Global,
     worker: &mut Worker,
-    claim: &Claim,
+    claim: &HeldNode,
     exact: bool,
 ) -> Result<Option<Table>, NoMemory>
     requires { IsHeldClaim worker.old claim.now }
@@ -289,7 +289,7 @@ fn opening_ray(
 fn own_ray(
     alloc: Global,
     worker: &mut Worker,
-    claim: &Claim,
+    claim: &HeldNode,
     ascent: &Ascent,
     exact: bool,
 ) -> Result<Option<Table>, NoMemory>
@@ -313,7 +313,12 @@ fn own_ray(
 
 // The ascent, unless it came so high that the node was pruned: a schedule there is hardly cheaper than the best one. In a small system it is
 // tried all the same.
-fn repairable(claim: &Claim, goal: i128, ascent: Option<Ascent>, is_small: bool) -> Option<Ascent> {
+fn repairable(
+    claim: &HeldNode,
+    goal: i128,
+    ascent: Option<Ascent>,
+    is_small: bool,
+) -> Option<Ascent> {
     match ascent {
         Some(ascent) if is_small || ascent.bound < enough(claim, goal) => Some(ascent),
         _ => None,
@@ -321,7 +326,7 @@ fn repairable(claim: &Claim, goal: i128, ascent: Option<Ascent>, is_small: bool)
 }
 
 // The bound at which an ascent of the claim ends: that at which its node is pruned; but none at the root, whose table all others begin with.
-fn enough(claim: &Claim, goal: i128) -> i128 {
+fn enough(claim: &HeldNode, goal: i128) -> i128 {
     if claim.node == 0 { i128::MAX } else { goal }
 }
 
@@ -330,7 +335,7 @@ fn ascent(
     alloc: Global,
     values: Values,
     pool: &mut CutPool,
-    claim: &Claim,
+    claim: &HeldNode,
     search: Search,
     next: &mut Option<Ascent>,
 ) -> Result<Ascent, NoMemory>
@@ -391,13 +396,13 @@ fn node_ascent(
     alloc: Global,
     values: Values,
     pool: &mut CutPool,
-    claim: &Claim,
+    claim: &HeldNode,
     enough: i128,
 ) -> Result<Ascent, NoMemory>
     requires claim { IsHeldClaim values.instance.now claim.now }
     ensures ascent { IfOk result (IsAscentFor values.entry.instance.now claim.now.unit) }
 {
-    let target = Target {
+    let target = TriedNode {
         node: &claim.path,
         had: claim.unit,
         enough,

@@ -7,7 +7,7 @@ ghost use Rattle.schedule_check.specs.Accepted.{IsAcceptedIfFound};
 ghost use Rattle.opening.specs.Blocked.{HasNoBlockedUnit};
 ghost use Rattle.opening.specs.Rays.{HasNoRay, IsFirstRay};
 
-use crate::effort::{Effort, Idle};
+use crate::effort::{Idle, RepairEffort};
 use crate::pair::beside;
 use opening::{Evaluator, excluding_ray};
 use prices::{Ascent, CutPool, Values};
@@ -112,7 +112,7 @@ impl<'a> Worker<'a> {
         &mut self,
         alloc: Global,
         ascent: &Ascent,
-        effort: Effort,
+        effort: RepairEffort,
     ) -> Result<Option<(Printed, i64)>, NoMemory>
         ensures kept { self.new ≡ self.old }
         ensures accepted { IfOk result (IsAcceptedIfFound self.old) }

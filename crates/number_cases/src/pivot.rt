@@ -12,7 +12,7 @@ use crate::table::put_table;
 use crate::text::whole;
 use dual_model::{Fixing, Node};
 use dual_value::{ValueFault, Valued};
-use pivot_dispatch::{Pivot, best};
+use pivot_dispatch::{DispatchAnswer, best};
 use prices::zero;
 use std::alloc::{AllocError, Global};
 use uc_model::{Instance, List, Pattern, Printed};
@@ -65,7 +65,7 @@ fn node_answer(alloc: Global, instance: &Instance, node: &Node) -> Answer
 }
 
 // The same as it is found, or which unit has no pattern.
-fn node_pivot(alloc: Global, instance: &Instance, node: &Node) -> Result<Pivot, ValueFault>
+fn node_pivot(alloc: Global, instance: &Instance, node: &Node) -> Result<DispatchAnswer, ValueFault>
     requires lawful { IsLawfulInstance instance.now }
     requires node { IsNodeOf instance.now node.now }
 {
@@ -79,7 +79,11 @@ fn node_pivot(alloc: Global, instance: &Instance, node: &Node) -> Result<Pivot, 
 }
 
 // The exact dispatch of the patterns of a value.
-fn pivot_of(alloc: Global, instance: &Instance, valued: Valued) -> Result<Pivot, ValueFault>
+fn pivot_of(
+    alloc: Global,
+    instance: &Instance,
+    valued: Valued,
+) -> Result<DispatchAnswer, ValueFault>
     requires lawful { IsLawfulInstance instance.now }
     requires allowed { AreAllowed instance.now valued.patterns }
 {
@@ -89,17 +93,20 @@ fn pivot_of(alloc: Global, instance: &Instance, valued: Valued) -> Result<Pivot,
 }
 
 // What an exact dispatch answers: a schedule and its prices, a ray, or the limit that is met.
-fn put_pivot(text: &mut String, pivot: &Pivot) -> Result<(), AllocError> {
+fn put_pivot(text: &mut String, pivot: &DispatchAnswer) -> Result<(), AllocError> {
     match pivot {
-        Pivot::Best { schedule, table } => {
+        DispatchAnswer::Best { schedule, table } => {
             put_best(text, schedule)?;
             put_table(text, table)
         }
-        Pivot::Ray(table) => {
+        DispatchAnswer::Ray(table) => {
             text.push_str("ray ")?;
             put_table(text, table)
         }
-        Pivot::Wide { what, pivots, .. } => writeln!(text, "wide {what:?} after {pivots} pivots"),
+        DispatchAnswer::Wide { what, pivots, .. } => writeln!(
+            text,
+            "wide {what:?} after {pivots} pivots"
+        ),
     }
 }
 

@@ -17,9 +17,9 @@ use Rattle.branch_tree.specs.declared.found.Outcome.TheVariants.{Value, Empty}
 use Rattle.search_machine.specs.Prelude.{entries_of}
 use Rattle.dispatch_rules.specs.Prelude.{Pattern, AreAllowed}
 use Rattle.pivot_dispatch.specs.Answers.{IsAnswer}
-use Rattle.pivot_dispatch.specs.declared.pivot.Pivot.{Pivot}
+use Rattle.pivot_dispatch.specs.declared.pivot.DispatchAnswer.{DispatchAnswer}
 use Rattle.pivot_dispatch.specs.Commitments.{IsDecidedAt}
-use Rattle.pivot_dispatch.specs.declared.pivot.Pivot.TheVariants.{Best, Ray, Wide}
+use Rattle.pivot_dispatch.specs.declared.pivot.DispatchAnswer.TheVariants.{Best, Ray, Wide}
 use Rattle.pivot_closing.specs.Pivoted.{GoesOn, IsByAnswer, IsExactFirst, IsPivoted, IsEvaluated, IsWithinReach, IsSpentElse, PivotedSearchesClose, ClosedStatuses}
 use Rattle.pivot_closing.proofs.Decided.{allowed_there, decided_at}
 use Rattle.pivot_closing.proofs.Tolerances.{best_within, ray_positive}
@@ -49,7 +49,7 @@ module _ (instance : Instance) (budget gap : ℕ) (tree : TreeView) (tables : Li
     same_table : (other : Table) → is_table other → IsValueOf exact instance node other v
     same_table other there = subst (λ (t : Table). IsValueOf exact instance node t v) (only other there) is
 
-    by_answer : (patterns : List Pattern) (pivot : Pivot) → IsEvaluated instance tree log patterns → AreAllowed instance patterns
+    by_answer : (patterns : List Pattern) (pivot : DispatchAnswer) → IsEvaluated instance tree log patterns → AreAllowed instance patterns
         → IsDecidedAt instance patterns node → IsAnswer instance patterns pivot → IsByAnswer instance gap is_table goes_on v pivot → ⊥
     by_answer patterns (Best printed other) met allowed decided answer by =
         true≢false (sym (best_within instance patterns lawful allowed printed other answer.1.1.0 reach.regular gap exact node v decided (same_table other by.0)

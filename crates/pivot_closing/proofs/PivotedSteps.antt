@@ -20,8 +20,8 @@ use Rattle.search_machine.proofs.Growth as growth
 use Rattle.search_machine.proofs.Growth.{node_after, open_before, free_before, open_again_only, tree_grows}
 use Rattle.search_machine.proofs.OrderlySteps.{sound_of}
 use Rattle.search_machine.proofs.OwnSteps.{entries_own, entries_same, no_entries}
-use Rattle.pivot_dispatch.specs.declared.pivot.Pivot.{Pivot}
-use Rattle.pivot_dispatch.specs.declared.pivot.Pivot.TheVariants.{Best, Ray as RayAnswer, Wide}
+use Rattle.pivot_dispatch.specs.declared.pivot.DispatchAnswer.{DispatchAnswer}
+use Rattle.pivot_dispatch.specs.declared.pivot.DispatchAnswer.TheVariants.{Best, Ray as RayAnswer, Wide}
 use Rattle.pivot_closing.specs.Pivoted.{Instance, GoesOn, IsByAnswer, IsExactFirst, IsPivoted}
 use Rattle.pivot_closing.specs.PivotedSteps.{IsAgain, IsPivotedCommit, StartsArePivoted, CommitsKeepPivoted}
 use Rattle.decided_nodes.specs.Pivoting.{node_limit}
@@ -42,7 +42,7 @@ starts_are_pivoted instance budget m none = none_pivoted instance budget m.gap m
 
 -- ---- one evaluation
 -- what is said of one is so at other names of its table, where the node goes on less often
-by_answer-map : (instance : Instance) (gap : ℕ) (P Q : Table → Type 0) (G H : Type 0) (v : ℤ) (pivot : Pivot) → ((t : Table) → P t → Q t) → (H → G)
+by_answer-map : (instance : Instance) (gap : ℕ) (P Q : Table → Type 0) (G H : Type 0) (v : ℤ) (pivot : DispatchAnswer) → ((t : Table) → P t → Q t) → (H → G)
     → IsByAnswer instance gap P G v pivot → IsByAnswer instance gap Q H v pivot
 by_answer-map instance gap P Q G H v (Best printed table) more less by = (more table by.0, λ on. by.1 (less on))
 by_answer-map instance gap P Q G H v (RayAnswer table) more less by = (more table by.0, λ on. by.1 (less on))

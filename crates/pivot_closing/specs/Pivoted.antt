@@ -15,9 +15,9 @@ use Rattle.search_machine.specs.Prelude.{entries_of, bound_of}
 use Rattle.dispatch_rules.specs.Prelude.{Pattern}
 use Rattle.decided_nodes.specs.Decided.{ArePatternsAt}
 use Rattle.pivot_dispatch.specs.Answers.{IsAnswer}
-use Rattle.pivot_dispatch.specs.declared.pivot.Pivot.{Pivot}
-use Rattle.pivot_dispatch.specs.declared.pivot.What.{What}
-use Rattle.pivot_dispatch.specs.declared.pivot.Pivot.TheVariants.{Best, Ray, Wide}
+use Rattle.pivot_dispatch.specs.declared.pivot.DispatchAnswer.{DispatchAnswer}
+use Rattle.pivot_dispatch.specs.declared.pivot.WideCause.{WideCause}
+use Rattle.pivot_dispatch.specs.declared.pivot.DispatchAnswer.TheVariants.{Best, Ray, Wide}
 use Rattle.decided_nodes.specs.Pivoting.{cell_count, node_limit}
 pub use Rattle.uc_model.specs.declared.instance.Instance.{Instance}
 
@@ -28,7 +28,7 @@ GoesOn tree number later = (0 < length later) ⊎ IsOpenAt tree.nodes number
 
 -- an evaluation of value v is at the table of the exact dispatch's answer, and the node goes on only where this doesn't close it: where the cost that
 -- is printed isn't within the gap of the bound, or the ray's value isn't above 0. An answer Wide says nothing
-abbrev pub IsByAnswer : Instance → ℕ → (Table → Type 0) → Type 0 → ℤ → Pivot → Type 0
+abbrev pub IsByAnswer : Instance → ℕ → (Table → Type 0) → Type 0 → ℤ → DispatchAnswer → Type 0
 IsByAnswer instance gap is_table goes_on v (Best printed table) =
     is_table table × (goes_on → is_within_gap (printed_cost instance printed) (Some (bound_of v table.k)) gap ≡ false)
 IsByAnswer instance gap is_table goes_on v (Ray table) = is_table table × (goes_on → ¬ (pos 0 <ℤ v))
@@ -39,7 +39,7 @@ abbrev pub IsExactFirst : Instance → ℕ → (Table → Type 0) → Node → T
 IsExactFirst instance gap is_table node goes_on (Value v) =
     (patterns : List Pattern)
     × (ArePatternsAt instance node patterns
-    × ((pivot : Pivot) × (IsAnswer instance patterns pivot × IsByAnswer instance gap is_table goes_on v pivot)))
+    × ((pivot : DispatchAnswer) × (IsAnswer instance patterns pivot × IsByAnswer instance gap is_table goes_on v pivot)))
 IsExactFirst instance gap is_table node goes_on (Empty g) = ¬ goes_on
 
 -- ---- the log
@@ -71,7 +71,7 @@ pub record IsEvaluated (instance : Instance) (tree : TreeView) (log : List Entry
 pub record IsWithinReach (instance : Instance) (budget gap : ℕ) (tree : TreeView) (log : List Entry) : Type 0 where
   pub enough : node_limit instance ≤ budget
   pub regular : (g : ℕ) → g < thermal_count instance → AreStartsRegular (thermal_unit instance g)
-  pub none_wide : (patterns : List Pattern) (what : What) (size other : ℤ) (pivots : ℕ) → IsEvaluated instance tree log patterns
+  pub none_wide : (patterns : List Pattern) (what : WideCause) (size other : ℤ) (pivots : ℕ) → IsEvaluated instance tree log patterns
       → ¬ IsAnswer instance patterns (Wide what size other pivots)
   pub tolerances : (patterns : List Pattern) (printed : Printed) (table : Table) → IsEvaluated instance tree log patterns
       → IsAnswer instance patterns (Best printed table) → rounding_limit instance ≤ tolerance_of (printed_cost instance printed) gap

@@ -18,10 +18,10 @@ use Rattle.dispatch_prices.proofs.TimesBy.{limit_is}
 use Rattle.dispatch_schedule.specs.ColumnValues.{DenominatorForms}
 use Rattle.dispatch_schedule.specs.ShownSchedules.{IsCheapestEnd, IsShown}
 use Rattle.dispatch_schedule.specs.declared.shown.Shown.TheVariants.{Schedule as ScheduleOf, Fine as FineOf}
-use Rattle.pivot_dispatch.specs.Answers.{BestForms, EndingForms, HasLargePrice, IsAnswer, IsAnswerOf, IsLargePrice, MeetsNone, Pivot, TableScaleForms, cost_row, sum_row}
+use Rattle.pivot_dispatch.specs.Answers.{BestForms, EndingForms, HasLargePrice, IsAnswer, IsAnswerOf, IsLargePrice, MeetsNone, DispatchAnswer, TableScaleForms, cost_row, sum_row}
 use Rattle.pivot_dispatch.specs.Commitments.{IsBestOf, IsRayOf, Printed}
-use Rattle.pivot_dispatch.specs.declared.pivot.Pivot.TheVariants.{Best, Ray, Wide}
-use Rattle.pivot_dispatch.specs.declared.pivot.What.TheVariants.{Product, Scale, Denominator}
+use Rattle.pivot_dispatch.specs.declared.pivot.DispatchAnswer.TheVariants.{Best, Ray, Wide}
+use Rattle.pivot_dispatch.specs.declared.pivot.WideCause.TheVariants.{Product, Scale, Denominator}
 use Rattle.pivot_dispatch.specs.inside.Endings.{Ending, IsEndedBy, IsPricedBy, Tells}
 use Rattle.pivot_dispatch.proofs.Commitments.{ray_of, best_of}
 use Rattle.pivot_dispatch.proofs.Tables.{sum_scale}
@@ -42,7 +42,7 @@ module _ (end : Ending) (task : Task) (ended : IsEndedBy end task) where
       absurd (omega arith)
 
   -- the answer of the task is that of the commitment
-  answers : (answer pivot : Pivot) → pivot ≡ answer → IsAnswerOf end.instance.now end.patterns.now task answer → IsAnswer end.instance.now end.patterns.now pivot
+  answers : (answer pivot : DispatchAnswer) → pivot ≡ answer → IsAnswerOf end.instance.now end.patterns.now task answer → IsAnswer end.instance.now end.patterns.now pivot
   answers answer pivot same of = (task, (ended.of, subst (IsAnswerOf end.instance.now end.patterns.now task) (sym same) of))
 
   -- ---- a row without prices
@@ -50,7 +50,7 @@ module _ (end : Ending) (task : Task) (ended : IsEndedBy end task) where
   large_price row z large =
       (large.0, (large.1, (sym (ap is_priced (limit_is task end.last.now.limits.items ended.limits large.0)) ∙ large.2, (large.3, large.4))))
 
-  unpriced_is : (row : List ℤ) (unfit : Unfit) (pivot : Pivot) → ((a b : ℤ) → ReadingForms (program task) row a b → EndingForms task t a b)
+  unpriced_is : (row : List ℤ) (unfit : Unfit) (pivot : DispatchAnswer) → ((a b : ℤ) → ReadingForms (program task) row a b → EndingForms task t a b)
       → ((z : ℤ) → IsLargePrice task row z → HasLargePrice task t z)
       → IsUnfit (program task) end.last.now.limits.items row unfit → Tells unfit end.pivots pivot → IsAnswer end.instance.now end.patterns.now pivot
   unpriced_is row (ProductOf wide) pivot forms prices unfit tells =
@@ -59,13 +59,13 @@ module _ (end : Ending) (task : Task) (ended : IsEndedBy end task) where
       answers _ pivot tells (refl, (t, (ended.ends, prices z (large_price row z unfit))))
   unpriced_is row NoMemory pivot forms prices unfit tells = absurd tells
 
-  pub unpriced_sum : (row : List ℤ) (unfit : Unfit) (pivot : Pivot) → SumIsLeft (program task) t → row ≡ sum_row task t
+  pub unpriced_sum : (row : List ℤ) (unfit : Unfit) (pivot : DispatchAnswer) → SumIsLeft (program task) t → row ≡ sum_row task t
       → IsUnfit (program task) end.last.now.limits.items row unfit → Tells unfit end.pivots pivot → IsAnswer end.instance.now end.patterns.now pivot
   unpriced_sum row unfit pivot left same =
       unpriced_is row unfit pivot (λ a b forms. inl (left, subst (λ r. ReadingForms (program task) r a b) same forms))
       (λ z large. inl (left, subst (λ r. IsLargePrice task r z) same large))
 
-  pub unpriced_cost : (row : List ℤ) (unfit : Unfit) (pivot : Pivot) → IsCheapest (program task) t → row ≡ cost_row task t
+  pub unpriced_cost : (row : List ℤ) (unfit : Unfit) (pivot : DispatchAnswer) → IsCheapest (program task) t → row ≡ cost_row task t
       → IsUnfit (program task) end.last.now.limits.items row unfit → Tells unfit end.pivots pivot → IsAnswer end.instance.now end.patterns.now pivot
   unpriced_cost row unfit pivot cheapest same =
       unpriced_is row unfit pivot (λ a b forms. inr (cheapest, inl (subst (λ r. ReadingForms (program task) r a b) same forms)))
@@ -137,12 +137,12 @@ module _ (end : Ending) (task : Task) (ended : IsEndedBy end task) where
     pub cheapest_end : (amounts_of : List Amount) → amounts_of ≡ end.last.now.amounts.items → IsCheapestEnd end.instance.now end.patterns.now amounts_of t task
     cheapest_end amounts_of same = record { of = ended.of; is = ended.is; reached = table_reached end task ended; cheapest = cheapest; amounts = same ∙ ended.amounts }
 
-    pub fine_is : (z : ℤ) (pivot : Pivot) → IsShown task t (FineOf z) → pivot ≡ Wide Denominator z (pos 0) end.pivots → IsAnswer end.instance.now end.patterns.now pivot
+    pub fine_is : (z : ℤ) (pivot : DispatchAnswer) → IsShown task t (FineOf z) → pivot ≡ Wide Denominator z (pos 0) end.pivots → IsAnswer end.instance.now end.patterns.now pivot
     fine_is z pivot shown same = answers _ pivot same (refl, (t, (ended.ends, (cheapest, (shown.0, shown.1)))))
 
-  pub wide_is : (a b : ℤ) (pivot : Pivot) → EndingForms task t a b → IsWide a b → pivot ≡ Wide Product a b end.pivots → IsAnswer end.instance.now end.patterns.now pivot
+  pub wide_is : (a b : ℤ) (pivot : DispatchAnswer) → EndingForms task t a b → IsWide a b → pivot ≡ Wide Product a b end.pivots → IsAnswer end.instance.now end.patterns.now pivot
   wide_is a b pivot forms wide same = answers _ pivot same (wide, inr (inr (t, (ended.ends, forms))))
 
-  pub large_scale : (k : ℤ) (pivot : Pivot) → IsCheapest (program task) t → k ≡ scale_of task (cost_row task t) → pos 1000000000 <ℤ k
+  pub large_scale : (k : ℤ) (pivot : DispatchAnswer) → IsCheapest (program task) t → k ≡ scale_of task (cost_row task t) → pos 1000000000 <ℤ k
       → pivot ≡ Wide Scale k (pos 0) end.pivots → IsAnswer end.instance.now end.patterns.now pivot
   large_scale k pivot cheapest scale large same = answers _ pivot same (refl, (t, (ended.ends, (cheapest, (scale, large)))))

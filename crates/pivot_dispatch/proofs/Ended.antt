@@ -17,7 +17,7 @@ use Rattle.dispatch_program.proofs.Starts.{rows_long}
 use Rattle.dispatch_rules.specs.Prelude.{AreAllowed, commitment_at, limit_of, Task, limits, program, cost_times, HasRoom}
 use Rattle.dispatch_rules.proofs.Going.{runs_end_last}
 use Rattle.dispatch_prices.specs.Dispatched.{IsAllowedTask}
-use Rattle.dispatch_prices.specs.declared.multipliers.End.{End}
+use Rattle.dispatch_prices.specs.declared.multipliers.FinalTableau.{FinalTableau}
 use Rattle.dispatch_prices.specs.Readings.{IsEndAt}
 use Rattle.pivot_dispatch.specs.Answers.{cost_row}
 use Rattle.pivot_dispatch.specs.inside.Endings.{Ending, IsEndedBy, leaves_sum}
@@ -111,7 +111,7 @@ module _ (end : Ending) (task : Task) (ended : IsEndedBy end task) where
 
   -- ---- the table
   -- it is the end of a run
-  pub end_is : (at : End) → at.table.now ≡ t → at.unknowns ≡ length end.last.now.amounts.items → at.limits.now ≡ end.last.now.limits.items
+  pub end_is : (at : FinalTableau) → at.table.now ≡ t → at.unknowns ≡ length end.last.now.amounts.items → at.limits.now ≡ end.last.now.limits.items
       → at.rights.now ≡ end.last.now.rights.items → IsEndAt task at
   end_is at table unknowns listed rights = record {
     unknowns_are = unknowns ∙ ap length ended.amounts;

@@ -10,10 +10,10 @@ use Rattle.dispatch_rules.specs.Prelude.{IsTaskOf, MakingForms, Task, limit_at, 
 use Rattle.dispatch_prices.specs.ReadOff.{ReadingForms, is_priced}
 use Rattle.dispatch_schedule.specs.ColumnValues.{DenominatorForms, schedule_denominator}
 use Rattle.pivot_dispatch.specs.Commitments.{Instance, Pattern, IsBestOf, IsRayOf}
-pub use Rattle.pivot_dispatch.specs.declared.pivot.Pivot.{Pivot}
-pub use Rattle.pivot_dispatch.specs.declared.pivot.What.{What}
-use Rattle.pivot_dispatch.specs.declared.pivot.Pivot.TheVariants.{Best, Ray, Wide}
-use Rattle.pivot_dispatch.specs.declared.pivot.What.TheVariants.{Product, Multiplier, Scale, Denominator, Pivots}
+pub use Rattle.pivot_dispatch.specs.declared.pivot.DispatchAnswer.{DispatchAnswer}
+pub use Rattle.pivot_dispatch.specs.declared.pivot.WideCause.{WideCause}
+use Rattle.pivot_dispatch.specs.declared.pivot.DispatchAnswer.TheVariants.{Best, Ray, Wide}
+use Rattle.pivot_dispatch.specs.declared.pivot.WideCause.TheVariants.{Product, Multiplier, Scale, Denominator, Pivots}
 
 -- ---- the run
 -- the run from the start of the commitment's table makes n pivots by small products
@@ -59,7 +59,7 @@ HasLargePrice task t z =
     (SumIsLeft (program task) t × IsLargePrice task (sum_row task t) z) ⊎ (IsCheapest (program task) t × IsLargePrice task (cost_row task t) z)
 
 -- replaying the run for so many pivots gives the number `size` that meets the limit
-abbrev pub IsMetBy : Task → What → ℤ → ℤ → ℕ → Type 0
+abbrev pub IsMetBy : Task → WideCause → ℤ → ℤ → ℕ → Type 0
 IsMetBy task Product size other pivots =
     IsWide size other
     × ((MakingForms task size other × (pivots ≡ 0))
@@ -82,7 +82,7 @@ pub record MeetsNone (task : Task) (n : ℕ) (t : tables.Table) : Type 0 where
   pub prices : (z : ℤ) → HasLargePrice task t z → ⊥
 
 -- ---- the answers
-abbrev pub IsAnswerOf : Instance → List Pattern → Task → Pivot → Type 0
+abbrev pub IsAnswerOf : Instance → List Pattern → Task → DispatchAnswer → Type 0
 IsAnswerOf instance patterns task (Best printed table) =
     IsBestOf instance patterns printed table
     × ((n : ℕ) × ((t : tables.Table) × (MeetsNone task n t × (IsCheapest (program task) t
@@ -92,5 +92,5 @@ IsAnswerOf instance patterns task (Ray table) =
 IsAnswerOf instance patterns task (Wide what size other pivots) = IsMetBy task what size other pivots
 
 -- the answer is that of the commitment's task
-abbrev pub IsAnswer : Instance → List Pattern → Pivot → Type 0
+abbrev pub IsAnswer : Instance → List Pattern → DispatchAnswer → Type 0
 IsAnswer instance patterns pivot = (task : Task) × (IsTaskOf instance patterns task × IsAnswerOf instance patterns task pivot)

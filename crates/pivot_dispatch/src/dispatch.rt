@@ -7,7 +7,7 @@ ghost use Rattle.dispatch_table.specs.declared.made.Made.TheVariants.{Start as S
 ghost use Rattle.pivot_dispatch.specs.Answers.{IsAnswer};
 
 use crate::ending::Ending;
-use crate::pivot::Pivot;
+use crate::pivot::DispatchAnswer;
 use dispatch_table::{Made, Start, start};
 use pivot_run::{Halt, run};
 use std::alloc::Global;
@@ -15,14 +15,18 @@ use uc_model::{Instance, NoMemory, Pattern};
 
 /// The cheapest schedule of a commitment, which has a pattern for each thermal unit, with a table of prices that bounds its cost exactly; or a
 /// ray that excludes the commitment; or the number that meets a limit. It answers `NoMemory` only where memory is refused.
-pub fn best(alloc: Global, instance: &Instance, patterns: &[Pattern]) -> Result<Pivot, NoMemory>
+pub fn best(
+    alloc: Global,
+    instance: &Instance,
+    patterns: &[Pattern],
+) -> Result<DispatchAnswer, NoMemory>
     requires lawful { IsLawfulInstance instance.now }
     requires allowed { AreAllowed instance.now patterns.now }
     ensures { IfOk result (IsAnswer instance.now patterns.now) }
 {
     match start(alloc, instance, patterns)? {
         Made::Start(start) => pivoted(alloc, instance, patterns, start),
-        Made::Wide(wide) => Ok(Pivot::too_large(&wide, 0)),
+        Made::Wide(wide) => Ok(DispatchAnswer::too_large(&wide, 0)),
     }
 }
 
@@ -32,7 +36,7 @@ fn pivoted(
     instance: &Instance,
     patterns: &[Pattern],
     start: Start,
-) -> Result<Pivot, NoMemory>
+) -> Result<DispatchAnswer, NoMemory>
     requires lawful { IsLawfulInstance instance.now }
     requires allowed { AreAllowed instance.now patterns.now }
     requires start { IsMade instance.now patterns.now (StartOf start) }
@@ -49,7 +53,7 @@ fn pivoted(
             };
             ending.answer(alloc)
         }
-        Err(Halt::Met(stop)) => Ok(Pivot::stopped(&stop)),
+        Err(Halt::Met(stop)) => Ok(DispatchAnswer::stopped(&stop)),
         Err(Halt::NoMemory) => Err(NoMemory),
     }
 }

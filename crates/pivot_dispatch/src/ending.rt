@@ -6,8 +6,8 @@ ghost use Rattle.dispatch_rules.specs.Prelude.{AreAllowed, Task, scale_of};
 ghost use Rattle.pivot_dispatch.specs.Answers.{IsAnswer, TableScaleForms, cost_row};
 ghost use Rattle.pivot_dispatch.specs.inside.Endings.{IsEnded, IsEndedBy, IsPricedBy, Tells, leaves_sum};
 
-use crate::pivot::{Pivot, What};
-use dispatch_prices::{End, Unfit};
+use crate::pivot::{DispatchAnswer, WideCause};
+use dispatch_prices::{FinalTableau, Unfit};
 use dispatch_schedule::{Shown, schedule};
 use dispatch_table::Start;
 use dual_model::Table;
@@ -29,7 +29,7 @@ pub(crate) struct Ending<'a> {
 
 impl Ending<'_> {
     /// What it gives.
-    pub(crate) fn answer(&self, alloc: Global) -> Result<Pivot, NoMemory>
+    pub(crate) fn answer(&self, alloc: Global) -> Result<DispatchAnswer, NoMemory>
         requires lawful { IsLawfulInstance self.now.instance.now }
         requires allowed { AreAllowed self.now.instance.now self.now.patterns.now }
         requires ended { IsEnded self.now }
@@ -43,7 +43,7 @@ impl Ending<'_> {
     }
 
     // The ray, where a sum is left.
-    fn ray(&self, alloc: Global) -> Result<Pivot, NoMemory>
+    fn ray(&self, alloc: Global) -> Result<DispatchAnswer, NoMemory>
         requires lawful { IsLawfulInstance self.now.instance.now }
         requires allowed { AreAllowed self.now.instance.now self.now.patterns.now }
         requires ended { IsEnded self.now }
@@ -54,13 +54,13 @@ impl Ending<'_> {
             .end()
             .prices(alloc, self.instance, self.last.limits.len(), 0)
         {
-            Ok(table) => Ok(Pivot::Ray(table)),
+            Ok(table) => Ok(DispatchAnswer::Ray(table)),
             Err(unfit) => self.unpriced(&unfit),
         }
     }
 
     // The cheapest schedule and its prices, where none is left.
-    fn cheapest(&self, alloc: Global) -> Result<Pivot, NoMemory>
+    fn cheapest(&self, alloc: Global) -> Result<DispatchAnswer, NoMemory>
         requires lawful { IsLawfulInstance self.now.instance.now }
         requires allowed { AreAllowed self.now.instance.now self.now.patterns.now }
         requires ended { IsEnded self.now }
@@ -69,12 +69,12 @@ impl Ending<'_> {
     {
         match self.scale() {
             Ok(k) => self.priced(alloc, k),
-            Err(wide) => Ok(Pivot::too_large(&wide, self.pivots)),
+            Err(wide) => Ok(DispatchAnswer::too_large(&wide, self.pivots)),
         }
     }
 
     // The same, at the scale of the prices. A price that is too large is told before a scale that is.
-    fn priced(&self, alloc: Global, k: i128) -> Result<Pivot, NoMemory>
+    fn priced(&self, alloc: Global, k: i128) -> Result<DispatchAnswer, NoMemory>
         requires lawful { IsLawfulInstance self.now.instance.now }
         requires allowed { AreAllowed self.now.instance.now self.now.patterns.now }
         requires ended { IsEnded self.now }
@@ -91,7 +91,7 @@ impl Ending<'_> {
     }
 
     // The same, with the prices, whose scale is within its limit where that of the row is.
-    fn scaled(&self, alloc: Global, table: Table, k: i128) -> Result<Pivot, NoMemory>
+    fn scaled(&self, alloc: Global, table: Table, k: i128) -> Result<DispatchAnswer, NoMemory>
         requires lawful { IsLawfulInstance self.now.instance.now }
         requires allowed { AreAllowed self.now.instance.now self.now.patterns.now }
         requires ended { IsEnded self.now }
@@ -103,12 +103,12 @@ impl Ending<'_> {
         if k <= MAX_SCALE {
             self.shown(alloc, table)
         } else {
-            Ok(Pivot::met(What::Scale, k, self.pivots))
+            Ok(DispatchAnswer::met(WideCause::Scale, k, self.pivots))
         }
     }
 
     // The same, with the prices.
-    fn shown(&self, alloc: Global, table: Table) -> Result<Pivot, NoMemory>
+    fn shown(&self, alloc: Global, table: Table) -> Result<DispatchAnswer, NoMemory>
         requires lawful { IsLawfulInstance self.now.instance.now }
         requires allowed { AreAllowed self.now.instance.now self.now.patterns.now }
         requires ended { IsEnded self.now }
@@ -124,21 +124,21 @@ impl Ending<'_> {
             &last.table,
             &last.amounts,
         )? {
-            Shown::Schedule(schedule) => Ok(Pivot::Best { schedule, table }),
-            Shown::Fine(size) => Ok(Pivot::met(What::Denominator, size, self.pivots)),
-            Shown::Wide(wide) => Ok(Pivot::too_large(&wide, self.pivots)),
+            Shown::Schedule(schedule) => Ok(DispatchAnswer::Best { schedule, table }),
+            Shown::Fine(size) => Ok(DispatchAnswer::met(WideCause::Denominator, size, self.pivots)),
+            Shown::Wide(wide) => Ok(DispatchAnswer::too_large(&wide, self.pivots)),
         }
     }
 
     // The table with what its columns and rows stand for.
-    fn end(&self) -> End<'_>
+    fn end(&self) -> FinalTableau<'_>
         ensures table { result.table.now ≡ self.now.last.now.table }
         ensures unknowns { result.unknowns ≡ length self.now.last.now.amounts.items }
         ensures limits { result.limits.now ≡ self.now.last.now.limits.items }
         ensures rights { result.rights.now ≡ self.now.last.now.rights.items }
     {
         let last = self.last;
-        End {
+        FinalTableau {
             table: &last.table,
             unknowns: last.amounts.len(),
             limits: &last.limits,
@@ -161,12 +161,16 @@ impl Ending<'_> {
     }
 
     // The answer where a row gives no prices.
-    fn unpriced(&self, unfit: &Unfit) -> Result<Pivot, NoMemory>
+    fn unpriced(&self, unfit: &Unfit) -> Result<DispatchAnswer, NoMemory>
         ensures { IfOk result (Tells unfit.now self.now.pivots) }
     {
         match *unfit {
-            Unfit::Product(wide) => Ok(Pivot::too_large(&wide, self.pivots)),
-            Unfit::Multiplier(size) => Ok(Pivot::met(What::Multiplier, size, self.pivots)),
+            Unfit::Product(wide) => Ok(DispatchAnswer::too_large(&wide, self.pivots)),
+            Unfit::Multiplier(size) => Ok(DispatchAnswer::met(
+                WideCause::Multiplier,
+                size,
+                self.pivots,
+            )),
             Unfit::NoMemory => Err(NoMemory),
         }
     }

@@ -7,4 +7,4 @@ mod ending;
 mod pivot;
 
 pub use dispatch::best;
-pub use pivot::{Pivot, What};
+pub use pivot::{DispatchAnswer, WideCause};

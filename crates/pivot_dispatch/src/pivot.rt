@@ -2,8 +2,8 @@
 
 ghost use Rattle.std.specs.Prelude.{◌≡◌, pos};
 ghost use Rattle.pivot_dispatch.specs.inside.Endings.{IsStopped};
-ghost use Rattle.pivot_dispatch.specs.declared.pivot.Pivot.TheVariants.{Wide as WideOf};
-ghost use Rattle.pivot_dispatch.specs.declared.pivot.What.TheVariants.{Product};
+ghost use Rattle.pivot_dispatch.specs.declared.pivot.DispatchAnswer.TheVariants.{Wide as WideOf};
+ghost use Rattle.pivot_dispatch.specs.declared.pivot.WideCause.TheVariants.{Product};
 
 use dual_model::Table;
 use pivot_run::{Stop, Wide};
@@ -11,7 +11,7 @@ use uc_model::Printed;
 
 /// The limit that a run meets.
 #[derive(Debug, Clone, Copy, PartialEq, Eq)]
-pub enum What {
+pub enum WideCause {
     /// A product of 2^126 or more in size.
     Product,
     /// A multiplier above 10^14 in size.
@@ -26,7 +26,7 @@ pub enum What {
 
 /// The exact dispatch of a commitment.
 #[derive(Debug, Drop)]
-pub enum Pivot {
+pub enum DispatchAnswer {
     /// A cheapest schedule of the commitment, and a table of prices whose value, with the commitment decided, is K times its cost.
     Best {
         schedule: Printed,
@@ -36,20 +36,20 @@ pub enum Pivot {
     Ray(Table),
     /// The number `size` that meets a limit after so many pivots; of a product the other factor is `other`, which is 0 else.
     Wide {
-        what: What,
+        what: WideCause,
         size: i128,
         other: i128,
         pivots: u32,
     },
 }
 
-impl Pivot {
+impl DispatchAnswer {
     // The answer where a product is too large.
-    pub(crate) fn too_large(wide: &Wide, pivots: u32) -> Pivot
+    pub(crate) fn too_large(wide: &Wide, pivots: u32) -> DispatchAnswer
         ensures { result ≡ WideOf Product wide.now.size wide.now.other pivots }
     {
-        Pivot::Wide {
-            what: What::Product,
+        DispatchAnswer::Wide {
+            what: WideCause::Product,
             size: wide.size,
             other: wide.other,
             pivots,
@@ -57,10 +57,10 @@ impl Pivot {
     }
 
     // The answer where another number is.
-    pub(crate) fn met(what: What, size: i128, pivots: u32) -> Pivot
+    pub(crate) fn met(what: WideCause, size: i128, pivots: u32) -> DispatchAnswer
         ensures { result ≡ WideOf what size (pos 0) pivots }
     {
-        Pivot::Wide {
+        DispatchAnswer::Wide {
             what,
             size,
             other: 0,
@@ -69,14 +69,14 @@ impl Pivot {
     }
 
     // The answer where the run stops.
-    pub(crate) fn stopped(stop: &Stop) -> Pivot
+    pub(crate) fn stopped(stop: &Stop) -> DispatchAnswer
         ensures { IsStopped stop.now result }
     {
         let what = match stop.what {
-            pivot_run::What::Product => What::Product,
-            pivot_run::What::Pivots => What::Pivots,
+            pivot_run::StopCause::Product => WideCause::Product,
+            pivot_run::StopCause::Pivots => WideCause::Pivots,
         };
-        Pivot::Wide {
+        DispatchAnswer::Wide {
             what,
             size: stop.size,
             other: stop.other,

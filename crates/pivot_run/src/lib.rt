@@ -26,7 +26,7 @@ pub use numbers::{common_divisor, quotient};
 pub use pivots::MAX_PIVOTS;
 pub use row::Row;
 pub use stages::run;
-pub use stop::{Stop, What};
+pub use stop::{Stop, StopCause};
 pub use tableau::Tableau;
 pub use target::Target;
 pub use wide::{Wide, product};

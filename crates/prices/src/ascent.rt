@@ -7,10 +7,10 @@ ghost use Rattle.dual_model.specs.Prelude.{IsNodeOf, IsLawfulTable, IsLawfulScal
 use crate::merit::merit_prices;
 use crate::pool::CutPool;
 use crate::price_list::{push_ramp_prices, table_of};
-use bundle::{Bundle, Cut, Move, WHOLE, times, word};
+use bundle::{Bundle, Cut, PriceStep, WHOLE, times, word};
 use dual_model::{Node, Table};
 use opening_tables::SCALE;
-use quick_value::{Caps, Decisions, Evaluation, Evaluator};
+use quick_value::{Caps, Decisions, Evaluation, QuickEvaluator};
 use std::alloc::Global;
 use std::mem;
 use uc_model::{Instance, NoMemory, Thermal};
@@ -40,7 +40,7 @@ const RISE_BY_TABLE: i128 = 400;
 const LEAST_SIZE: i128 = 4;
 
 /// The effort of an ascent where nothing costs anything.
-const RAY_EFFORT: Effort = Effort {
+const RAY_EFFORT: AscentEffort = AscentEffort {
     evaluations: 150,
     enough: i128::MAX,
 };
@@ -55,7 +55,7 @@ pub struct Values<'a> {
 
 /// After how many evaluations an ascent ends, and at what it takes the bound for, in micro-dollars.
 #[derive(Clone, Copy)]
-pub struct Effort {
+pub struct AscentEffort {
     pub evaluations: u32,
     pub enough: i128,
 }
@@ -64,7 +64,7 @@ pub struct Effort {
 #[derive(Clone, Copy)]
 pub struct Plan<'a> {
     pub node: &'a Node,
-    pub effort: Effort,
+    pub effort: AscentEffort,
     pub scale: i64,
 }
 
@@ -92,17 +92,17 @@ struct Center {
     bundle: Bundle,
     nulls: u32,
     shares: Vec<i64>,
-    effort: Effort,
+    effort: AscentEffort,
     stalls: u32,
 }
 
 /// Where an ascent starts: prices at the scale `SCALE`, the part of the value by which its first step is to raise it, its effort,
 /// whether it keeps more cuts, and the place of a price that is held where it is.
 #[derive(Drop)]
-pub(crate) struct Start {
+pub(crate) struct AscentStart {
     pub prices: Vec<i64>,
     pub part: i128,
-    pub effort: Effort,
+    pub effort: AscentEffort,
     pub keeps_more: bool,
     pub held: Option<usize>,
 }
@@ -153,7 +153,7 @@ impl Sizes {
     }
 
     // Above which value an ascent with this effort ends.
-    fn enough(self, effort: Effort) -> i128 {
+    fn enough(self, effort: AscentEffort) -> i128 {
         effort
             .enough
             .saturating_mul(i128::from(SCALE))
@@ -170,7 +170,7 @@ impl Sizes {
 /// prices; and how large the values are.
 #[derive(Drop)]
 pub(crate) struct Hill {
-    pub evaluator: Evaluator,
+    pub evaluator: QuickEvaluator,
     pub decisions: Decisions,
     pub ramped: Vec<u32>,
     pub sizes: Sizes,
@@ -181,7 +181,7 @@ impl Hill {
     fn of(alloc: Global, values: Values, node: &Node) -> Result<Hill, NoMemory>
         requires { IsLawfulInstance values.instance.now }
     {
-        let evaluator = Evaluator::new(alloc, values.instance)?;
+        let evaluator = QuickEvaluator::new(alloc, values.instance)?;
         hill_of(alloc, values, node, evaluator, Sizes::of(values.instance))
     }
 
@@ -189,7 +189,7 @@ impl Hill {
     fn without_costs(alloc: Global, values: Values, node: &Node) -> Result<Hill, NoMemory>
         requires { IsLawfulInstance values.instance.now }
     {
-        let evaluator = Evaluator::without_costs(alloc, values.instance)?;
+        let evaluator = QuickEvaluator::without_costs(alloc, values.instance)?;
         let sizes = Sizes::without_costs(values.instance);
         hill_of(alloc, values, node, evaluator, sizes)
     }
@@ -211,7 +211,7 @@ pub(crate) fn hill_of(
     alloc: Global,
     values: Values,
     node: &Node,
-    mut evaluator: Evaluator,
+    mut evaluator: QuickEvaluator,
     sizes: Sizes,
 ) -> Result<Hill, NoMemory> {
     if values.exact {
@@ -277,7 +277,7 @@ pub fn ascend(
     ensures ray_scale { IfOk result (λ ascent. IfSome ascent.ray (λ ray. ray.k ≡ pos 0)) }
 {
     let mut hill = Hill::of(alloc, values, plan.node)?;
-    let start = Start {
+    let start = AscentStart {
         prices: first_prices(alloc, values.instance, table, &hill)?,
         part: first_part(table),
         effort: plan.effort,
@@ -332,7 +332,7 @@ fn keep_ray(
     ensures ray { OnOk result (IfSome sought.new.ray (IsLawfulTable instance.now)) }
     ensures ray_scale { OnOk result (IfSome sought.new.ray (λ ray. ray.k ≡ pos 0)) }
 {
-    let start = Start {
+    let start = AscentStart {
         prices: no_prices(alloc, instance, &hill.ramped)?,
         part: RISE_BY_MERIT,
         effort: RAY_EFFORT,
@@ -357,7 +357,7 @@ pub(crate) fn top_from(
     hill: &mut Hill,
     instance: &Instance,
     pool: &mut CutPool,
-    start: Start,
+    start: AscentStart,
 ) -> Result<Top, NoMemory> {
     let Some(first) = hill.evaluate(instance, &start.prices, Evaluation::empty(alloc))? else {
         return Ok(Top {
@@ -567,7 +567,7 @@ fn bundle_for(
     alloc: Global,
     instance: &Instance,
     hill: &Hill,
-    start: &Start,
+    start: &AscentStart,
 ) -> Result<Bundle, NoMemory> {
     let mut bundle = Bundle::of(alloc, instance, &hill.ramped)?;
     let caps = hill.evaluator.caps;
@@ -585,11 +585,11 @@ fn bundle_for(
 fn begin(
     alloc: Global,
     mut bundle: Bundle,
-    start: Start,
+    start: AscentStart,
     first: Evaluation,
     rise: i128,
 ) -> Result<Center, NoMemory> {
-    let Start { prices, effort, .. } = start;
+    let AscentStart { prices, effort, .. } = start;
     let value = first.value;
     let cut = cut(&bundle, first, WHOLE);
     bundle.begin(alloc, cut, rise)?;
@@ -623,7 +623,7 @@ fn take(
     pool: &mut CutPool,
     center: &mut Center,
     found: Evaluation,
-    step: &Move,
+    step: &PriceStep,
 ) -> Result<(), NoMemory> {
     let value = found.value;
     let gain = value.saturating_sub(center.value);

@@ -9,8 +9,8 @@ mod price_list;
 mod steps;
 mod tight;
 
-pub use ascent::{Ascent, Effort, Plan, Values, ascend, with_ray};
+pub use ascent::{Ascent, AscentEffort, Plan, Values, ascend, with_ray};
 pub use opening_tables::{SCALE, marginal, marginal_in, opening_ray, unpriced, zero};
 pub use pool::CutPool;
-pub use steps::{Target, next_ascent, step};
+pub use steps::{TriedNode, next_ascent, step};
 pub use tight::with_cell;

@@ -5,7 +5,7 @@ ghost use Rattle.uc_model.specs.Prelude.{IsLawfulInstance};
 ghost use Rattle.dual_model.specs.Prelude.{IsNodeOf, IsLawfulTable, IsValued};
 ghost use Rattle.prices.specs.Steps.{IsStepFor};
 
-use crate::ascent::{Ascent, Effort, Plan, Values, ascend};
+use crate::ascent::{Ascent, AscentEffort, Plan, Values, ascend};
 use crate::pool::CutPool;
 use dual_model::{Node, Table, Valued};
 use opening_tables::SCALE;
@@ -47,7 +47,7 @@ const MANY_PERIODS: u32 = 72;
 
 /// A node at which `had` tables were tried, and at what an ascent there takes the bound for where it ends, in micro-dollars.
 #[derive(Clone, Copy)]
-pub struct Target<'a> {
+pub struct TriedNode<'a> {
     pub node: &'a Node,
     pub had: u32,
     pub enough: i128,
@@ -60,7 +60,7 @@ pub fn next_ascent(
     values: Values,
     pool: &mut CutPool,
     table: &Table,
-    target: Target,
+    target: TriedNode,
 ) -> Result<Ascent, NoMemory>
     requires lawful { IsLawfulInstance values.instance.now }
     requires node { IsNodeOf values.instance.now target.node.now }
@@ -70,14 +70,14 @@ pub fn next_ascent(
     ensures ray { IfOk result (λ ascent. IfSome ascent.ray (IsLawfulTable values.entry.instance.now)) }
     ensures ray_scale { IfOk result (λ ascent. IfSome ascent.ray (λ ray. ray.k ≡ pos 0)) }
 {
-    let Target { node, had, enough } = target;
+    let TriedNode { node, had, enough } = target;
     let is_root = node.fixings.as_slice().is_empty();
     let evaluations = if is_root || !pool.is_open(values.instance) {
         evaluations_of(values.instance, is_root)
     } else {
         lent_evaluations(values.instance)
     };
-    let effort = Effort {
+    let effort = AscentEffort {
         evaluations,
         enough,
     };
@@ -190,7 +190,7 @@ pub fn step(
         exact: false,
     };
     let mut pool = CutPool::closed(alloc);
-    let target = Target {
+    let target = TriedNode {
         node,
         had,
         enough: i128::MAX,

@@ -9,12 +9,12 @@ ghost use Rattle.uc_model.specs.Prelude.{IsLawfulInstance};
 ghost use Rattle.dual_model.specs.Prelude.{IsLawfulTable};
 
 use crate::ascent::{
-    Ascent, Effort, Hill, Sizes, Start, Top, Values, hill_of, no_prices, ray, top_from,
+    Ascent, AscentEffort, AscentStart, Hill, Sizes, Top, Values, hill_of, no_prices, ray, top_from,
 };
 use crate::pool::CutPool;
 use bundle::at;
 use dual_model::Node;
-use quick_value::{Decisions, Evaluator};
+use quick_value::{Decisions, QuickEvaluator};
 use std::alloc::Global;
 use uc_model::{Instance, LEAST_DIVIDED_SHARE, NoMemory, WHOLE_SHARE};
 
@@ -165,11 +165,11 @@ fn worth(instance: &Instance) -> i128 {
 }
 
 // The start of an ascent from these prices, of which it holds the one at a place.
-fn start(prices: Vec<i64>, held: usize, evaluations: u32) -> Start {
-    Start {
+fn start(prices: Vec<i64>, held: usize, evaluations: u32) -> AscentStart {
+    AscentStart {
         prices,
         part: RISE,
-        effort: Effort {
+        effort: AscentEffort {
             evaluations,
             enough: i128::MAX,
         },
@@ -182,7 +182,7 @@ impl<'a> Seeker<'a> {
     fn at(alloc: Global, values: Values<'a>, node: &'a Node) -> Result<Seeker<'a>, NoMemory>
         requires { IsLawfulInstance values.instance.now }
     {
-        let evaluator = Evaluator::without_costs(alloc, values.instance)?;
+        let evaluator = QuickEvaluator::without_costs(alloc, values.instance)?;
         let sizes = Sizes {
             least: worth(values.instance),
             most: 0,
@@ -201,7 +201,7 @@ impl<'a> Seeker<'a> {
     }
 
     // Where the ascent from the start ends.
-    fn top(&mut self, alloc: Global, start: Start) -> Result<Top, NoMemory> {
+    fn top(&mut self, alloc: Global, start: AscentStart) -> Result<Top, NoMemory> {
         let mut pool = CutPool::closed(alloc);
         top_from(alloc, &mut self.hill, self.instance, &mut pool, start)
     }

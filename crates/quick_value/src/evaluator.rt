@@ -21,7 +21,7 @@ use uc_model::{Instance, NoMemory};
 /// A list of prices has, at the scale `SCALE`, in each period that of demand, in each that of reserve, and for each unit whose ramps can
 /// bind those of its ramp up and then of its ramp down in each period.
 #[derive(Drop)]
-pub struct Evaluator {
+pub struct QuickEvaluator {
     units: Vec<Unit>,
     renewables: Vec<Range>,
     pub caps: Caps,
@@ -39,9 +39,9 @@ struct Ramps {
     twins: Twins,
 }
 
-impl Evaluator {
+impl QuickEvaluator {
     /// The evaluator of an instance. The only error is `NoMemory`.
-    pub fn new(alloc: Global, instance: &Instance) -> Result<Evaluator, NoMemory>
+    pub fn new(alloc: Global, instance: &Instance) -> Result<QuickEvaluator, NoMemory>
         requires { IsLawfulInstance instance.now }
     {
         let periods = instance.periods as usize;
@@ -51,7 +51,7 @@ impl Evaluator {
                 units.push(Unit::of(alloc, unit, instance.periods)?)?;
             }
         }
-        Ok(Evaluator {
+        Ok(QuickEvaluator {
             units,
             renewables: renewable_ranges(alloc, instance)?,
             caps: Caps::of(instance),
@@ -64,10 +64,10 @@ impl Evaluator {
     }
 
     /// The evaluator of an instance in which nothing costs anything: its values are those at the scale 0. The only error is `NoMemory`.
-    pub fn without_costs(alloc: Global, instance: &Instance) -> Result<Evaluator, NoMemory>
+    pub fn without_costs(alloc: Global, instance: &Instance) -> Result<QuickEvaluator, NoMemory>
         requires { IsLawfulInstance instance.now }
     {
-        let mut evaluator = Evaluator::new(alloc, instance)?;
+        let mut evaluator = QuickEvaluator::new(alloc, instance)?;
         evaluator.caps = Caps::without_costs(instance);
         for unit in evaluator.units.iter_mut() {
             unit.forget_costs();

@@ -24,4 +24,4 @@ pub use amounts::SCALE;
 pub use caps::Caps;
 pub use decisions::Decisions;
 pub use evaluation::Evaluation;
-pub use evaluator::Evaluator;
+pub use evaluator::QuickEvaluator;

@@ -28,7 +28,7 @@ pub use lists::{at, behind, put, stretch};
 pub use merit::{Market, PART, rate_within};
 pub use patterns::{Decided, is_on};
 pub use period::{Period, mixed};
-pub use system::{Plant, State, Trial, copy_row, exchange, shift, total};
+pub use system::{Plant, RepairState, TriedUnit, copy_row, exchange, shift, total};
 pub use trajectory::Trajectory;
 pub use unit::{Limits, Unit, unit_at};
 pub use window::{Window, keep_ramps, limits_at, narrow, open};

@@ -34,13 +34,13 @@ pub struct Plant {
 /// The periods; each unit's pattern, its windows, and what is known of its cells; and memory for one unit's cells, windows and pattern,
 /// for how far periods are filled, for how much of a unit's head each can do without, and for swaps.
 #[derive(Drop)]
-pub struct State {
+pub struct RepairState {
     pub periods: Vec<Period>,
     pub patterns: Vec<Pattern>,
     pub rows: Vec<Vec<Window>>,
     pub cells: Vec<Cells>,
     pub known: Vec<Vec<Known>>,
-    pub trial: Trial,
+    pub trial: TriedUnit,
     pub course: Course,
     pub(crate) fills: Vec<Fill>,
     spares: Vec<i64>,
@@ -49,7 +49,7 @@ pub struct State {
 
 /// The windows of a unit that is tried, and memory for its trajectory.
 #[derive(Drop)]
-pub struct Trial {
+pub struct TriedUnit {
     pub row: Vec<Window>,
     pub trajectory: Trajectory,
 }
@@ -98,16 +98,16 @@ fn can_any_bind(units: &[Unit]) -> bool {
     can_bind
 }
 
-impl State {
+impl RepairState {
     /// A state of no units and periods.
-    pub fn new(alloc: Global) -> State {
-        State {
+    pub fn new(alloc: Global) -> RepairState {
+        RepairState {
             periods: Vec::new(alloc),
             patterns: Vec::new(alloc),
             rows: Vec::new(alloc),
             cells: Vec::new(alloc),
             known: Vec::new(alloc),
-            trial: Trial {
+            trial: TriedUnit {
                 row: Vec::new(alloc),
                 trajectory: Trajectory::new(alloc),
             },

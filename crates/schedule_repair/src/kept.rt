@@ -3,7 +3,7 @@
 ghost use Rattle.uc_model.specs.Prelude.{IsLawfulInstance};
 
 use crate::moves::start_cost;
-use repair_state::{Period, Plant, State, Window, copy_row, exchange, total, unit_at};
+use repair_state::{Period, Plant, RepairState, Window, copy_row, exchange, total, unit_at};
 use std::alloc::Global;
 use uc_model::{Instance, NoMemory, Pattern};
 
@@ -26,7 +26,7 @@ impl Kept {
     }
 
     /// Takes memory for such a state. The only error is `NoMemory`.
-    pub(crate) fn fill(&mut self, alloc: Global, state: &State) -> Result<(), NoMemory> {
+    pub(crate) fn fill(&mut self, alloc: Global, state: &RepairState) -> Result<(), NoMemory> {
         self.patterns.extend_from_slice(&state.patterns)?;
         for row in &state.rows {
             self.rows.push(row.to_vec(alloc)?)?;
@@ -35,7 +35,12 @@ impl Kept {
     }
 
     /// Keeps the state if it is cheaper than what is kept, and tells whether.
-    pub(crate) fn keep(&mut self, plant: &Plant, state: &mut State, instance: &Instance) -> bool
+    pub(crate) fn keep(
+        &mut self,
+        plant: &Plant,
+        state: &mut RepairState,
+        instance: &Instance,
+    ) -> bool
         requires lawful { IsLawfulInstance instance.now }
     {
         let cost = cost_of_state(plant, state, instance);
@@ -43,13 +48,13 @@ impl Kept {
     }
 
     /// Keeps the state, which costs so much, if that is less than what is kept; and tells whether.
-    pub(crate) fn keep_cheaper(&mut self, state: &State, cost: i64) -> bool {
+    pub(crate) fn keep_cheaper(&mut self, state: &RepairState, cost: i64) -> bool {
         let most = self.cost;
         self.keep_below(state, cost, most)
     }
 
     /// Keeps the state, which costs so much, if that is below `most`; and tells whether.
-    pub(crate) fn keep_below(&mut self, state: &State, cost: i64, most: i64) -> bool {
+    pub(crate) fn keep_below(&mut self, state: &RepairState, cost: i64, most: i64) -> bool {
         if cost >= most {
             return false;
         }
@@ -67,7 +72,7 @@ impl Kept {
     }
 
     /// Makes the state what is kept.
-    pub(crate) fn restore(&self, plant: &Plant, state: &mut State) {
+    pub(crate) fn restore(&self, plant: &Plant, state: &mut RepairState) {
         copy_patterns(&self.patterns, &mut state.patterns);
         restore_rows(plant, &self.rows, &mut state.periods, &mut state.rows);
     }
@@ -88,7 +93,7 @@ fn restore_rows(
 }
 
 /// What a state costs, with its starts.
-pub(crate) fn cost_of_state(plant: &Plant, state: &mut State, instance: &Instance) -> i64
+pub(crate) fn cost_of_state(plant: &Plant, state: &mut RepairState, instance: &Instance) -> i64
     requires lawful { IsLawfulInstance instance.now }
 {
     let mut cost = total(&plant.market, &mut state.periods);

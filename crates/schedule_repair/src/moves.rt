@@ -3,8 +3,8 @@
 ghost use Rattle.uc_model.specs.Prelude.{IsLawfulInstance, IsLawfulThermal};
 
 use repair_state::{
-    Beside, Cells, Decided, Known, Market, Period, Plant, State, Trial, Unit, WAYS, Window,
-    cells_of, copy_row, exchange, is_on, keep_ramps, narrow, open, shift, total, unit_at,
+    Beside, Cells, Decided, Known, Market, Period, Plant, RepairState, TriedUnit, Unit, WAYS,
+    Window, cells_of, copy_row, exchange, is_on, keep_ramps, narrow, open, shift, total, unit_at,
 };
 use start_costs::least_allowed;
 use uc_model::limits::MAX_PERIODS;
@@ -14,7 +14,7 @@ use uc_model::{Instance, NoMemory, Pattern, Thermal};
 /// whether the pattern has changed. The only error is `NoMemory`.
 pub(crate) fn improve(
     plant: &Plant,
-    state: &mut State,
+    state: &mut RepairState,
     instance: &Instance,
     g: usize,
     turned: Option<&Decided>,
@@ -35,7 +35,7 @@ pub(crate) fn improve(
 /// Makes unit g's outputs the best beside the others, on its pattern. The only error is `NoMemory`.
 pub(crate) fn improve_outputs(
     plant: &Plant,
-    state: &mut State,
+    state: &mut RepairState,
     instance: &Instance,
     g: usize,
 ) -> Result<(), NoMemory>
@@ -62,7 +62,7 @@ pub(crate) struct Attempt {
 /// is `NoMemory`.
 pub(crate) fn improve_within(
     plant: &Plant,
-    state: &mut State,
+    state: &mut RepairState,
     instance: &Instance,
     g: usize,
     attempt: &Attempt,
@@ -94,7 +94,12 @@ pub(crate) fn improve_within(
 
 /// What the system may cost with new outputs of a unit whose ramps can bind, without its starts: less than it does, or anything where
 /// the unit has to turn.
-pub(crate) fn most_cost(market: &Market, state: &mut State, unit: &Unit, has_to_turn: bool) -> i64 {
+pub(crate) fn most_cost(
+    market: &Market,
+    state: &mut RepairState,
+    unit: &Unit,
+    has_to_turn: bool,
+) -> i64 {
     if unit.is_ramped && !has_to_turn {
         total(market, &mut state.periods)
     } else {
@@ -111,7 +116,7 @@ fn fix_of(unit: &Unit, turned: Option<&Decided>) -> Decided {
 }
 
 /// Fills unit g's cells beside the others. A unit whose ramps can bind is taken away from them.
-pub(crate) fn fill_cells(market: &Market, state: &mut State, unit: &Unit, g: usize) {
+pub(crate) fn fill_cells(market: &Market, state: &mut RepairState, unit: &Unit, g: usize) {
     if g < state.rows.len() && g < state.known.len() {
         fill_row(
             market,
@@ -174,7 +179,7 @@ fn reckon(
 }
 
 /// Puts unit g back into its windows, if it is away.
-pub(crate) fn put_back(market: &Market, state: &mut State, unit: &Unit, g: usize) {
+pub(crate) fn put_back(market: &Market, state: &mut RepairState, unit: &Unit, g: usize) {
     if unit.is_ramped && g < state.rows.len() {
         shift(market, &mut state.periods, unit, &state.rows[g], 1);
     }
@@ -193,7 +198,7 @@ struct Aim {
 // outputs that do. Tells whether the pattern has changed.
 fn put_on(
     market: &Market,
-    state: &mut State,
+    state: &mut RepairState,
     unit: &Unit,
     thermal: &Thermal,
     g: usize,
@@ -233,7 +238,7 @@ fn put_on(
 }
 
 // Opens the windows of unit g, whose ramps can't bind, on the pattern.
-fn put_freely(market: &Market, state: &mut State, unit: &Unit, g: usize, aim: &Aim) {
+fn put_freely(market: &Market, state: &mut RepairState, unit: &Unit, g: usize, aim: &Aim) {
     if g < state.rows.len() {
         let opened = state.trial.row.as_mut_slice();
         copy_row(&state.rows[g], opened);
@@ -248,7 +253,7 @@ fn take(
     thermal: &Thermal,
     pattern: &Pattern,
     most: i64,
-    trial: &mut Trial,
+    trial: &mut TriedUnit,
     row: &mut [Window],
 ) -> Result<bool, NoMemory>
     requires lawful { IsLawfulThermal thermal.now }
@@ -265,7 +270,7 @@ fn take(
 
 // Centres windows on the outputs that are best in each period alone, moved until they keep the ramps; or in all periods together where
 // something is lacking then.
-fn track(beside: &Beside, pattern: &Pattern, trial: &mut Trial) -> Result<(), NoMemory> {
+fn track(beside: &Beside, pattern: &Pattern, trial: &mut TriedUnit) -> Result<(), NoMemory> {
     let row = trial.row.as_mut_slice();
     center(beside.cells, row);
     open(beside.unit, pattern, beside.count, row);

@@ -3,7 +3,7 @@
 ghost use Rattle.std.specs.Prelude.{◌≡◌, IfOk};
 ghost use Rattle.uc_model.specs.Prelude.{IsLawfulInstance, IsLawfulThermal};
 
-use repair_state::{Plant, State, Unit, Window, at, is_on, limits_at, put, unit_at};
+use repair_state::{Plant, RepairState, Unit, Window, at, is_on, limits_at, put, unit_at};
 use start_costs::least_allowed;
 use std::alloc::Global;
 use uc_model::limits::MAX_PERIODS;
@@ -13,7 +13,7 @@ use uc_model::{Cell, Instance, List, NoMemory, Pattern, Printed, Renewable, Ther
 pub(crate) fn printed_of(
     alloc: Global,
     plant: &Plant,
-    state: &State,
+    state: &RepairState,
     instance: &Instance,
 ) -> Result<Printed, NoMemory>
     requires { IsLawfulInstance instance.now }
@@ -45,7 +45,7 @@ fn keep_missing(left: &mut [i64], price: u32) {
 fn thermal_rows(
     alloc: Global,
     plant: &Plant,
-    state: &State,
+    state: &RepairState,
     instance: &Instance,
     wanted: &mut [i64],
     left: &mut [i64],

@@ -9,7 +9,7 @@ use crate::tried::Tried;
 use crate::turns::Turns;
 use crate::walk::Walk;
 use cost_curves::Curve;
-use repair_state::{Plant, State, Unit, put, unit_at};
+use repair_state::{Plant, RepairState, Unit, put, unit_at};
 use start_costs::sigma;
 use std::alloc::Global;
 use uc_model::limits::MAX_PERIODS;
@@ -20,7 +20,7 @@ use uc_model::{Instance, NoMemory, Thermal};
 #[derive(Drop)]
 pub struct Repair {
     pub(crate) plant: Plant,
-    pub(crate) state: State,
+    pub(crate) state: RepairState,
     pub(crate) chance: Chance,
     pub(crate) visits: Vec<Visit>,
     pub(crate) turns: Turns,
@@ -46,7 +46,7 @@ impl Repair {
     {
         let mut repair = Repair {
             plant: Plant::new(alloc),
-            state: State::new(alloc),
+            state: RepairState::new(alloc),
             chance: Chance::new(),
             visits: Vec::new(alloc),
             turns: Turns::new(alloc),

@@ -1,11 +1,16 @@
 //! Commitments rounded from the shares of an ascent.
 
-use repair_state::{Cells, Plant, SAME, State, behind};
+use repair_state::{Cells, Plant, RepairState, SAME, behind};
 use uc_model::Pattern;
 
 /// Puts each unit on the allowed pattern that is nearest to its shares, where those above the threshold count as on; and tells whether
 /// each has one.
-pub(crate) fn round(plant: &Plant, state: &mut State, shares: &[i64], threshold: i64) -> bool {
+pub(crate) fn round(
+    plant: &Plant,
+    state: &mut RepairState,
+    shares: &[i64],
+    threshold: i64,
+) -> bool {
     let mut first: usize = 0;
     for g in 0..plant.units.len() {
         let unit = &plant.units[g];

@@ -2,7 +2,7 @@
 
 use crate::chance::{CHANCES, Chance};
 use crate::moves::{fill_cells, put_back};
-use repair_state::{Decided, Plant, State, Unit, is_on, put, stretch};
+use repair_state::{Decided, Plant, RepairState, Unit, is_on, put, stretch};
 use std::alloc::Global;
 use uc_model::{NoMemory, Pattern};
 
@@ -69,7 +69,7 @@ impl Turns {
     pub(crate) fn list(
         &mut self,
         plant: &Plant,
-        state: &mut State,
+        state: &mut RepairState,
         periods: u32,
         cost: i64,
         most: i64,
@@ -92,7 +92,7 @@ impl Turns {
 // Adds the turns of unit g, whose cells are filled, that cost less than so much more.
 fn push_turns(
     unit: &Unit,
-    state: &mut State,
+    state: &mut RepairState,
     g: usize,
     periods: u32,
     most: i64,

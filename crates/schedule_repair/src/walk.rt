@@ -1,7 +1,7 @@
 //! The walk of kicks: they go on near the best state, and from it once many have found none cheaper.
 
 use crate::kept::Kept;
-use repair_state::{Plant, State};
+use repair_state::{Plant, RepairState};
 use std::alloc::Global;
 use uc_model::NoMemory;
 
@@ -28,7 +28,7 @@ impl Walk {
     }
 
     /// Takes memory for a state like this one. The only error is `NoMemory`.
-    pub(crate) fn fill(&mut self, alloc: Global, state: &State) -> Result<(), NoMemory> {
+    pub(crate) fn fill(&mut self, alloc: Global, state: &RepairState) -> Result<(), NoMemory> {
         self.near.fill(alloc, state)
     }
 
@@ -40,7 +40,7 @@ impl Walk {
 
     /// Goes on from the state that a kick has come to, which costs so much and no less than the best one, if it is near that; and else
     /// makes it the state that the kick left, or the best one once it is time.
-    pub(crate) fn go_on(&mut self, plant: &Plant, state: &mut State, best: &Kept, cost: i64) {
+    pub(crate) fn go_on(&mut self, plant: &Plant, state: &mut RepairState, best: &Kept, cost: i64) {
         self.fruitless = self.fruitless.saturating_add(1);
         if self.fruitless % FRUITLESS == 0 {
             self.near.copy(best);

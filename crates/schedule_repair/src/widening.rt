@@ -3,14 +3,14 @@
 ghost use Rattle.uc_model.specs.Prelude.{IsLawfulInstance};
 
 use crate::moves::{Attempt, improve_within, most_cost};
-use repair_state::{Decided, Plant, State, is_on};
+use repair_state::{Decided, Plant, RepairState, is_on};
 use uc_model::{Instance, NoMemory, Pattern};
 
 /// Lets a unit whose ramps can bind be on a period longer, before or behind its runs to periods in which demand stays unserved and the unit
 /// doesn't reach its most, where that costs less; and tells whether it does. The only error is `NoMemory`.
 pub(crate) fn widen(
     plant: &Plant,
-    state: &mut State,
+    state: &mut RepairState,
     instance: &Instance,
     g: usize,
 ) -> Result<bool, NoMemory>
@@ -71,7 +71,7 @@ fn ends_of_run(pattern: &Pattern, t: u32, count: u32) -> Ends {
 }
 
 // Whether demand stays unserved in a period in which unit g, whose ramps can bind, is on and doesn't reach its most.
-fn is_wanted(plant: &Plant, state: &State, g: usize, t: u32) -> bool {
+fn is_wanted(plant: &Plant, state: &RepairState, g: usize, t: u32) -> bool {
     let i = t as usize;
     if g >= plant.units.len() || g >= state.rows.len() {
         return false;
@@ -111,7 +111,7 @@ enum Side {
 // Lets unit g be on a period longer on this side of a run, if there is one, where that costs less; and tells whether it does.
 fn widen_run(
     plant: &Plant,
-    state: &mut State,
+    state: &mut RepairState,
     instance: &Instance,
     g: usize,
     side: Side,

@@ -5,7 +5,7 @@ use Rattle.decommitment.specs.declared.pass.Standing.TheVariants as standing
 use Rattle.opening.specs.RootTables.{IsPricedOf}
 use Rattle.uc_model.specs.declared.instance.Instance.{Instance}
 use Rattle.search_answers.specs.Opening.{IsRootTable}
-use Rattle.search_answers.specs.declared.start.Opened.{Opened}
+use Rattle.search_answers.specs.declared.start.OpenedSearch.{OpenedSearch}
 use Rattle.uc_model.specs.declared.schedule.Printed.{Printed}
 use Rattle.decommitment.specs.declared.pass.Standing.{Standing}
 use Rattle.schedule_check.specs.Accepted.{IsAcceptedIfFound}
@@ -19,7 +19,7 @@ IsFirstBest (standing.Dispatched printed cost) best = best ≡ Some (printed, co
 IsFirstBest (standing.Stuck period most_on) best = Unit {0}
 
 -- the drop commitment, with what is known by it
-pub record IsOpened (instance : Instance) (opened : Opened) : Type 0 where
+pub record IsOpened (instance : Instance) (opened : OpenedSearch) : Type 0 where
   pub standing : Standing
   pub dropped : IsDropped instance standing
   pub stuck : opened.most_on ≡ kept_stuck standing

@@ -6,4 +6,4 @@ mod answer;
 mod start;
 
 pub use answer::{bounded, excluded, without_unit};
-pub use start::{Opened, started};
+pub use start::{OpenedSearch, started};

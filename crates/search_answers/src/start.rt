@@ -11,7 +11,7 @@ ghost use Rattle.search_answers.specs.Starts.{IsOpened};
 ghost use Rattle.node_visits.specs.Trials.{IsAscentFor};
 
 use decommitment::{Standing, drop_pass};
-use node_visits::{Effort, Start, Worker, enough, first_ascent, moves};
+use node_visits::{RepairEffort, SearchStart, Worker, enough, first_ascent, moves};
 use opening::{Priced, dispatched_root, unpriced_root};
 use prices::Ascent;
 use std::alloc::Global;
@@ -19,13 +19,13 @@ use uc_model::{NoMemory, Printed, Stuck};
 
 /// The start, and why the most-on commitment is stuck, where the drop commitment is.
 #[derive(Drop)]
-pub struct Opened {
-    pub start: Start,
+pub struct OpenedSearch {
+    pub start: SearchStart,
     pub most_on: Option<Stuck>,
 }
 
 /// What the claims begin with. The only error is `NoMemory`.
-pub fn started(alloc: Global, worker: &mut Worker, gap: u32) -> Result<Opened, NoMemory>
+pub fn started(alloc: Global, worker: &mut Worker, gap: u32) -> Result<OpenedSearch, NoMemory>
     requires patterns { HasEachPattern worker.old }
     requires gap { gap ≤ WHOLE_GAP }
     ensures kept { worker.new ≡ worker.old }
@@ -60,7 +60,7 @@ fn start_with(
     gap: u32,
     opening: Priced,
     standing: Standing,
-) -> Result<Opened, NoMemory>
+) -> Result<OpenedSearch, NoMemory>
     requires gap { gap ≤ WHOLE_GAP }
     requires dropped { IsDropped worker.old standing }
     requires table { IsRootTable worker.old (ending_of standing) opening.table opening.value }
@@ -69,8 +69,8 @@ fn start_with(
     ensures opened { IfOk result (IsOpened worker.old) }
 {
     match standing {
-        Standing::Dispatched { printed, cost } => Ok(Opened {
-            start: Start {
+        Standing::Dispatched { printed, cost } => Ok(OpenedSearch {
+            start: SearchStart {
                 opening,
                 best: Some((printed, cost)),
                 next: None,
@@ -79,8 +79,8 @@ fn start_with(
         }),
         Standing::Stuck { most_on, .. } => {
             let (ascent, best) = repaired(alloc, worker, gap)?;
-            Ok(Opened {
-                start: Start {
+            Ok(OpenedSearch {
+                start: SearchStart {
                     opening,
                     best,
                     next: Some(ascent),
@@ -122,7 +122,7 @@ fn first_repaired(
     if ascent.ray.is_some() {
         return Ok(None);
     }
-    let effort = Effort {
+    let effort = RepairEffort {
         moves: moves(worker.instance(), 1),
         enough: enough(ascent.bound, gap),
     };

@@ -7,13 +7,13 @@ use Rattle.branch_tree.specs.contracts.found.Entry as entry
 use Rattle.branch_tree.specs.declared.found.Entry.{Entry}
 use Rattle.dual_model.specs.declared.table.Table.{Table}
 use Rattle.search_machine.specs.declared.holder.Holder.{Holder}
-use Rattle.search_machine.specs.declared.desk.Desk.{Desk}
-use Rattle.search_machine.specs.contracts.desk.Desk as desk
+use Rattle.search_machine.specs.declared.desk.WorkerState.{WorkerState}
+use Rattle.search_machine.specs.contracts.desk.WorkerState as desk
 use Rattle.search_machine.specs.contracts.holder.Holder as holder
 use Rattle.search_machine.specs.Prelude.{Machine}
 
 abbrev pub MachineParts : Type 0
-MachineParts = ℕ × (ℕ × (TreeView × (List Table × (List (Option Holder) × (List Entry × (Option ℤ × List Desk))))))
+MachineParts = ℕ × (ℕ × (TreeView × (List Table × (List (Option Holder) × (List Entry × (Option ℤ × List WorkerState))))))
 
 abbrev pub machine_parts_code : Coded MachineParts
 machine_parts_code =

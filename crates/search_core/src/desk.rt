@@ -4,19 +4,19 @@ ghost use Rattle.std.specs.Prelude.{◌≡◌, ◌<◌, OnOk, OnErr, length, not
 ghost use Rattle.search_machine.specs.Prelude.{is_in_hand, with_tickets, with_queued, without_first, first_queued};
 
 use crate::lists;
-use search_machine::desk::Desk;
+use search_machine::desk::WorkerState;
 use std::alloc::Global;
 use uc_model::{List, NoMemory};
 
 /// Whether the node's ticket is in the hand.
-pub(crate) fn has_in_hand(desk: &Desk, node: u32) -> bool
+pub(crate) fn has_in_hand(desk: &WorkerState, node: u32) -> bool
     ensures { result ≡ is_in_hand desk.now node }
 {
     desk.hand.as_slice().iter().any(|ticket| *ticket == node)
 }
 
 /// The first ticket of the queue, or 0 where it is empty.
-pub(crate) fn first_queued(desk: &Desk) -> u32
+pub(crate) fn first_queued(desk: &WorkerState) -> u32
     ensures { result ≡ first_queued desk.now }
 {
     match desk.queue.as_slice().first() {
@@ -26,7 +26,7 @@ pub(crate) fn first_queued(desk: &Desk) -> u32
 }
 
 /// Takes tickets into the hand.
-pub(crate) fn take(alloc: Global, desk: &mut Desk, tickets: &[u32]) -> Result<(), NoMemory>
+pub(crate) fn take(alloc: Global, desk: &mut WorkerState, tickets: &[u32]) -> Result<(), NoMemory>
     ensures taken { OnOk result (desk.new ≡ with_tickets desk.old tickets.now) }
     ensures same { OnErr result (desk.new ≡ desk.old) }
 {
@@ -34,7 +34,7 @@ pub(crate) fn take(alloc: Global, desk: &mut Desk, tickets: &[u32]) -> Result<()
 }
 
 /// Moves a ticket from the hand to the back of the queue.
-pub(crate) fn enqueue(alloc: Global, desk: &mut Desk, node: u32) -> Result<(), NoMemory>
+pub(crate) fn enqueue(alloc: Global, desk: &mut WorkerState, node: u32) -> Result<(), NoMemory>
     ensures moved { OnOk result (desk.new ≡ with_queued desk.old node) }
     ensures same { OnErr result (desk.new ≡ desk.old) }
 {
@@ -44,7 +44,7 @@ pub(crate) fn enqueue(alloc: Global, desk: &mut Desk, node: u32) -> Result<(), N
 }
 
 /// Drops the first ticket of the queue.
-pub(crate) fn drop_first(alloc: Global, desk: &mut Desk)
+pub(crate) fn drop_first(alloc: Global, desk: &mut WorkerState)
     requires { 0 < length desk.old.queue }
     ensures { desk.new ≡ without_first desk.old }
 {

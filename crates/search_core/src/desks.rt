@@ -5,12 +5,12 @@ ghost use Rattle.branch_tree.specs.Prelude.{lesser_bound};
 ghost use Rattle.search_machine.specs.Prelude.{desk_in, with_desk, with_tickets, with_queued, without_first};
 
 use crate::{costs, desk};
-use search_machine::desk::Desk;
+use search_machine::desk::WorkerState;
 use std::alloc::Global;
 use uc_model::NoMemory;
 
 /// Says what the worker has seen.
-pub(crate) fn see(desks: &mut Vec<Desk>, worker: u8, seen: &Option<i64>)
+pub(crate) fn see(desks: &mut Vec<WorkerState>, worker: u8, seen: &Option<i64>)
     requires { worker < vec_len desks.old }
     ensures { desks.new.items ≡ with_desk desks.old.items worker (λ desk. record desk { seen = seen.now }) }
 {
@@ -18,7 +18,7 @@ pub(crate) fn see(desks: &mut Vec<Desk>, worker: u8, seen: &Option<i64>)
 }
 
 /// Says that the worker has seen this cost too.
-pub(crate) fn see_cost(desks: &mut Vec<Desk>, worker: u8, cost: i64)
+pub(crate) fn see_cost(desks: &mut Vec<WorkerState>, worker: u8, cost: i64)
     requires { worker < vec_len desks.old }
     ensures { desks.new.items ≡ with_desk desks.old.items worker (λ desk. record desk { seen = lesser_bound desk.seen (Some cost) }) }
 {
@@ -29,7 +29,7 @@ pub(crate) fn see_cost(desks: &mut Vec<Desk>, worker: u8, cost: i64)
 /// Takes tickets into the worker's hand.
 pub(crate) fn take_tickets(
     alloc: Global,
-    desks: &mut Vec<Desk>,
+    desks: &mut Vec<WorkerState>,
     worker: u8,
     tickets: &[u32],
 ) -> Result<(), NoMemory>
@@ -43,7 +43,7 @@ pub(crate) fn take_tickets(
 /// Moves a ticket from the worker's hand to the back of its queue.
 pub(crate) fn enqueue(
     alloc: Global,
-    desks: &mut Vec<Desk>,
+    desks: &mut Vec<WorkerState>,
     worker: u8,
     node: u32,
 ) -> Result<(), NoMemory>
@@ -55,7 +55,7 @@ pub(crate) fn enqueue(
 }
 
 /// Drops the first ticket of the worker's queue.
-pub(crate) fn drop_first(alloc: Global, desks: &mut Vec<Desk>, worker: u8)
+pub(crate) fn drop_first(alloc: Global, desks: &mut Vec<WorkerState>, worker: u8)
     requires within { worker < vec_len desks.old }
     requires some { 0 < length (desk_in desks.old.items worker).queue }
     ensures { desks.new.items ≡ with_desk desks.old.items worker without_first }

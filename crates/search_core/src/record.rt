@@ -6,7 +6,7 @@ ghost use Rattle.search_machine.specs.Prelude.{with_desk, with_tickets};
 use crate::{desks, lists};
 use branch_tree::Entry;
 use dual_model::Table;
-use search_machine::desk::Desk;
+use search_machine::desk::WorkerState;
 use std::alloc::Global;
 use uc_model::{List, NoMemory};
 
@@ -22,7 +22,7 @@ pub(crate) fn record(
     alloc: Global,
     log: &mut List<Entry>,
     tables: &mut List<Table>,
-    desks: &mut Vec<Desk>,
+    desks: &mut Vec<WorkerState>,
     added: Added,
     tickets: &[u32],
 ) -> Result<(), NoMemory>

@@ -4,7 +4,7 @@ ghost use Rattle.std.specs.Prelude.{◌≡◌, ◌<◌, ◌∷◌, ◌-◌, [], 
 ghost use Rattle.search_machine.specs.Prelude.{no_desk, first_desk};
 
 use crate::lists;
-use search_machine::desk::Desk;
+use search_machine::desk::WorkerState;
 use std::alloc::Global;
 use uc_model::{List, NoMemory};
 
@@ -18,10 +18,10 @@ pub(crate) fn single<T: Drop>(alloc: Global, item: T) -> Result<List<T>, NoMemor
 }
 
 // A desk with this hand.
-fn desk(alloc: Global, hand: List<u32>) -> Desk
+fn desk(alloc: Global, hand: List<u32>) -> WorkerState
     ensures { result ≡ record no_desk { hand = hand } }
 {
-    Desk {
+    WorkerState {
         seen: None,
         hand,
         queue: List::from_vec(Vec::new(alloc)),
@@ -29,7 +29,7 @@ fn desk(alloc: Global, hand: List<u32>) -> Desk
 }
 
 /// The desks of so many workers, of whom the first has the root's ticket.
-pub(crate) fn desks(alloc: Global, workers: u8) -> Result<Vec<Desk>, NoMemory>
+pub(crate) fn desks(alloc: Global, workers: u8) -> Result<Vec<WorkerState>, NoMemory>
     requires { 0 < workers }
     ensures { IfOk result (λ desks. desks.items ≡ first_desk ∷ replicate (workers - 1) no_desk) }
 {

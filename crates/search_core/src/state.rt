@@ -5,7 +5,7 @@ use crate::record::{Added, record};
 use crate::{costs, desk, desks, log, start};
 use branch_tree::{Entry, Leaf, Outcome, Tree, is_within_gap};
 use dual_model::Table;
-use search_machine::desk::Desk;
+use search_machine::desk::WorkerState;
 use search_machine::holder::Holder;
 use search_machine::limits::NODE_ENTRIES;
 use search_machine::start::root;
@@ -26,7 +26,7 @@ pub struct State {
     log: List<Entry>,
     claims: Vec<Option<Holder>>,
     best: Option<i64>,
-    desks: Vec<Desk>,
+    desks: Vec<WorkerState>,
 }
 
 impl Model for State {

@@ -15,8 +15,8 @@ use Rattle.branch_tree.specs.declared.found.Outcome.{Outcome}
 use Rattle.branch_tree.specs.declared.found.Outcome.TheVariants.{Value, Empty}
 use Rattle.dispatch_rules.specs.Prelude.{Pattern}
 use Rattle.pivot_dispatch.specs.Answers.{IsAnswer}
-use Rattle.pivot_dispatch.specs.declared.pivot.Pivot.{Pivot}
-use Rattle.pivot_dispatch.specs.declared.pivot.Pivot.TheVariants.{Best, Ray as RayAnswer, Wide}
+use Rattle.pivot_dispatch.specs.declared.pivot.DispatchAnswer.{DispatchAnswer}
+use Rattle.pivot_dispatch.specs.declared.pivot.DispatchAnswer.TheVariants.{Best, Ray as RayAnswer, Wide}
 use Rattle.decided_nodes.specs.Decided.{DecidesEach, IsDecided, IsDispatched, IsToldBy, IsWideAt}
 use Rattle.decided_nodes.specs.declared.decided.Decided.{Decided}
 use Rattle.decided_nodes.specs.Pivoting.{node_limit}
@@ -53,7 +53,7 @@ use Rattle.search_desk.proofs.Claimed.{one_node}
 use Rattle.search_desk.proofs.Costs.{at_most_through}
 
 -- ---- a lower cost that was seen
-at_answer-lower : (instance : Instance) (seen lower : Option ℤ) (table : Table) (pivot : Pivot) → AtMost lower seen → IsAtAnswer instance seen table pivot
+at_answer-lower : (instance : Instance) (seen lower : Option ℤ) (table : Table) (pivot : DispatchAnswer) → AtMost lower seen → IsAtAnswer instance seen table pivot
     → IsAtAnswer instance lower table pivot
 at_answer-lower instance seen lower table (Best printed other) below is = (is.0, at_most_through lower seen (Some (printed_cost instance printed)) below is.1)
 at_answer-lower instance seen lower table (RayAnswer other) below is = is
@@ -82,7 +82,7 @@ no_empty false instance node table v is empty =
 no_empty true instance node table v is empty =
     let unit = is.units empty.unit empty.within in empty.empty unit.on unit.best.pattern
 
-told_by : (instance : Instance) (pivot : Pivot) (told : Decided) → IsToldBy instance pivot told
+told_by : (instance : Instance) (pivot : DispatchAnswer) (told : Decided) → IsToldBy instance pivot told
     → IsAtAnswer instance (cost_of told.schedule) told.table pivot
 told_by instance (Best printed table) told is =
     (is.0, subst (λ (schedule : Option (Printed × ℤ)). AtMost (cost_of schedule) (Some (printed_cost instance printed))) (sym is.1) (le_refl (printed_cost instance printed)))
@@ -203,7 +203,7 @@ module _ (law : NeverDecreases) (opening : Opening) (tree : TreeView) (node : �
       by_test true is = absurd (within_over law seen cost (bound_of v table.k) (bound_after former done.table.k (Value v)) opening.gap done.cell whole below above is
           (value_again (int_eq done.table.k (pos 0) && int_lt (pos 0) v) (value_move seen (bound_after former done.table.k (Value v)) opening.gap done.cell) again))
 
-  by_pivot : (v : ℤ) (patterns : List Pattern) (pivot : Pivot) → IsAnswer opening.instance patterns pivot → IsAtAnswer opening.instance seen done.table pivot
+  by_pivot : (v : ℤ) (patterns : List Pattern) (pivot : DispatchAnswer) → IsAnswer opening.instance patterns pivot → IsAtAnswer opening.instance seen done.table pivot
       → IsByAnswer opening.instance opening.gap (λ other. done.table ≡ other) (IsAgain (move_by (Value v))) v pivot
   by_pivot v patterns (Best printed table) answer is =
       (is.0, λ again. best_over v (printed_cost opening.instance printed) table is.0 is.1 answer.1.1.0.scale again)

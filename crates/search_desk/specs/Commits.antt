@@ -10,9 +10,9 @@ use Rattle.search_machine.specs.declared.event.Move.TheVariants as move
 use Rattle.book.specs.Calls.{IsCommitted, IsHeldUnit, MayCommit}
 use Rattle.incumbent.specs.Costs.{AtMost}
 use Rattle.search_desk.specs.Desks.{BookView, DeskView}
-use Rattle.search_desk.specs.declared.desk.Claim.{Claim}
+use Rattle.search_desk.specs.declared.desk.HeldNode.{HeldNode}
 use Rattle.search_desk.specs.declared.desk.Evaluated.{Evaluated}
-use Rattle.search_desk.specs.declared.desk.Left.{Left}
+use Rattle.search_desk.specs.declared.desk.CommitAnswer.{CommitAnswer}
 
 -- ---- the move
 -- the bound that the node stores after the evaluation, where it stored this one before
@@ -41,11 +41,11 @@ move_for seen gap former done = move_of seen (bound_after former done.table.k do
 
 -- ---- the book
 -- the worker holds the node of the claim by it, and the log has as many entries of it as it had
-abbrev pub Stands : BookView → ℕ → Claim → Type 0
+abbrev pub Stands : BookView → ℕ → HeldNode → Type 0
 Stands book me claim = IsHeldUnit book claim.unit me claim.node claim.had
 
 -- the evaluation is entered where the claim stands and the book takes it; else the book is as before
-abbrev pub IsEntry : Bool → ℕ → Claim → Evaluated → Move → BookView → BookView → Bool → Type 0
+abbrev pub IsEntry : Bool → ℕ → HeldNode → Evaluated → Move → BookView → BookView → Bool → Type 0
 IsEntry exact me claim done action old new true =
     Stands old me claim × IsCommitted old me claim.unit claim.path done.table exact done.outcome action new
 IsEntry exact me claim done action old new false =
@@ -57,7 +57,7 @@ told_move true action = Some action
 told_move false action = None
 
 -- a commit: by the cost that is seen, which is no greater than any that was seen before
-pub record IsDeskCommit (exact : Bool) (gap me : ℕ) (claim : Claim) (done : Evaluated) (old new : DeskView) (left : Left) : Type 0 where
+pub record IsDeskCommit (exact : Bool) (gap me : ℕ) (claim : HeldNode) (done : Evaluated) (old new : DeskView) (left : CommitAnswer) : Type 0 where
   pub lower : AtMost new.seen old.seen
   pub seen : left.seen ≡ new.seen
   pub stored : left.stored ≡ bound_after claim.bound done.table.k done.outcome

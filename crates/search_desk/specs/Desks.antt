@@ -20,7 +20,7 @@ use Rattle.book.specs.declared.claims.Status.TheVariants.{Held, Committed, Given
 pub use Rattle.book.specs.Opening.{Opening, IsTrueOpening}
 use Rattle.opening.specs.Outcomes.{IsSized}
 use Rattle.search_desk.specs.Kinds.{IsOfKind}
-use Rattle.search_desk.specs.declared.desk.Claim.{Claim as Claimed}
+use Rattle.search_desk.specs.declared.desk.HeldNode.{HeldNode}
 use Rattle.search_desk.specs.declared.desk.Taken.{Taken}
 use Rattle.search_desk.specs.declared.desk.Taken.TheVariants as taken
 
@@ -91,14 +91,14 @@ pub record IsDesk (exact : Bool) (opening : Opening) (incumbent : TableId) (book
 
 -- ---- a claim of it
 -- a claim of a node of the instance, which stores a lawful table
-pub record IsHeldClaim (instance : Instance) (claim : Claimed) : Type 0 where
+pub record IsHeldClaim (instance : Instance) (claim : HeldNode) : Type 0 where
   pub lawful : IsLawfulInstance instance
   pub path : IsNodeOf instance claim.path
   pub table : IsLawfulTable instance claim.table
   pub unit : claim.unit ≤ MAX_BUDGET
 
 -- and of this run: its unit is within the budget
-pub record IsClaimOf (opening : Opening) (claim : Claimed) : Type 0 where
+pub record IsClaimOf (opening : Opening) (claim : HeldNode) : Type 0 where
   pub held : IsHeldClaim opening.instance claim
   pub unit : claim.unit ≤ opening.budget
 

@@ -7,8 +7,8 @@ use Rattle.branch_tree.specs.declared.found.Outcome.{Outcome}
 use Rattle.branch_tree.specs.declared.found.Outcome.TheVariants.{Value, Empty}
 use Rattle.dispatch_rules.specs.Prelude.{Pattern}
 use Rattle.pivot_dispatch.specs.Answers.{IsAnswer}
-use Rattle.pivot_dispatch.specs.declared.pivot.Pivot.{Pivot}
-use Rattle.pivot_dispatch.specs.declared.pivot.Pivot.TheVariants.{Best, Ray, Wide}
+use Rattle.pivot_dispatch.specs.declared.pivot.DispatchAnswer.{DispatchAnswer}
+use Rattle.pivot_dispatch.specs.declared.pivot.DispatchAnswer.TheVariants.{Best, Ray, Wide}
 use Rattle.decided_nodes.specs.Decided.{ArePatternsAt, DecidesEach}
 use Rattle.decided_nodes.specs.Pivoting.{node_limit}
 use Rattle.decided_nodes.specs.declared.pivoting.Pivoting.{Pivoting}
@@ -20,7 +20,7 @@ use Rattle.search_desk.specs.declared.desk.Evaluated.{Evaluated}
 
 -- ---- an evaluation
 -- it is at the table of the exact dispatch's answer, and the schedule's printed cost was seen, or a lower one. An answer Wide says nothing
-abbrev pub IsAtAnswer : Instance → Option ℤ → Table → Pivot → Type 0
+abbrev pub IsAtAnswer : Instance → Option ℤ → Table → DispatchAnswer → Type 0
 IsAtAnswer instance seen table (Best printed other) = (table ≡ other) × AtMost seen (Some (printed_cost instance printed))
 IsAtAnswer instance seen table (Ray other) = table ≡ other
 IsAtAnswer instance seen table (Wide what size other pivots) = Unit {0}
@@ -29,7 +29,7 @@ IsAtAnswer instance seen table (Wide what size other pivots) = Unit {0}
 abbrev pub IsByDispatch : Instance → Node → Option ℤ → Table → Outcome → Type 0
 IsByDispatch instance node seen table (Value v) =
     (patterns : List Pattern)
-    × (ArePatternsAt instance node patterns × ((pivot : Pivot) × (IsAnswer instance patterns pivot × IsAtAnswer instance seen table pivot)))
+    × (ArePatternsAt instance node patterns × ((pivot : DispatchAnswer) × (IsAnswer instance patterns pivot × IsAtAnswer instance seen table pivot)))
 IsByDispatch instance node seen table (Empty g) = Unit {0}
 
 -- an evaluation keeps to the exact dispatch: where the budget is enough for each node of a whole tree, and a cell is undecided at the node, it has

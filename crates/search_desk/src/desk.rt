@@ -8,7 +8,7 @@ ghost use Rattle.search_desk.specs.Commits.{Stands, bound_after, move_of, open_m
 ghost use Rattle.search_desk.specs.Desks.{IsLaterWithin, IsPrunedBy};
 
 use crate::own_best::OwnBest;
-use crate::run::Run;
+use crate::run::SearchCase;
 use book::{Book, Claimed};
 use branch_tree::{Outcome, is_within_gap};
 use dual_model::{Node, Table};
@@ -23,7 +23,7 @@ use uc_model::tolerance::cost_less_tolerance_never_decreases;
 /// A node that a worker holds by the claim of a unit: its number, how many entries the log had of it, the decisions on its path, the table
 /// that it stores with its bound, and the least cost that was seen, both in micro-dollars.
 #[derive(Drop)]
-pub struct Claim {
+pub struct HeldNode {
     pub unit: u32,
     pub node: u32,
     pub had: u32,
@@ -42,7 +42,7 @@ pub enum Taken {
     Gone,
     /// Memory was refused.
     Refused,
-    Mine(Claim),
+    Mine(HeldNode),
 }
 
 /// An evaluation of the node that is held: its table, what came out, and the cell that the node is split on where it isn't closed; none where
@@ -57,7 +57,7 @@ pub struct Evaluated {
 /// What a commit left: the move, or none where it was refused; the off-child and the on-child of a split; the bound of the node, in
 /// micro-dollars; the tree's bound and the least cost that was seen; and how many workers wait for a node.
 #[derive(Clone, Copy)]
-pub struct Left {
+pub struct CommitAnswer {
     pub action: Option<Move>,
     pub children: Option<(u32, u32)>,
     pub stored: i128,
@@ -86,7 +86,7 @@ struct Rota {
 
 /// The book of the search, a pass by which the workers prune, whether claims evaluate VE, and how the workers stand.
 #[derive(Drop)]
-pub struct Desk<C: Run> {
+pub struct Desk<C: SearchCase> {
     book: Book<C>,
     pass: Pass,
     gap: u32,
@@ -95,7 +95,7 @@ pub struct Desk<C: Run> {
     failed: bool,
 }
 
-impl<C: Run> Model for Desk<C> {
+impl<C: SearchCase> Model for Desk<C> {
     ghost use Rattle.search_desk.specs.Desks.{DeskView};
     ghost use Rattle.search_desk.specs.DeskCode.{desk_code};
 
@@ -113,7 +113,7 @@ impl<C: Run> Model for Desk<C> {
         × (desk.exact ≡ C.exact) × IsPivotedBook C.exact_dispatch C.opening desk.book };
 }
 
-impl<C: Run> Desk<C> {
+impl<C: SearchCase> Desk<C> {
     ghost use Rattle.std.specs.Prelude.{◌≡◌, ◌≤◌, ◌↔◌, IsTrue, false, None, All, IfOk};
     ghost use Rattle.book.specs.BookView.{opened};
     ghost use Rattle.book.specs.Calls.{IsUnitHeld, IsClaimAnswer};
@@ -232,7 +232,7 @@ impl<C: Run> Desk<C> {
     {
         self.book.keeps_run();
         match self.book.holding(alloc, held.unit) {
-            Ok((path, table, bound)) => Taken::Mine(Claim {
+            Ok((path, table, bound)) => Taken::Mine(HeldNode {
                 unit: held.unit,
                 node: held.node,
                 had: held.had,
@@ -257,7 +257,7 @@ impl<C: Run> Desk<C> {
 
     /// Commits the evaluation of the node that the worker holds by the claim: it is closed where this may be, and else split on its cell or left open.
     /// A claim whose commit is refused stays held: the claim has to stand as it was told, and the table to be fresh at its node.
-    pub fn commit(&mut self, best: &Best, me: u8, claim: &Claim, done: Evaluated) -> Left
+    pub fn commit(&mut self, best: &Best, me: u8, claim: &HeldNode, done: Evaluated) -> CommitAnswer
         requires object { best.now.object ≡ C.incumbent }
         requires outcome { IsTrueOutcome C.exact C.opening.instance claim.now.path done.table done.outcome }
         requires sized { IsSized done.outcome }
@@ -269,7 +269,7 @@ impl<C: Run> Desk<C> {
         let stored = stored_bound(&claim.bound, &done);
         let action = ending(seen, stored, self.gap, &done);
         let entered = self.enter(me, claim, done, action);
-        Left {
+        CommitAnswer {
             action: told(entered, action),
             children: self.book.children(claim.node),
             stored,
@@ -280,7 +280,7 @@ impl<C: Run> Desk<C> {
     }
 
     // Commits the evaluation by this move, if the book takes it.
-    fn enter(&mut self, me: u8, claim: &Claim, done: Evaluated, action: Move) -> bool
+    fn enter(&mut self, me: u8, claim: &HeldNode, done: Evaluated, action: Move) -> bool
         requires outcome { IsTrueOutcome C.exact C.opening.instance claim.now.path done.table done.outcome }
         requires sized { IsSized done.outcome }
         requires scaled { IsLaterWithin C.opening.budget claim.now.had done.table }
@@ -308,7 +308,7 @@ impl<C: Run> Desk<C> {
     }
 
     // Whether the worker holds the claim's node by it, and the log has as many entries of it as it had.
-    fn stands(&self, me: u8, claim: &Claim) -> bool
+    fn stands(&self, me: u8, claim: &HeldNode) -> bool
         ensures { IsTrue result ↔ Stands self.now.book me claim.now }
     {
         match self.book.held(claim.unit) {

@@ -8,8 +8,8 @@ mod own_best;
 mod run;
 mod tickets;
 
-pub use desk::{Claim, Desk, Evaluated, Left, Taken, ending, stored_bound};
+pub use desk::{CommitAnswer, Desk, Evaluated, HeldNode, Taken, ending, stored_bound};
 pub use grown::Grown;
 pub use own_best::{OwnBest, cheaper, is_closed};
-pub use run::Run;
+pub use run::SearchCase;
 pub use tickets::Tickets;

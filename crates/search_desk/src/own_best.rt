@@ -8,7 +8,7 @@ ghost use Rattle.incumbent.specs.Costs.{AtMost, least};
 ghost use Rattle.search_desk.specs.Best.{IsLower, IsNoWorse, cost_of};
 ghost use Rattle.search_desk.specs.Passes.{Instance, IsCheaper, IsNoCheaper};
 
-use crate::run::Run;
+use crate::run::SearchCase;
 use branch_tree::is_within_gap;
 use incumbent::{Best, Pass};
 use std::marker::{Model, PhantomData};
@@ -17,13 +17,13 @@ use uc_model::Printed;
 /// The cheapest schedule that this worker has found, with its cost in micro-dollars, and its pass, by which it published this cost and no
 /// lower one.
 #[derive(Drop)]
-pub struct OwnBest<C: Run> {
+pub struct OwnBest<C: SearchCase> {
     pass: Pass,
     schedule: Option<(Printed, i64)>,
     of: PhantomData<C>,
 }
 
-impl<C: Run> Model for OwnBest<C> {
+impl<C: SearchCase> Model for OwnBest<C> {
     ghost use Rattle.search_desk.specs.Passes.{OwnBestView, IsOwnBest, own_best_of};
 
     ghost Value = { OwnBestView };
@@ -33,7 +33,7 @@ impl<C: Run> Model for OwnBest<C> {
     ghost invariant = { λ own. IsOwnBest C.exact_dispatch C.opening.instance C.incumbent own.pass own.schedule };
 }
 
-impl<C: Run> OwnBest<C> {
+impl<C: SearchCase> OwnBest<C> {
     /// No schedule yet.
     pub fn new(pass: Pass) -> OwnBest<C>
         requires object { pass.object ≡ C.incumbent }

@@ -5,7 +5,7 @@ use std::marker::Brand;
 
 /// A search: the run of its book, the incumbent that its passes are of, whether its claims evaluate VE, and whether it lets out schedules of the
 /// exact dispatch. It has no call and no data; a type that is generic in it says of which search its values are. Each search picks it once, where it passes `Brand`.
-pub trait Run: Case {
+pub trait SearchCase: Case {
     ghost use Rattle.atomic_table.specs.Seated.{TableId};
 
     ghost incumbent: { TableId };
@@ -17,7 +17,7 @@ pub trait Run: Case {
     ghost exact_dispatch: { Bool };
 }
 
-impl Run for Brand {
+impl SearchCase for Brand {
     ghost use Rattle.search_desk.specs.Passes.{no_incumbent};
 
     ghost incumbent = { no_incumbent };

@@ -9,7 +9,7 @@ use Rattle.branch_tree.specs.Prelude.{NumberedTree, node_count, IsOpenAt}
 use Rattle.branch_tree.proofs.Changes.{get-set_other, get-append}
 use Rattle.branch_tree.proofs.Subtrees.{one_here, none_here}
 use Rattle.branch_tree.proofs.Grown.{open_numbered}
-use Rattle.search_machine.specs.Machine.{Holder, holder_in, IsHeldIn, Desk, no_desk, desk_in, Machine, IsHolding}
+use Rattle.search_machine.specs.Machine.{Holder, holder_in, IsHeldIn, WorkerState, no_desk, desk_in, Machine, IsHolding}
 use Rattle.search_machine.specs.Orderly.{AreHoldersApart, held_count, times_at, times_in, IsEachTicketOnce, IsOrderly}
 use Rattle.search_machine.specs.Steps.{with_desk, with_tickets, with_queued, without_first, first_queued, is_in_hand, taken}
 
@@ -167,25 +167,25 @@ abbrev pub times_among : List ℕ → ℕ → ℕ
 times_among tickets node = count_by (λ ticket. ticket == node) tickets
 
 -- one desk's change
-pub times-with_desk : (desks : List Desk) (worker : ℕ) (change : Desk → Desk) (node : ℕ) → worker < length desks
+pub times-with_desk : (desks : List WorkerState) (worker : ℕ) (change : WorkerState → WorkerState) (node : ℕ) → worker < length desks
     → times_in (with_desk desks worker change) node + times_at (desk_in desks worker) node
     ≡ times_in desks node + times_at (change (desk_in desks worker)) node
 times-with_desk desks worker change node within =
     sum_by-set (λ desk. times_at desk node) desks worker (change (desk_in desks worker)) no_desk within
 
 -- a change that keeps the tickets
-pub times_kept : (desks : List Desk) (worker : ℕ) (change : Desk → Desk) (node : ℕ) → worker < length desks
+pub times_kept : (desks : List WorkerState) (worker : ℕ) (change : WorkerState → WorkerState) (node : ℕ) → worker < length desks
     → times_at (change (desk_in desks worker)) node ≡ times_at (desk_in desks worker) node
     → times_in (with_desk desks worker change) node ≡ times_in desks node
 times_kept desks worker change node within same = omega (arith, times-with_desk desks worker change node within)
 
 -- tickets that come to a hand
-pub times-with_tickets : (desk : Desk) (tickets : List ℕ) (node : ℕ)
+pub times-with_tickets : (desk : WorkerState) (tickets : List ℕ) (node : ℕ)
     → times_at (with_tickets desk tickets) node ≡ times_at desk node + times_among tickets node
 times-with_tickets desk tickets node =
     omega (arith, sum_by-append (λ (ticket : ℕ). cond (ticket == node) 1 0) desk.hand tickets)
 
-pub times_more : (desks : List Desk) (worker : ℕ) (tickets : List ℕ) (node : ℕ) → worker < length desks
+pub times_more : (desks : List WorkerState) (worker : ℕ) (tickets : List ℕ) (node : ℕ) → worker < length desks
     → times_in (with_desk desks worker (λ desk. with_tickets desk tickets)) node ≡ times_in desks node + times_among tickets node
 times_more desks worker tickets node within =
     omega (
@@ -240,7 +240,7 @@ some_among (x ∷ xs) node e = ⊎_elim
     omega (arith, times-cons x xs node, some_among xs node later))
     (cases_Bool (x == node))
 
-times-queued : (desk : Desk) (gone node : ℕ) → times_among desk.hand gone ≡ 1
+times-queued : (desk : WorkerState) (gone node : ℕ) → times_among desk.hand gone ≡ 1
     → times_at (with_queued desk gone) node ≡ times_at desk node
 times-queued desk gone node one =
     let queue = sum_by-append (λ (ticket : ℕ). cond (ticket == node) 1 0) desk.queue (gone ∷ []) in
@@ -257,7 +257,7 @@ times-queued desk gone node one =
     (cases_eq node gone)
 
 -- where each ticket is once, the one in the hand is there once
-pub tickets_queued : (desks : List Desk) (count worker gone : ℕ) → IsEachTicketOnce desks count → worker < length desks
+pub tickets_queued : (desks : List WorkerState) (count worker gone : ℕ) → IsEachTicketOnce desks count → worker < length desks
     → IsTrue (is_in_hand (desk_in desks worker) gone)
     → IsEachTicketOnce (with_desk desks worker (λ desk. with_queued desk gone)) count
 tickets_queued desks count worker gone once within in_hand node =
@@ -280,18 +280,18 @@ times-first [] node some = absurd (omega arith)
 times-first (x ∷ xs) node some = omega (arith, times-cons x xs node, times-cons x [] node)
 
 -- what another desk's hand became leaves each queue
-queue-with_tickets : (desks : List Desk) (worker victim : ℕ) (tickets : List ℕ) → worker < length desks
+queue-with_tickets : (desks : List WorkerState) (worker victim : ℕ) (tickets : List ℕ) → worker < length desks
     → (desk_in (with_desk desks worker (λ desk. with_tickets desk tickets)) victim).queue ≡ (desk_in desks victim).queue
 queue-with_tickets desks worker victim tickets within =
     let new = with_tickets (desk_in desks worker) tickets in
     ⊎_elim
     (λ (e : victim ≡ worker).
     subst (λ v. (desk_in (set desks worker new) v).queue ≡ (desk_in desks v).queue) (sym e)
-    (ap (λ (d : Desk). d.queue) (get_or-set_same desks worker new no_desk within)))
-    (λ (d : victim ≡ worker → ⊥). ap (λ (d : Desk). d.queue) (get_or-set_other desks worker victim new no_desk d))
+    (ap (λ (d : WorkerState). d.queue) (get_or-set_same desks worker new no_desk within)))
+    (λ (d : victim ≡ worker → ⊥). ap (λ (d : WorkerState). d.queue) (get_or-set_other desks worker victim new no_desk d))
     (cases_eq victim worker)
 
-pub tickets_taken : (desks : List Desk) (count worker victim : ℕ) → IsEachTicketOnce desks count → worker < length desks → victim < length desks
+pub tickets_taken : (desks : List WorkerState) (count worker victim : ℕ) → IsEachTicketOnce desks count → worker < length desks → victim < length desks
     → 0 < length (desk_in desks victim).queue → IsEachTicketOnce (taken desks worker victim) count
 tickets_taken desks count worker victim once within known some node =
     let first = first_queued (desk_in desks victim) ∷ [] in
@@ -310,13 +310,13 @@ tickets_taken desks count worker victim once within known some node =
 two_more : (count node : ℕ) → cond (nat_lt node count) 1 0 + times_among (count ∷ suc count ∷ []) node ≡ cond (nat_lt node (count + 2)) 1 0
 two_more count node = grind (arith, nat_tests, times-cons count (suc count ∷ []) node, times-cons (suc count) [] node, times-cons)
 
-pub tickets_more : (desks : List Desk) (count worker : ℕ) → IsEachTicketOnce desks count → worker < length desks
+pub tickets_more : (desks : List WorkerState) (count worker : ℕ) → IsEachTicketOnce desks count → worker < length desks
     → IsEachTicketOnce (with_desk desks worker (λ desk. with_tickets desk (count ∷ suc count ∷ []))) (count + 2)
 tickets_more desks count worker once within node =
     let more = times_more desks worker (count ∷ suc count ∷ []) node within in
     omega (arith, more, once node, two_more count node)
 
-pub tickets_same : (desks : List Desk) (count worker : ℕ) → IsEachTicketOnce desks count → worker < length desks
+pub tickets_same : (desks : List WorkerState) (count worker : ℕ) → IsEachTicketOnce desks count → worker < length desks
     → IsEachTicketOnce (with_desk desks worker (λ desk. with_tickets desk [])) count
 tickets_same desks count worker once within node =
     let more = times_more desks worker [] node within in

@@ -9,7 +9,7 @@ use Rattle.branch_tree.specs.Prelude.{node_count, TreeView, IsOpenAt, lesser_bou
 use Rattle.branch_tree.specs.declared.tree.Leaf.TheVariants as leaf
 use Rattle.branch_tree.proofs.Grown.{open_numbered, root_placed}
 use Rattle.branch_tree.proofs.Subtrees.{one_if}
-use Rattle.search_machine.specs.Machine.{Entry, Table, Holder, Desk, Machine, holder_of, IsWorker, desk_in, no_desk, first_desk, start_of}
+use Rattle.search_machine.specs.Machine.{Entry, Table, Holder, WorkerState, Machine, holder_of, IsWorker, desk_in, no_desk, first_desk, start_of}
 use Rattle.search_machine.specs.declared.stored.Stored.{Stored}
 use Rattle.search_machine.specs.Moves.{children_by, Again, Outcome, Split, Move, kept, tree_after, tickets_of, IsFreeFor, IsMoveLegal}
 use Rattle.search_machine.specs.Steps.{Claim, Commit, Look, Pop, Publish, Push, Steal, Event, IsLegalBy, committed, committed_by, after, with_desk, with_tickets, IsClaimable}
@@ -20,8 +20,8 @@ use Rattle.search_machine.proofs.Growth.{IsSound, tree_grows}
 -- ---- the start
 first_tickets : (workers : ℕ) → IsEachTicketOnce (first_desk ∷ replicate workers no_desk) 1
 first_tickets workers node =
-    let all = sum_by-cons (λ (desk : Desk). times_at desk node) first_desk (replicate workers no_desk) in
-    let others = sum_by-replicate (λ (desk : Desk). times_at desk node) workers no_desk in
+    let all = sum_by-cons (λ (desk : WorkerState). times_at desk node) first_desk (replicate workers no_desk) in
+    let others = sum_by-replicate (λ (desk : WorkerState). times_at desk node) workers no_desk in
     let none : workers * 0 ≡ 0 = grind arith in
     let one : one_if (0 == node) ≡ one_if (nat_lt node 1) = grind (arith, nat_tests) in
     omega (arith, all, others, none, one)
@@ -46,7 +46,7 @@ orderly_start units periods workers budget gap table value most whole = record {
 
 -- ---- the desks
 -- only they, and what was published, changed
-desks_changed : (m : Machine) (best : Option ℤ) (desks : List Desk) → IsOrderly m → IsEachTicketOnce desks (node_count m.tree.nodes)
+desks_changed : (m : Machine) (best : Option ℤ) (desks : List WorkerState) → IsOrderly m → IsEachTicketOnce desks (node_count m.tree.nodes)
     → IsOrderly (record m { best = best; desks = desks })
 desks_changed m best desks orderly once = record {
   placed = orderly.placed;
@@ -58,8 +58,8 @@ desks_changed m best desks orderly once = record {
 }
 
 -- a change of a desk that keeps its tickets
-seen_changed : (m : Machine) (worker : ℕ) (change : Desk → Desk) → IsOrderly m → IsWorker m worker
-    → ((desk : Desk) (node : ℕ) → times_at (change desk) node ≡ times_at desk node)
+seen_changed : (m : Machine) (worker : ℕ) (change : WorkerState → WorkerState) → IsOrderly m → IsWorker m worker
+    → ((desk : WorkerState) (node : ℕ) → times_at (change desk) node ≡ times_at desk node)
     → IsEachTicketOnce (with_desk m.desks worker change) (node_count m.tree.nodes)
 seen_changed m worker change orderly within same node =
     times_kept m.desks worker change node within (same (desk_in m.desks worker) node) ∙ orderly.tickets node

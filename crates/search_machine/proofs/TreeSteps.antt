@@ -12,7 +12,7 @@ use Rattle.branch_tree.specs.declared.tree.Leaf.TheVariants as leaf
 use Rattle.branch_tree.specs.declared.found.Outcome.TheVariants as outcome
 use Rattle.branch_tree.proofs.Changes.{get-append}
 use Rattle.search_machine.specs.Runs.{Leaf, Node, Instance, IsTrueOutcome, IsTrueEvent, IsTrueStart}
-use Rattle.search_machine.specs.Machine.{Table, Desk, Machine, Holder, IsHolding, stored_at, spot_stored}
+use Rattle.search_machine.specs.Machine.{Table, WorkerState, Machine, Holder, IsHolding, stored_at, spot_stored}
 use Rattle.search_machine.specs.declared.stored.Stored.{Stored}
 use Rattle.search_machine.specs.Moves.{Outcome, bound_of, kept_after, IsPositive, Again, Empty, Prune, Ray, Split, Move, kept, ray_leaf, empty_leaf, IsMoveLegal}
 use Rattle.search_machine.specs.Steps.{Claim, Commit, Look, Pop, Publish, Push, Steal, Event, IsLegalBy, committed, committed_by, after}
@@ -205,7 +205,7 @@ start_tree instance m start = subst (IsTrueTree instance) (sym start.is_start) (
 })
 
 -- what changes neither the tree nor the tables
-same_tree : (instance : Instance) (m : Machine) (claims : List (Option Holder)) (best : Option ℤ) (desks : List Desk) → IsTrueTree instance m
+same_tree : (instance : Instance) (m : Machine) (claims : List (Option Holder)) (best : Option ℤ) (desks : List WorkerState) → IsTrueTree instance m
     → IsOrderly (record m { claims = claims; best = best; desks = desks })
     → IsTrueTree instance (record m { claims = claims; best = best; desks = desks })
 same_tree instance m claims best desks is orderly = record { orderly = orderly; size = is.size; lawful = is.lawful; stored = is.stored }

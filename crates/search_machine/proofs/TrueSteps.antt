@@ -15,7 +15,7 @@ use Rattle.branch_tree.specs.declared.tree.Leaf.TheVariants as leaf
 use Rattle.branch_tree.proofs.Grown.{IsClosedLeaf, each_leaf_map, all_closed}
 use Rattle.branch_tree.proofs.Bounds.{at_most_itself, at_most_through, lesser_first, lesser_second, lesser_greatest, stored_bounds_hold, excluded_below}
 use Rattle.search_machine.specs.Runs.{Leaf, Node, WHOLE_GAP, IsBestWithin, IsPrunedWithin, Instance, IsTrueCost, IsTrueEvent, IsTrueStart, IsTrueRun, IsTrueRunBy, IsReachedBy, IsSettled, TreeHoldsAt, HoldsAt, HoldsAlong, RunsHold, StartsAreReached, StepsReach, ReachedStatesHold, TreeRunsHold, after_all}
-use Rattle.search_machine.specs.Machine.{Table, Desk, Machine, IsWorker, IsHolding, no_desk, desk_in, Holder, first_desk, holder_of}
+use Rattle.search_machine.specs.Machine.{Table, WorkerState, Machine, IsWorker, IsHolding, no_desk, desk_in, Holder, first_desk, holder_of}
 use Rattle.search_machine.specs.Moves.{Outcome, Again, Empty, Prune, Ray, Split, Move, kept, tickets_of, unit_of, IsMoveLegal}
 use Rattle.search_machine.specs.Steps.{Claim, Commit, Look, Pop, Publish, Push, Steal, Event, IsLegal, IsLegalBy, HasSeen, AnyCost, committed, committed_by, after, with_desk, with_tickets, with_queued, without_first, first_queued, taken}
 use Rattle.search_machine.specs.Orderly.{IsOrderly}
@@ -93,7 +93,7 @@ pub record AreCostsTrue (instance : Instance) (m : Machine) : Type 0 where
 
 -- ---- what each worker has seen
 -- a list with one item set, where all items and the new one are so
-all_set : (P : Desk → Type 0) (xs : List Desk) (i : ℕ) (y : Desk) → All P xs → P y → All P (set xs i y)
+all_set : (P : WorkerState → Type 0) (xs : List WorkerState) (i : ℕ) (y : WorkerState) → All P xs → P y → All P (set xs i y)
 all_set P xs i y each own k d within = ⊎_elim
     (λ (e : k ≡ i). subst (λ n. P (get_or (set xs i y) n d)) (sym e)
     (subst P (sym (get_or-set_same xs i y d (omega (arith, length-set xs i y)))) own))
@@ -105,12 +105,12 @@ desk_seen : (m : Machine) (worker : ℕ) → All (λ desk. AtMost m.best desk.se
     → AtMost m.best (desk_in m.desks worker).seen
 desk_seen m worker each within = each worker no_desk within
 
-least_with : (best : Option ℤ) (desks : List Desk) (worker : ℕ) (change : Desk → Desk) → All (λ desk. AtMost best desk.seen) desks
+least_with : (best : Option ℤ) (desks : List WorkerState) (worker : ℕ) (change : WorkerState → WorkerState) → All (λ desk. AtMost best desk.seen) desks
     → AtMost best (change (desk_in desks worker)).seen → All (λ desk. AtMost best desk.seen) (with_desk desks worker change)
 least_with best desks worker change each own =
     all_set (λ desk. AtMost best desk.seen) desks worker (change (desk_in desks worker)) each own
 
-least_kept : (best : Option ℤ) (desks : List Desk) (worker : ℕ) (change : Desk → Desk) → ((desk : Desk) → (change desk).seen ≡ desk.seen)
+least_kept : (best : Option ℤ) (desks : List WorkerState) (worker : ℕ) (change : WorkerState → WorkerState) → ((desk : WorkerState) → (change desk).seen ≡ desk.seen)
     → All (λ desk. AtMost best desk.seen) desks → worker < length desks → All (λ desk. AtMost best desk.seen) (with_desk desks worker change)
 least_kept best desks worker change same each within =
     least_with best desks worker change each (subst (AtMost best) (sym (same (desk_in desks worker))) (each worker no_desk within))
@@ -125,7 +125,7 @@ taken_least m worker victim each within known =
     (omega (arith, length-set m.desks worker (with_tickets (desk_in m.desks worker) first)))
 
 -- ---- a change of the desks alone
-moved : (instance : Instance) (m : Machine) (desks : List Desk) → AreCostsTrue instance m → All (λ desk. AtMost m.best desk.seen) desks
+moved : (instance : Instance) (m : Machine) (desks : List WorkerState) → AreCostsTrue instance m → All (λ desk. AtMost m.best desk.seen) desks
     → AreCostsTrue instance (record m { desks = desks })
 moved instance m desks is least = record { least = least; priced = is.priced; pruned = is.pruned }
 
@@ -206,11 +206,11 @@ costs_after law instance m (Steal worker victim) orderly is legal told =
 
 -- ---- A true start is true, what is true of a state is what holds there, and so runs hold.
 -- ---- the start
-desks_see_nothing : (workers : ℕ) → All (λ (desk : Desk). AtMost None desk.seen) (first_desk ∷ replicate workers no_desk)
+desks_see_nothing : (workers : ℕ) → All (λ (desk : WorkerState). AtMost None desk.seen) (first_desk ∷ replicate workers no_desk)
 desks_see_nothing workers =
-    All-cons (λ (desk : Desk). AtMost None desk.seen) first_desk (replicate workers no_desk) tt
+    All-cons (λ (desk : WorkerState). AtMost None desk.seen) first_desk (replicate workers no_desk) tt
     (λ k d within.
-    subst (λ (desk : Desk). AtMost None desk.seen)
+    subst (λ (desk : WorkerState). AtMost None desk.seen)
     (sym (get_or-replicate workers k no_desk d (omega (arith, length-replicate workers no_desk)))) tt)
 
 start_costs : (instance : Instance) (m : Machine) → IsTrueStart instance m → AreCostsTrue instance m

@@ -8,7 +8,7 @@ use Rattle.branch_tree.specs.declared.tree.Leaf.TheVariants as leaf
 use Rattle.branch_tree.specs.declared.tree.Spot.{Spot}
 use Rattle.branch_tree.specs.declared.tree.Spot.TheVariants as spot
 pub use Rattle.branch_tree.specs.declared.found.Entry.{Entry}
-pub use Rattle.search_machine.specs.declared.desk.Desk.{Desk}
+pub use Rattle.search_machine.specs.declared.desk.WorkerState.{WorkerState}
 pub use Rattle.search_machine.specs.declared.holder.Holder.{Holder}
 use Rattle.search_machine.specs.declared.stored.Stored.{Stored}
 
@@ -26,20 +26,20 @@ pub record Machine : Type 0 where
   -- the least cost that was published
   pub best : Option ℤ
   -- of each worker the least cost that it has seen, and its tickets: those in its hand, and those in its queue
-  pub desks : List Desk
+  pub desks : List WorkerState
 
 -- ---- the workers
 abbrev pub IsWorker : Machine → ℕ → Type 0
 IsWorker m worker = worker < length m.desks
 
 -- nothing seen, and no ticket
-abbrev pub no_desk : Desk
+abbrev pub no_desk : WorkerState
 no_desk = record { seen = None; hand = []; queue = [] }
 
-abbrev pub desk_in : List Desk → ℕ → Desk
+abbrev pub desk_in : List WorkerState → ℕ → WorkerState
 desk_in desks worker = slice_index_or desks worker no_desk
 
-abbrev pub desk_of : Machine → ℕ → Desk
+abbrev pub desk_of : Machine → ℕ → WorkerState
 desk_of m worker = desk_in m.desks worker
 
 -- ---- the claims
@@ -105,7 +105,7 @@ abbrev pub room_for : ℕ → ℕ
 room_for budget = 2 * budget + 1
 
 -- the first worker has the root's ticket
-abbrev pub first_desk : Desk
+abbrev pub first_desk : WorkerState
 first_desk = record { seen = None; hand = 0 ∷ []; queue = [] }
 
 -- an open root of this table and its bound, by V

@@ -6,17 +6,17 @@ pub use Rattle.uc_model.specs.declared.tolerance.TheConstants.{WHOLE_GAP}
 use Rattle.dual_model.specs.Prelude.{IsCover}
 use Rattle.branch_tree.specs.Prelude.{NumberedTree, node_count, IsPlaced, TreeView, IsSizeOf, IsOpenAt, tree_of}
 pub use Rattle.search_machine.specs.declared.limits.TheConstants.{MAX_BUDGET}
-use Rattle.search_machine.specs.Machine.{Table, Holder, Desk, Machine, room_for}
+use Rattle.search_machine.specs.Machine.{Table, Holder, WorkerState, Machine, room_for}
 
 -- how often the ticket of the node is in a hand or a queue
-abbrev pub times_at : Desk → ℕ → ℕ
+abbrev pub times_at : WorkerState → ℕ → ℕ
 times_at desk node = count_by (λ ticket. ticket == node) desk.hand + count_by (λ ticket. ticket == node) desk.queue
 
-abbrev pub times_in : List Desk → ℕ → ℕ
+abbrev pub times_in : List WorkerState → ℕ → ℕ
 times_in desks node = sum_by (λ desk. times_at desk node) desks
 
 -- each node's ticket is in exactly one hand or queue, and there are no others
-abbrev pub IsEachTicketOnce : List Desk → ℕ → Type 0
+abbrev pub IsEachTicketOnce : List WorkerState → ℕ → Type 0
 IsEachTicketOnce desks count = (node : ℕ) → times_in desks node ≡ (if nat_lt node count then 1 else 0)
 
 -- each node that is held is an open leaf, held by one claim

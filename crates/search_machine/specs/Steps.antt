@@ -6,7 +6,7 @@ use Rattle.branch_tree.specs.Prelude.{lesser_bound}
 pub use Rattle.branch_tree.specs.declared.found.Outcome.{Outcome}
 pub use Rattle.search_machine.specs.declared.event.Event.{Event}
 pub use Rattle.search_machine.specs.declared.event.Event.TheVariants.{Claim, Commit, Publish, Look, Push, Pop, Steal}
-use Rattle.search_machine.specs.Machine.{Entry, Table, Holder, Desk, Machine, IsWorker, desk_in, desk_of, holder_of, IsHolding, IsOpen, entries_of, stored_at}
+use Rattle.search_machine.specs.Machine.{Entry, Table, Holder, WorkerState, Machine, IsWorker, desk_in, desk_of, holder_of, IsHolding, IsOpen, entries_of, stored_at}
 use Rattle.search_machine.specs.Moves.{Move, kept, tree_after, tickets_of, HasFreeCell, IsMoveLegal}
 
 -- ---- where an event is legal
@@ -38,7 +38,7 @@ pub record IsCommittable (IsSeen : ℤ → Type 0) (m : Machine) (worker unit : 
   pub first : entries_of m.log node ≡ [] → node ≢ 0 → HasFreeCell m.tree node → IsStoredTable m node table
   pub legal : IsMoveLegal IsSeen m node table exact outcome action
 
-abbrev pub is_in_hand : Desk → ℕ → Bool
+abbrev pub is_in_hand : WorkerState → ℕ → Bool
 is_in_hand desk node = list_any (λ ticket. ticket == node) desk.hand
 
 -- where an event is legal, by the costs that each worker may prune by
@@ -66,23 +66,23 @@ AnyCost m worker seen = Unit {0}
 
 -- ---- what a worker's desk becomes
 -- the tickets come to its hand
-abbrev pub with_tickets : Desk → List ℕ → Desk
+abbrev pub with_tickets : WorkerState → List ℕ → WorkerState
 with_tickets desk tickets = record desk { hand = desk.hand ++ tickets }
 
 -- the ticket moves from the hand to the back of the queue
-abbrev pub with_queued : Desk → ℕ → Desk
+abbrev pub with_queued : WorkerState → ℕ → WorkerState
 with_queued desk node =
     record desk { hand = filter (λ ticket. not (ticket == node)) desk.hand; queue = desk.queue ++ node ∷ [] }
 
 -- the first ticket leaves the queue
-abbrev pub without_first : Desk → Desk
+abbrev pub without_first : WorkerState → WorkerState
 without_first desk = record desk { queue = drop 1 desk.queue }
 
-abbrev pub first_queued : Desk → ℕ
+abbrev pub first_queued : WorkerState → ℕ
 first_queued desk = slice_index_or desk.queue 0 0
 
 -- one worker's desk becomes another
-abbrev pub with_desk : List Desk → ℕ → (Desk → Desk) → List Desk
+abbrev pub with_desk : List WorkerState → ℕ → (WorkerState → WorkerState) → List WorkerState
 with_desk desks worker change = slice_set desks worker (change (desk_in desks worker))
 
 -- ---- the state after an event
@@ -101,7 +101,7 @@ committed_by m worker unit table exact outcome action None = m
 committed_by m worker unit table exact outcome action (Some holder) = committed m worker unit holder.node table exact outcome action
 
 -- the victim's first ticket comes to the worker's hand
-abbrev pub taken : List Desk → ℕ → ℕ → List Desk
+abbrev pub taken : List WorkerState → ℕ → ℕ → List WorkerState
 taken desks worker victim =
     with_desk (with_desk desks worker (λ desk. with_tickets desk (first_queued (desk_in desks victim) ∷ []))) victim without_first
 

@@ -14,9 +14,9 @@ ghost use Rattle.tree_search.specs.inside.Searches.{opening_by};
 use crate::options::Options;
 use book::Book;
 use incumbent::{Best, Pass};
-use node_visits::{Start, Worker};
+use node_visits::{SearchStart, Worker};
 use prices::{Ascent, SCALE};
-use search_desk::{OwnBest, Run, is_closed};
+use search_desk::{OwnBest, SearchCase, is_closed};
 use std::alloc::Global;
 use uc_model::{NoMemory, Printed, floor_div};
 
@@ -24,7 +24,7 @@ use uc_model::{NoMemory, Printed, floor_div};
 #[derive(Drop)]
 pub(crate) struct Begun<'a> {
     pub worker: Worker<'a>,
-    pub start: Start,
+    pub start: SearchStart,
     pub best: Best,
     pub pass: Pass,
 }
@@ -32,7 +32,7 @@ pub(crate) struct Begun<'a> {
 /// The worker that begins, the best schedule so far with all parts of the incumbent, this, and the ascent of the first claim, where it was made
 /// already.
 #[derive(Drop)]
-pub(crate) struct Crew<'a, C: Run> {
+pub(crate) struct Crew<'a, C: SearchCase> {
     pub worker: Worker<'a>,
     pub own: OwnBest<C>,
     pub best: Best,
@@ -58,7 +58,11 @@ impl<'a> Begun<'a> {
     }
 
     /// The book of the search, whose root stores the opening's table. The only error is `NoMemory`.
-    pub(crate) fn book<C: Run>(&self, alloc: Global, options: &Options) -> Result<Book<C>, NoMemory>
+    pub(crate) fn book<C: SearchCase>(
+        &self,
+        alloc: Global,
+        options: &Options,
+    ) -> Result<Book<C>, NoMemory>
         requires options { AreOptions options.now }
         requires opening { C.opening ≡ opening_by self.now.worker self.now.start.opening options.now.budget options.now.gap }
         requires priced { IsPricedOf self.now.worker self.now.start.opening }
@@ -85,7 +89,7 @@ impl<'a> Begun<'a> {
             pass,
         } = self;
         drop((worker, best, pass));
-        let Start {
+        let SearchStart {
             opening,
             best: schedule,
             next,
@@ -95,7 +99,7 @@ impl<'a> Begun<'a> {
     }
 
     /// The same for a search by workers, with the opening's schedule published.
-    pub(crate) fn into_crew<C: Run>(self) -> Crew<'a, C>
+    pub(crate) fn into_crew<C: SearchCase>(self) -> Crew<'a, C>
         requires object { self.best.object ≡ C.incumbent }
         requires pass_object { self.pass.object ≡ C.incumbent }
         requires pass_parts { self.pass.parts ≡ self.best.parts }
@@ -113,7 +117,7 @@ impl<'a> Begun<'a> {
             best,
             pass,
         } = self;
-        let Start {
+        let SearchStart {
             opening,
             best: schedule,
             next,

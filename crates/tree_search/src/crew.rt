@@ -10,10 +10,10 @@ use claims::Ticket;
 use closing_pass::Host;
 use crossbeam_utils::Backoff;
 use incumbent::Best;
-use node_visits::{Aim, Effort, Visited, Worker, beside, enough, evaluated, moves};
+use node_visits::{Aim, RepairEffort, Visited, Worker, beside, enough, evaluated, moves};
 use outside::Gate;
 use prices::Ascent;
-use search_desk::{Claim, Desk, Evaluated, Left, OwnBest, Run, Taken, Tickets};
+use search_desk::{CommitAnswer, Desk, Evaluated, HeldNode, OwnBest, SearchCase, Taken, Tickets};
 use search_machine::Move;
 use std::alloc::Global;
 use std::sync::{Condvar, Mutex, Wait};
@@ -24,7 +24,7 @@ const STEAL_ROUNDS: u32 = 8;
 
 /// What all workers share: the desk under its lock, and where they wait for news of it; the incumbent; and how they search.
 #[derive(Drop)]
-pub(crate) struct Shared<C: Run> {
+pub(crate) struct Shared<C: SearchCase> {
     pub desk: Mutex<Desk<C>>,
     pub news: Condvar,
     pub best: Best,
@@ -36,7 +36,7 @@ pub(crate) struct Shared<C: Run> {
     ghost exhaustive: { IsExhaustiveFor C.exact_dispatch C.opening aim.pivoting },
 }
 
-impl<C: Run> Shared<C> {
+impl<C: SearchCase> Shared<C> {
     /// What workers share that search by this desk.
     pub(crate) fn new(desk: Desk<C>, best: Best, aim: Aim) -> Shared<C>
         requires object { best.object ≡ C.incumbent }
@@ -58,7 +58,7 @@ impl<C: Run> Shared<C> {
 /// A worker with what it has found and its tickets; an ascent to be repaired before it takes a node; and how many workers waited for one when it
 /// looked last.
 #[derive(Drop)]
-pub(crate) struct Member<'a, C: Run> {
+pub(crate) struct Member<'a, C: SearchCase> {
     worker: Worker<'a>,
     own: OwnBest<C>,
     tickets: Tickets,
@@ -73,11 +73,11 @@ pub(crate) struct Member<'a, C: Run> {
 #[derive(Drop)]
 struct Late {
     ascent: Ascent,
-    left: Left,
+    left: CommitAnswer,
     unit: u32,
 }
 
-impl<'a, C: Run> Member<'a, C> {
+impl<'a, C: SearchCase> Member<'a, C> {
     /// A worker without a ticket.
     pub(crate) fn new(
         worker: Worker<'a>,
@@ -121,7 +121,7 @@ impl<'a, C: Run> Member<'a, C> {
     }
 
     // Takes the tickets that the commit of a claim left. Whether there is news for the workers that wait.
-    fn take_tickets(&mut self, claim: &Claim, left: &Left) -> Result<bool, NoMemory> {
+    fn take_tickets(&mut self, claim: &HeldNode, left: &CommitAnswer) -> Result<bool, NoMemory> {
         let bound = left.stored;
         self.waiting = left.waiting;
         match (left.action, left.children) {
@@ -164,7 +164,7 @@ impl<'a, C: Run> Member<'a, C> {
         if late.ascent.shares.is_empty() || is_closed_by(late.left.seen, bound, gap) {
             return Ok(());
         }
-        let effort = Effort {
+        let effort = RepairEffort {
             moves: moves(self.worker.instance(), late.unit),
             enough: enough(bound, gap),
         };
@@ -193,7 +193,7 @@ fn is_repaired(next: &Option<Ascent>) -> bool {
 }
 
 // The node to claim next: one of the worker's own, or one that it steals.
-fn next_node<C: Run>(member: &mut Member<C>) -> Result<Option<u32>, NoMemory> {
+fn next_node<C: SearchCase>(member: &mut Member<C>) -> Result<Option<u32>, NoMemory> {
     if let Some(node) = member.tickets.take(member.waiting)? {
         return Ok(Some(node));
     }
@@ -208,14 +208,14 @@ fn next_node<C: Run>(member: &mut Member<C>) -> Result<Option<u32>, NoMemory> {
 }
 
 // The ascent, with what its commit left.
-fn put_by(ascent: Option<Ascent>, left: Left, unit: u32) -> Option<Late> {
+fn put_by(ascent: Option<Ascent>, left: CommitAnswer, unit: u32) -> Option<Late> {
     match ascent {
         Some(ascent) => Some(Late { ascent, left, unit }),
         None => None,
     }
 }
 
-impl<C: Run> Shared<C> {
+impl<C: SearchCase> Shared<C> {
     ghost use Rattle.search_desk.specs.Best.{cost_of};
     ghost use Rattle.search_desk.specs.Desks.{IsClaimOf, IsTakenOf};
     ghost use Rattle.search_desk.specs.Dispatches.{IsFirstByDispatch};
@@ -320,7 +320,7 @@ impl<C: Run> Shared<C> {
         &self,
         host: &Host<R, G>,
         member: &mut Member<C>,
-        claim: &Claim,
+        claim: &HeldNode,
     ) -> Result<bool, NoMemory>
         requires { IsClaimOf C.opening claim.now }
     {
@@ -337,7 +337,7 @@ impl<C: Run> Shared<C> {
         &self,
         host: &Host<R, G>,
         member: &mut Member<C>,
-        claim: &Claim,
+        claim: &HeldNode,
         next: &mut Option<Ascent>,
     ) -> Result<(), NoMemory>
         requires claim { IsClaimOf C.opening claim.now }
@@ -371,9 +371,9 @@ impl<C: Run> Shared<C> {
         &self,
         rt: &R,
         member: &mut Member<C>,
-        claim: &Claim,
+        claim: &HeldNode,
         done: Evaluated,
-    ) -> Result<Left, NoMemory>
+    ) -> Result<CommitAnswer, NoMemory>
         requires claim { IsClaimOf C.opening claim.now }
         requires done { IsEvaluatedFor C.exact C.opening.instance claim.now done }
         requires dispatch { IsFirstByDispatch C.exact_dispatch C.opening claim.now.path claim.now.had (cost_of member.old.own.schedule) done }

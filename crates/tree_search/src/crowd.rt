@@ -20,7 +20,7 @@ use decided_nodes::Pivoting;
 use node_visits::{Aim, beside};
 use outside::Gate;
 use prices::Ascent;
-use search_desk::{Desk, OwnBest, Run};
+use search_desk::{Desk, OwnBest, SearchCase};
 use std::alloc::Global;
 use std::sync::Wait;
 use std::thread::{Threads, for_each_mut};
@@ -29,7 +29,7 @@ use uc_model::{NoMemory, Printed};
 
 /// What the workers share, the caller's own schedule and pass, the workers, and the ascent of the first claim, where it was made already.
 #[derive(Drop)]
-pub(crate) struct Crowd<'a, C: Run> {
+pub(crate) struct Crowd<'a, C: SearchCase> {
     shared: Shared<C>,
     own: OwnBest<C>,
     members: Vec<Member<'a, C>>,
@@ -38,7 +38,7 @@ pub(crate) struct Crowd<'a, C: Run> {
 }
 
 /// The book and the best schedule after all workers have ended. The only error is `NoMemory`.
-pub(crate) fn crowded<C: Run + Send + Sync, R: Threads + Wait + Sync, G: Gate + Sync>(
+pub(crate) fn crowded<C: SearchCase + Send + Sync, R: Threads + Wait + Sync, G: Gate + Sync>(
     host: &Host<R, G>,
     options: &Options,
     crew: Crew<C>,
@@ -74,7 +74,7 @@ pub(crate) fn crowded<C: Run + Send + Sync, R: Threads + Wait + Sync, G: Gate + 
 }
 
 // The workers of the crew, by a desk with this book. The only error is `NoMemory`.
-fn gathered<'a, C: Run>(
+fn gathered<'a, C: SearchCase>(
     alloc: Global,
     options: &Options,
     crew: Crew<'a, C>,
@@ -122,7 +122,7 @@ fn gathered<'a, C: Run>(
 
 // Makes the first claim, and has each worker claim until the search is over. The only error is `NoMemory`, where it was refused to the first
 // claim.
-fn work_off<C: Run + Send + Sync, R: Threads + Wait + Sync, G: Gate + Sync>(
+fn work_off<C: SearchCase + Send + Sync, R: Threads + Wait + Sync, G: Gate + Sync>(
     host: &Host<R, G>,
     shared: &Shared<C>,
     members: &mut Vec<Member<C>>,
@@ -143,7 +143,7 @@ fn work_off<C: Run + Send + Sync, R: Threads + Wait + Sync, G: Gate + Sync>(
 }
 
 // Makes the first claim, by the first worker. The only error is `NoMemory`.
-fn open<C: Run, R: Wait, G: Gate>(
+fn open<C: SearchCase, R: Wait, G: Gate>(
     host: &Host<R, G>,
     shared: &Shared<C>,
     members: &mut Vec<Member<C>>,
@@ -159,7 +159,7 @@ fn open<C: Run, R: Wait, G: Gate>(
 }
 
 // The book and the best schedule, once all passes are joined. The only error is `NoMemory`, where memory was refused to a worker.
-fn joined<C: Run>(
+fn joined<C: SearchCase>(
     shared: Shared<C>,
     mut own: OwnBest<C>,
     members: Vec<Member<C>>,

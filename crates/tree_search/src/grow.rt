@@ -26,9 +26,9 @@ use book::Book;
 use closing_pass::{Closing, Host, Progress, close};
 use decided_nodes::Pivoting;
 use incumbent::Best;
-use node_visits::{Start, Worker, beside};
+use node_visits::{SearchStart, Worker, beside};
 use outside::Gate;
-use search_desk::{Grown, Run};
+use search_desk::{Grown, SearchCase};
 use search_machine::laws::tree_runs_hold;
 use std::marker::Brand;
 use std::sync::Wait;
@@ -41,7 +41,7 @@ pub fn search_tree<R: Threads + Wait + Sync, G: Gate + Sync>(
     host: &Host<R, G>,
     worker: Worker,
     options: &Options,
-    start: Start,
+    start: SearchStart,
 ) -> Result<Grown, NoMemory>
     requires options { AreOptions options.now }
     requires lawful { IsLawfulInstance worker }
@@ -67,7 +67,7 @@ pub fn search_tree<R: Threads + Wait + Sync, G: Gate + Sync>(
 }
 
 // The search by these.
-fn grow<C: Run + Send + Sync, R: Threads + Wait + Sync, G: Gate + Sync>(
+fn grow<C: SearchCase + Send + Sync, R: Threads + Wait + Sync, G: Gate + Sync>(
     host: &Host<R, G>,
     options: &Options,
     begun: Begun,
@@ -94,7 +94,7 @@ fn grow<C: Run + Send + Sync, R: Threads + Wait + Sync, G: Gate + Sync>(
 }
 
 // The search that begins with this book.
-fn grown<C: Run + Send + Sync, R: Threads + Wait + Sync, G: Gate + Sync>(
+fn grown<C: SearchCase + Send + Sync, R: Threads + Wait + Sync, G: Gate + Sync>(
     host: &Host<R, G>,
     options: &Options,
     begun: Begun,
@@ -125,7 +125,7 @@ fn grown<C: Run + Send + Sync, R: Threads + Wait + Sync, G: Gate + Sync>(
 }
 
 // What the book has, and the schedule.
-fn left<C: Run>(book: Book<C>, best: Option<(Printed, i64)>) -> Grown
+fn left<C: SearchCase>(book: Book<C>, best: Option<(Printed, i64)>) -> Grown
     requires ended { IsEnded C.exact C.opening book best }
     requires pivoted { IsPivotedBook C.exact_dispatch C.opening book }
     ensures grown { (instance : Instance) (opening : Priced) (budget gap : ℕ) → C.opening ≡ opening_by instance opening budget gap
@@ -148,7 +148,7 @@ fn left<C: Run>(book: Book<C>, best: Option<(Printed, i64)>) -> Grown
 }
 
 // The book and the best schedule after the workers and the closing pass. The only error is `NoMemory`.
-fn ended<C: Run + Send + Sync, R: Threads + Wait + Sync, G: Gate + Sync>(
+fn ended<C: SearchCase + Send + Sync, R: Threads + Wait + Sync, G: Gate + Sync>(
     host: &Host<R, G>,
     options: &Options,
     crew: Crew<C>,

@@ -12,7 +12,7 @@ use crate::options::Options;
 use incumbent::Best;
 use node_visits::{Worker, beside};
 use prices::Values;
-use search_desk::{OwnBest, Run, Tickets};
+use search_desk::{OwnBest, SearchCase, Tickets};
 use std::alloc::Global;
 use steal_pool::{Pool, Seat};
 use uc_model::NoMemory;
@@ -21,7 +21,7 @@ use uc_model::NoMemory;
 const PARTS: u32 = 2;
 
 /// The workers, each with its seat and its pass. The only error is `NoMemory`.
-pub(crate) fn members<'a, C: Run>(
+pub(crate) fn members<'a, C: SearchCase>(
     alloc: Global,
     best: &Best,
     own: &mut OwnBest<C>,
@@ -47,7 +47,7 @@ pub(crate) fn members<'a, C: Run>(
 }
 
 // The workers, each on the next seat. The only error is `NoMemory`.
-fn seated<'a, C: Run>(
+fn seated<'a, C: SearchCase>(
     alloc: Global,
     options: &Options,
     best: &Best,

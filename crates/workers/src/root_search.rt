@@ -17,7 +17,7 @@ use closing_pass::Host;
 use node_visits::{Worker, beside};
 use outside::Gate;
 use prices::Values;
-use search_answers::{Opened, bounded, excluded, started, without_unit};
+use search_answers::{OpenedSearch, bounded, excluded, started, without_unit};
 use std::alloc::Global;
 use std::sync::Wait;
 use std::thread::Threads;
@@ -128,7 +128,7 @@ fn claimed<R: Threads + Wait + Sync, G: Gate + Sync>(
     host: &Host<R, G>,
     worker: Worker,
     options: &Options,
-    opened: Opened,
+    opened: OpenedSearch,
 ) -> Result<Found, NoMemory>
     requires patterns { HasEachPattern worker }
     requires unblocked { HasNoBlockedUnit options.now.exact_units worker }
@@ -138,7 +138,7 @@ fn claimed<R: Threads + Wait + Sync, G: Gate + Sync>(
     ensures { IfOk result (IsAnswerOf options.now.exact_units options.now.pivot worker.entry options.now.budget options.now.gap) }
 {
     let instance = worker.instance();
-    let Opened { start, most_on } = opened;
+    let OpenedSearch { start, most_on } = opened;
     let grown = search_tree(host, worker, options, start)?;
     bounded(host.alloc, instance, grown, most_on)
 }

@@ -8,13 +8,13 @@ use Rattle.dispatch_prices.specs.ReadOff.{HasSmallMultipliers, ReadingForms}
 use Rattle.dispatch_prices.specs.Readings.{IsPriceTable}
 use Rattle.dual_model.specs.declared.table.Table.{Table as Prices}
 use Rattle.pivot_run.specs.declared.stop.Stop.{Stop}
-use Rattle.pivot_run.specs.declared.stop.What.{What as StopWhat}
-use Rattle.pivot_run.specs.declared.stop.What.TheVariants.{Product as ProductStop, Pivots as PivotsStop}
+use Rattle.pivot_run.specs.declared.stop.StopCause.{StopCause as StopWhat}
+use Rattle.pivot_run.specs.declared.stop.StopCause.TheVariants.{Product as ProductStop, Pivots as PivotsStop}
 use Rattle.dispatch_prices.specs.declared.unfit.Unfit.{Unfit}
 use Rattle.dispatch_prices.specs.declared.unfit.Unfit.TheVariants.{Product as ProductOf, Multiplier as MultiplierOf, NoMemory}
-use Rattle.pivot_dispatch.specs.Answers.{Ends, Pivot, What, TableScaleForms, cost_row}
-use Rattle.pivot_dispatch.specs.declared.pivot.Pivot.TheVariants.{Wide}
-use Rattle.pivot_dispatch.specs.declared.pivot.What.TheVariants.{Product, Multiplier, Pivots}
+use Rattle.pivot_dispatch.specs.Answers.{Ends, DispatchAnswer, WideCause, TableScaleForms, cost_row}
+use Rattle.pivot_dispatch.specs.declared.pivot.DispatchAnswer.TheVariants.{Wide}
+use Rattle.pivot_dispatch.specs.declared.pivot.WideCause.TheVariants.{Product, Multiplier, Pivots}
 pub use Rattle.pivot_dispatch.specs.declared.ending.Ending.{Ending}
 
 -- the run on the task's table has made so many pivots, and ended
@@ -36,17 +36,17 @@ abbrev pub leaves_sum : Ending → Bool
 leaves_sum end = int_lt (right_side end.last.now.table (length end.last.now.limits.items)) (pos 0)
 
 -- the answer tells why a row gives no prices
-abbrev pub Tells : Unfit → ℕ → Pivot → Type 0
+abbrev pub Tells : Unfit → ℕ → DispatchAnswer → Type 0
 Tells (ProductOf wide) pivots pivot = pivot ≡ Wide Product wide.size wide.other pivots
 Tells (MultiplierOf z) pivots pivot = pivot ≡ Wide Multiplier z (pos 0) pivots
 Tells NoMemory pivots pivot = ⊥
 
 -- or where the run stops
-abbrev pub what_of : StopWhat → What
+abbrev pub what_of : StopWhat → WideCause
 what_of ProductStop = Product
 what_of PivotsStop = Pivots
 
-abbrev pub IsStopped : Stop → Pivot → Type 0
+abbrev pub IsStopped : Stop → DispatchAnswer → Type 0
 IsStopped stop pivot = pivot ≡ Wide (what_of stop.what) stop.size stop.other stop.pivots
 
 -- the prices of the last row of a cheapest basis, at its scale, which small products made

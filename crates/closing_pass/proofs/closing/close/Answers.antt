@@ -13,7 +13,7 @@ loop-step-init g c =
     let best = c.args.progress.now.best in (
       omega arith,
       omega arith,
-      subst (IsLeft g.C.Run.exact opening c.args.progress.now.book (cost_of best)) (sym c.requires.budget) c.requires.left,
+      subst (IsLeft g.C.SearchCase.exact opening c.args.progress.now.book (cost_of best)) (sym c.requires.budget) c.requires.left,
       c.requires.found,
       at_most_itself (cost_of best),
       c.requires.pivoted,
@@ -24,10 +24,10 @@ next-requires-clause-left g c = (c.loop-step.scale, c.loop-step.invariant.2)
 
 pub settle-requires-clause-left : goal.settle-requires-clause-left
 settle-requires-clause-left g c =
-    subst (λ (b : Option (Printed × ℤ)). IsLeft g.C.Run.exact g.C.Case.opening c.next.new.progress.book (cost_of b) c.loop-step.scale)
+    subst (λ (b : Option (Printed × ℤ)). IsLeft g.C.SearchCase.exact g.C.Case.opening c.next.new.progress.book (cost_of b) c.loop-step.scale)
     (sym c.next.ensures.best) (c.next.ensures.left c.loop-step.scale c.loop-step.invariant.2)
 
 pub returns-clause-ended : goal.returns-clause-ended
 returns-clause-ended g c =
-    spent_whole g.C.Run.exact g.C.Case.opening c.loop-step.progress.book c.loop-step.progress.best c.loop-step.scale c.keeps_run-2.ensures
+    spent_whole g.C.SearchCase.exact g.C.Case.opening c.loop-step.progress.book c.loop-step.progress.best c.loop-step.scale c.keeps_run-2.ensures
     c.loop-step.invariant.2.kept (omega (arith, c.loop-step.invariant.0, c.loop-step-test.false, c.requires.budget))

@@ -47,7 +47,7 @@ returns-clause-left g c =
     at_most_through (cost_of c.close-schedule.result) c.loop-member.own.seen pass.seen c.close-schedule.ensures.least
     (at_most_through c.loop-member.own.seen c.join_pass.new.self.seen pass.seen c.loop-member.invariant.1 first) in
     record {
-      kept = kept_lower c.cost_less_tolerance_never_decreases.ensures g.C.Run.exact opening c.in_ok-book.book pass.seen (cost_of c.close-schedule.result) opening.budget
+      kept = kept_lower c.cost_less_tolerance_never_decreases.ensures g.C.SearchCase.exact opening c.in_ok-book.book pass.seen (cost_of c.close-schedule.result) opening.budget
           below c.in_ok-book.ensures.kept;
       complete = c.in_ok-book.ensures.complete;
     }

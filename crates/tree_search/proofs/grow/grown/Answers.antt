@@ -20,12 +20,12 @@ left-requires-clause-ended g c =
     let gap = c.args.options.now.gap in
     let closed = ap (λ it. is_schedule_within it (Some (bound_of begun.start.opening.value begun.start.opening.table.k)) gap) c.into_schedule.ensures
     ∙ sym c.is_closed.ensures ∙ c.if-is_closed.true in
-    closed_ended g.C.Run.exact g.C.Case.opening c.args.book begun.worker begun.start.opening c.args.options.now.budget gap c.into_schedule.result
+    closed_ended g.C.SearchCase.exact g.C.Case.opening c.args.book begun.worker begun.start.opening c.args.options.now.budget gap c.into_schedule.result
     c.requires.opening c.requires.lawful c.requires.options.budget c.requires.options.gap c.requires.priced c.requires.book closed
 
 pub left-requires-clause-pivoted : goal.left-requires-clause-pivoted
 left-requires-clause-pivoted g c =
-    subst (IsPivotedBook g.C.Run.exact_dispatch g.C.Case.opening) (sym c.requires.book) (pivoted_opened g.C.Run.exact_dispatch g.C.Case.opening)
+    subst (IsPivotedBook g.C.SearchCase.exact_dispatch g.C.Case.opening) (sym c.requires.book) (pivoted_opened g.C.SearchCase.exact_dispatch g.C.Case.opening)
 
 pub returns-then-is_closed-clause-pivoted : goal.returns-then-is_closed-clause-pivoted
 returns-then-is_closed-clause-pivoted g c =
@@ -64,7 +64,7 @@ pub returns-clause-found : goal.returns-clause-found
 returns-clause-found g c =
     subst (IsFoundIfAny c.args.options.now.pivot c.args.begun.worker) (sym c.left-2.ensures.best)
     (subst (λ over. IsFoundIfAny over c.args.begun.worker c.in_ok-book.schedule) c.requires.dispatch
-    (subst (λ (i : Instance). IsFoundIfAny g.C.Run.exact_dispatch i c.in_ok-book.schedule) (ap (λ (o : Opening). o.instance) c.requires.opening)
+    (subst (λ (i : Instance). IsFoundIfAny g.C.SearchCase.exact_dispatch i c.in_ok-book.schedule) (ap (λ (o : Opening). o.instance) c.requires.opening)
     c.in_ok-book.ensures.found))
 
 pub returns-clause-no_worse : goal.returns-clause-no_worse

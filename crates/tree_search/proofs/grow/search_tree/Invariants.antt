@@ -6,5 +6,5 @@ abbrev pub ghosts-grow-C-Case : goal.ghosts-grow-C-Case
 ghosts-grow-C-Case g a =
     record { opening = opening_by a.begun.worker a.begun.start.opening a.options.now.budget a.options.now.gap }
 
-abbrev pub ghosts-grow-C-Run : goal.ghosts-grow-C-Run
-ghosts-grow-C-Run g a = record { incumbent = a.begun.best.object; exact = a.options.now.exact_units; exact_dispatch = a.options.now.pivot }
+abbrev pub ghosts-grow-C-SearchCase : goal.ghosts-grow-C-SearchCase
+ghosts-grow-C-SearchCase g a = record { incumbent = a.begun.best.object; exact = a.options.now.exact_units; exact_dispatch = a.options.now.pivot }

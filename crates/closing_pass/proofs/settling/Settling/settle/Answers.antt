@@ -54,7 +54,7 @@ enter-requires-clause-may g c =
     let book = c.offer.ensures.book in
     subst (λ (b : BookView). MayCommit b self.held.worker self.held.unit c.in_ok-path.path c.in_ok-table.field-0.table self.closing.exact c.in_ok-outcome.outcome
     c.action-action.result) (sym book)
-    (settle_may self.closing.exact g.C.Run.exact_dispatch g.C.Case.opening.instance g.C.Case.opening old self c.in_ok-table.field-0 c.in_ok-path.path c.in_ok-path.stored
+    (settle_may self.closing.exact g.C.SearchCase.exact_dispatch g.C.Case.opening.instance g.C.Case.opening old self c.in_ok-table.field-0 c.in_ok-path.path c.in_ok-path.stored
     c.in_ok-path.bound c.in_ok-outcome.outcome c.action-action.result c.requires.held c.in_ok-path.ensures c.in_ok-table.ensures.is
     (rw (sym book) (c.action-action.ensures.legal self.closing.exact)))
 
@@ -66,7 +66,7 @@ returns-clause-left g c =
     let book = c.offer.ensures.book in
     let best = c.offer.new.self.best in
     subst (λ exact. IsLeft exact opening c.enter.new.book (cost_of best) c.in_ok-table.field-0.used) c.requires.kind
-    (settle_left self.closing.exact g.C.Run.exact_dispatch opening.instance opening old self c.in_ok-table.field-0 c.in_ok-path.path c.in_ok-path.stored
+    (settle_left self.closing.exact g.C.SearchCase.exact_dispatch opening.instance opening old self c.in_ok-table.field-0 c.in_ok-path.path c.in_ok-path.stored
     c.in_ok-path.bound c.in_ok-outcome.outcome c.action-action.result c.requires.held c.in_ok-path.ensures c.in_ok-table.ensures.is
     c.tree_runs_hold.ensures c.cost_less_tolerance_never_decreases.ensures c.args.progress.now.best best c.offer.ensures.no_worse
     (subst (λ exact. IsLeft exact opening old (cost_of c.args.progress.now.best) self.scale) (sym c.requires.kind) c.requires.left)
@@ -78,7 +78,7 @@ pub returns-clause-pivoted : goal.returns-clause-pivoted
 returns-clause-pivoted g c =
     let self = c.args.self.now in
     let opening = g.C.Case.opening in
-    let asked = g.C.Run.exact_dispatch in
+    let asked = g.C.SearchCase.exact_dispatch in
     let old = c.args.progress.now.book in
     let best = cost_of c.offer.new.self.best in
     let path = c.in_ok-path.path in

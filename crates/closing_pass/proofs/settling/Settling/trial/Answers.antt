@@ -7,7 +7,7 @@ use Rattle.closing_pass.proofs.settling.Settling.trial.Goals as goal
 pub returns-in-None : goal.returns-in-None
 returns-in-None g c =
     let self = c.args.self.now in
-    let asked = g.C.Run.exact_dispatch in
+    let asked = g.C.SearchCase.exact_dispatch in
     let instance = g.C.Case.opening.instance in
     let book = c.args.book.now in
     let path = c.args.holding.now.path in

@@ -3,8 +3,8 @@ use Rattle.std.proofs.Common.{rules, inr, subst, ap, ◌∙◌, pos, SFits}
 use Rattle.std.specs.Int.{w128}
 use Rattle.std.proofs.lemmas.Int.{to_z-of_z}
 use Rattle.dispatch_schedule.specs.ShownSchedules.{IsShown}
-use Rattle.pivot_dispatch.specs.declared.pivot.Pivot.TheVariants.{Wide}
-use Rattle.pivot_dispatch.specs.declared.pivot.What.TheVariants.{Denominator}
+use Rattle.pivot_dispatch.specs.declared.pivot.DispatchAnswer.TheVariants.{Wide}
+use Rattle.pivot_dispatch.specs.declared.pivot.WideCause.TheVariants.{Denominator}
 use Rattle.pivot_dispatch.proofs.Answering.{cheapest_end, fine_is, schedule_is, wide_is}
 use Rattle.pivot_dispatch.proofs.Ended.{cheapest_here}
 use Rattle.pivot_dispatch.proofs.ending.Ending.shown.Goals as goal

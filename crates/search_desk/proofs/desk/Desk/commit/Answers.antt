@@ -21,7 +21,7 @@ enter-entered-requires-clause-action g c =
 pub enter-entered-requires-clause-dispatch : goal.enter-entered-requires-clause-dispatch
 enter-entered-requires-clause-dispatch g c =
     let a = c.args in
-    first_lower g.C.Run.exact_dispatch g.C.Case.opening a.claim.now.path a.claim.now.had a.self.now.seen c.look-seen.new.self.seen a.done c.look-seen.ensures.lower
+    first_lower g.C.SearchCase.exact_dispatch g.C.Case.opening a.claim.now.path a.claim.now.had a.self.now.seen c.look-seen.new.self.seen a.done c.look-seen.ensures.lower
     c.requires.dispatch
 
 pub returns : goal.returns
@@ -41,8 +41,8 @@ returns g c =
       seen = seen;
       stored = kept ∙ c.stored_bound-stored.ensures;
       entered = entered;
-      book = subst (λ (move : Move). IsEntry g.C.Run.exact a.me a.claim.now done move a.self.now.book new.book entered) action
-          (subst (λ (b : BookView). IsEntry g.C.Run.exact a.me a.claim.now done c.ending-action.result b new.book entered) c.look-seen.ensures.book
+      book = subst (λ (move : Move). IsEntry g.C.SearchCase.exact a.me a.claim.now done move a.self.now.book new.book entered) action
+          (subst (λ (b : BookView). IsEntry g.C.SearchCase.exact a.me a.claim.now done c.ending-action.result b new.book entered) c.look-seen.ensures.book
           c.enter-entered.ensures.book);
       action = c.told.ensures ∙ ap (told_move entered) action;
     }

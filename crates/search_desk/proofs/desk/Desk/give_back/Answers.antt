@@ -10,12 +10,12 @@ invariant_of-self g c =
         object = desk.object;
         mine = desk.mine;
         parts = desk.parts;
-        kept = safe_abandon g.C.Run.exact g.C.Case.opening c.self.inside.book c.abandon.new.self c.self.inside.pass.seen g.C.Case.opening.budget c.args.me c.args.unit
+        kept = safe_abandon g.C.SearchCase.exact g.C.Case.opening c.self.inside.book c.abandon.new.self c.self.inside.pass.seen g.C.Case.opening.budget c.args.me c.args.unit
             c.abandon.result desk.kept c.abandon.ensures;
         complete = λ whole. absurd (cc);
       },
       c.self.invariant.1,
       c.self.invariant.2,
-      pivoted_abandon g.C.Run.exact_dispatch g.C.Case.opening c.self.inside.book c.abandon.new.self c.args.me c.args.unit c.abandon.result c.self.invariant.3
+      pivoted_abandon g.C.SearchCase.exact_dispatch g.C.Case.opening c.self.inside.book c.abandon.new.self c.args.me c.args.unit c.abandon.result c.self.invariant.3
           c.abandon.ensures,
     )

@@ -13,13 +13,13 @@ invariant_of-self g c =
     let pass : c.look.new.pass ≡ new = c.look.ensures.pass in
     let opening = g.C.Case.opening in
     let book = c.self.inside.book in
-    let lower = kept_lower c.cost_less_tolerance_never_decreases.ensures g.C.Run.exact opening book c.self.inside.pass.seen c.look.new.pass.found opening.budget
+    let lower = kept_lower c.cost_less_tolerance_never_decreases.ensures g.C.SearchCase.exact opening book c.self.inside.pass.seen c.look.new.pass.found opening.budget
     c.look.ensures.seen desk.kept in (
       record {
         object = ap (λ (p : Known). p.object) pass ∙ desk.object;
         mine = ap (λ (p : Known). p.mine) pass ∙ desk.mine;
         parts = ap (λ (p : Known). p.parts) pass ∙ desk.parts;
-        kept = subst (λ (s : Option ℤ). IsKeptBy g.C.Run.exact opening book s opening.budget) (sym (ap (λ (p : Known). p.seen) pass)) lower;
+        kept = subst (λ (s : Option ℤ). IsKeptBy g.C.SearchCase.exact opening book s opening.budget) (sym (ap (λ (p : Known). p.seen) pass)) lower;
         complete = desk.complete;
       },
       c.self.invariant.1,

@@ -17,13 +17,13 @@ invariant_of-self g c =
     let joined = c.join.ensures in
     let left = c.split-back.ensures.left in
     let seen : c.split-back.new.pass.seen ≡ least old.seen lent.seen = ap (λ (p : Known). p.seen) left ∙ ap (λ (p : Known). p.seen) joined in
-    let lower = kept_lower c.cost_less_tolerance_never_decreases.ensures g.C.Run.exact opening book old.seen (least old.seen lent.seen) opening.budget
+    let lower = kept_lower c.cost_less_tolerance_never_decreases.ensures g.C.SearchCase.exact opening book old.seen (least old.seen lent.seen) opening.budget
     (least_first old.seen lent.seen) desk.kept in (
       record {
         object = ap (λ (p : Known). p.object) left ∙ ap (λ (p : Known). p.object) joined ∙ desk.object;
         mine = ap (λ (p : Known). p.mine) left ∙ ap (λ (p : Known). p.mine) joined ∙ (λ i. least (desk.mine i) (c.split-lent.ensures.mine i));
         parts = omega (arith, ap (λ (p : Known). p.parts) left, ap (λ (p : Known). p.parts) joined, desk.parts, c.split-lent.ensures.parts);
-        kept = subst (λ (s : Option ℤ). IsKeptBy g.C.Run.exact opening book s opening.budget) (sym seen) lower;
+        kept = subst (λ (s : Option ℤ). IsKeptBy g.C.SearchCase.exact opening book s opening.budget) (sym seen) lower;
         complete = desk.complete;
       },
       c.self.invariant.1,

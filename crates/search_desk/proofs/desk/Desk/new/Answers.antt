@@ -16,11 +16,11 @@ invariant_of-result g c =
         object = c.requires.object;
         mine = c.requires.mine;
         parts = c.requires.parts;
-        kept = subst (λ (b : BookView). IsKeptBy g.C.Run.exact opening b pass.seen opening.budget) (sym c.requires.book)
-            (kept_opened g.C.Run.exact opening pass.seen c.requires.begun opening.budget);
+        kept = subst (λ (b : BookView). IsKeptBy g.C.SearchCase.exact opening b pass.seen opening.budget) (sym c.requires.book)
+            (kept_opened g.C.SearchCase.exact opening pass.seen c.requires.begun opening.budget);
         complete = λ whole. subst (λ (b : BookView). All IsKeptClaim b.claims) (sym c.requires.book) (All-nil IsKeptClaim);
       },
       c.requires.gap,
       c.requires.kind,
-      subst (IsPivotedBook g.C.Run.exact_dispatch opening) (sym c.requires.book) (pivoted_opened g.C.Run.exact_dispatch opening),
+      subst (IsPivotedBook g.C.SearchCase.exact_dispatch opening) (sym c.requires.book) (pivoted_opened g.C.SearchCase.exact_dispatch opening),
     )

@@ -25,6 +25,6 @@ invariant_of-self g c =
       mine = ap (λ (p : Known). p.mine) pass ∙ (λ i. least (mine.mine i) (theirs.mine i)) ∙ sym cost;
       below = subst (λ s. AtMost s (cost_of c.cheaper.result)) (sym (ap (λ (p : Known). p.seen) pass))
           (subst (AtMost (least own.pass.seen other.pass.seen)) (sym cost) both);
-      found = c.cheaper.ensures.found g.C.Run.exact_dispatch g.C.Case.opening.instance
-          (subst (IsFoundIfAny g.C.Run.exact_dispatch g.C.Case.opening.instance) (sym taken) mine.found) theirs.found;
+      found = c.cheaper.ensures.found g.C.SearchCase.exact_dispatch g.C.Case.opening.instance
+          (subst (IsFoundIfAny g.C.SearchCase.exact_dispatch g.C.Case.opening.instance) (sym taken) mine.found) theirs.found;
     }

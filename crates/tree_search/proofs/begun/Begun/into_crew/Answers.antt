@@ -4,4 +4,4 @@ use Rattle.tree_search.proofs.begun.Begun.into_crew.Goals as goal
 
 pub offer-requires-clause-found : goal.offer-requires-clause-found
 offer-requires-clause-found g c =
-    found_if_accepted g.C.Run.exact_dispatch g.C.Case.opening.instance c.args.self.start.best c.requires.accepted
+    found_if_accepted g.C.SearchCase.exact_dispatch g.C.Case.opening.instance c.args.self.start.best c.requires.accepted

@@ -7,5 +7,5 @@ use Rattle.tree_search.proofs.crew.Member.improve.Goals as goal
 
 pub offer-requires-clause-found : goal.offer-requires-clause-found
 offer-requires-clause-found g c =
-    found_if_accepted g.C.Run.exact_dispatch g.C.Case.opening.instance c.in_ok-found.found
+    found_if_accepted g.C.SearchCase.exact_dispatch g.C.Case.opening.instance c.in_ok-found.found
     (subst (λ (i : Instance). IsAcceptedIfFound i c.in_ok-found.found) c.args.self.now.of c.in_ok-found.ensures.accepted)

@@ -4,7 +4,7 @@ use Rattle.std.proofs.lemmas.Bool.{or_left}
 use Rattle.dispatch_program.specs.Programs.{is_negated}
 use Rattle.dispatch_prices.specs.Readings.{rules_at}
 use Rattle.dispatch_prices.proofs.Places.{artificial_within}
-use Rattle.dispatch_prices.proofs.multipliers.End.demand_multiplier.Goals as goal
+use Rattle.dispatch_prices.proofs.multipliers.FinalTableau.demand_multiplier.Goals as goal
 
 pub number-requires-clause-column : goal.number-requires-clause-column
 number-requires-clause-column c =

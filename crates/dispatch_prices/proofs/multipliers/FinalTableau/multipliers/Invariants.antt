@@ -3,7 +3,7 @@ use Rattle.std.proofs.Common.{ℕ, ◌<◌}
 use Rattle.pivot_run.specs.Pivots.{IsNarrow, row_at}
 use Rattle.dispatch_prices.specs.ReadOff.{AreMultipliers, RuleForms}
 use Rattle.dispatch_prices.specs.Readings.{ArePlaces, rules_at}
-use Rattle.dispatch_prices.proofs.multipliers.End.multipliers.Given as goal
+use Rattle.dispatch_prices.proofs.multipliers.FinalTableau.multipliers.Given as goal
 
 abbrev pub invariant-loop-i : goal.invariant-loop-i
 invariant-loop-i l = record {

@@ -3,7 +3,7 @@ use Rattle.std.proofs.Common.{ap, not, arith}
 use Rattle.dispatch_program.specs.Programs.{bump, is_limit, has_artificial}
 use Rattle.dispatch_prices.specs.Readings.{rules_at}
 use Rattle.dispatch_prices.proofs.Places.{counted_next}
-use Rattle.dispatch_prices.proofs.multipliers.End.next_places.Goals as goal
+use Rattle.dispatch_prices.proofs.multipliers.FinalTableau.next_places.Goals as goal
 
 pub more-requires : goal.more-requires
 more-requires c =

@@ -2,7 +2,7 @@
 use Rattle.std.proofs.Common.{◌≡◌, ◌≤◌}
 use Rattle.dispatch_program.specs.Programs.{counted, is_limit}
 use Rattle.dispatch_prices.specs.Readings.{rules_at}
-use Rattle.dispatch_prices.proofs.multipliers.End.slacks.Given as goal
+use Rattle.dispatch_prices.proofs.multipliers.FinalTableau.slacks.Given as goal
 
 abbrev pub invariant-loop-i : goal.invariant-loop-i
 invariant-loop-i l = record {

@@ -2,7 +2,7 @@
 use Rattle.std.proofs.Common.{ap, sym, ◌∙◌, not, arith}
 use Rattle.dispatch_prices.specs.Readings.{rules_at}
 use Rattle.dispatch_prices.proofs.Places.{slack_within}
-use Rattle.dispatch_prices.proofs.multipliers.End.multiplier.Goals as goal
+use Rattle.dispatch_prices.proofs.multipliers.FinalTableau.multiplier.Goals as goal
 
 pub number-requires-clause-column : goal.number-requires-clause-column
 number-requires-clause-column c =

@@ -6,7 +6,7 @@ use Rattle.pivot_run.specs.Pivots.{IsNarrow, row_at}
 use Rattle.dispatch_prices.specs.ReadOff.{AreMultipliers, RuleForms}
 use Rattle.dispatch_prices.specs.Readings.{rules_at}
 use Rattle.dispatch_prices.proofs.MultiplierList.{multipliers_more}
-use Rattle.dispatch_prices.proofs.multipliers.End.multipliers.Goals as goal
+use Rattle.dispatch_prices.proofs.multipliers.FinalTableau.multipliers.Goals as goal
 
 pub loop-i-preserved : goal.loop-i-preserved
 loop-i-preserved c =

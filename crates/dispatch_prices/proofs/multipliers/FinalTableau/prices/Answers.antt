@@ -10,7 +10,7 @@ use Rattle.dispatch_prices.specs.PricedLimits.{IsTableOf}
 use Rattle.dispatch_prices.proofs.ReadOffs.{price_table}
 use Rattle.dispatch_prices.proofs.SameRules.{has_size, forms_same, multiplier_same, rules_same, unfit_same}
 use Rattle.dispatch_prices.proofs.TimesBy.{are_once}
-use Rattle.dispatch_prices.proofs.multipliers.End.prices.Goals as goal
+use Rattle.dispatch_prices.proofs.multipliers.FinalTableau.prices.Goals as goal
 
 pub multipliers-requires-clause-size : goal.multipliers-requires-clause-size
 multipliers-requires-clause-size c = has_size c.requires.end.0 c.args.self.now c.requires.end.1.1
