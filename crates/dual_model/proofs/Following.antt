@@ -1,27 +1,32 @@
 -- The way that choices lead costs what the first one says, where each costs the least.
--- Cite from a crate above by `use Rattle.dual_model.proofs.Following.{followed, may-enter_on, may-enter_off}`.
+-- Cite from a crate above by `use Rattle.dual_model.proofs.Following.{followed, may-enter_on, may-turn_on}`.
 use Rattle.std.proofs.Common.{◌≡◌, ◌≢◌, ℕ, zero, suc, ◌+◌, ◌-◌, ◌<◌, ◌≤◌, ⊎_elim, Bool, true, false, not, ◌&&◌, ◌==◌, refl, sym, ap, subst, ◌∙◌, arith, ℤ, Option, Some, None, IfSome, if◌then◌else◌}
 use Rattle.std.proofs.lemmas.Bool.{and_parts, cases_lt, cond-true, cond-false, eq-eqb, ne_eqb}
 use Rattle.uc_model.specs.Prelude.{Commitment, commitment_of, may_start, may_stop}
 use Rattle.dual_model.specs.Bellman.{EndCosts, MoveCosts, least_cost, since_after, total_of, way_cost}
 use Rattle.dual_model.specs.Choices.{Choice, choice_cost, ends_at, next_after}
-use Rattle.dual_model.specs.Moves.{Fix, Thermal, allowed, holds_initially, may_be_off, may_be_on}
+use Rattle.dual_model.specs.Moves.{Fix, Thermal, allowed, holds_initially, may_be_off, may_be_on, may_move}
 use Rattle.dual_model.specs.Traces.{AreLeast, Choices, IsAttained, IsTraced, Stretch, Trace, lasting, stretch, stretch_behind}
 use Rattle.dual_model.proofs.Costs.{total-assoc, total-zero}
 use Rattle.dual_model.proofs.Optimum.{total_of-parts}
 use Rattle.dual_model.proofs.Ways.{through}
 
 -- ---- what a switch may enter
+pub may-turn_on : (unit : Thermal) (fix : Fix) (t since : ℕ) → may_move unit fix t false since true ≡ true → may_be_on fix t ≡ true
+may-turn_on unit fix t since may = (and_parts (may_be_on fix t) (may_start unit since t) may).0
+
+pub may-turn_off : (unit : Thermal) (fix : Fix) (t since : ℕ) → may_move unit fix t true since false ≡ true → may_be_off unit fix t ≡ true
+may-turn_off unit fix t since may =
+    (and_parts (may_be_off unit fix t) (holds_initially unit t true)
+    (and_parts (may_be_off unit fix t && holds_initially unit t true) (may_stop unit since t) may).0).0
+
 pub may-enter_on : (unit : Thermal) (fix : Fix) (costs : MoveCosts) (t since : ℕ) (v : ℤ) → allowed unit fix costs t false since true ≡ Some v → may_be_on fix t ≡ true
-may-enter_on unit fix costs t since v e =
-    (and_parts (may_be_on fix t) (may_start unit since t) (through (may_be_on fix t && may_start unit since t) (costs t false since true) v e).0).0
+may-enter_on unit fix costs t since v e = may-turn_on unit fix t since (through (may_move unit fix t false since true) (costs t false since true) v e).0
 
 pub may-enter_off : (unit : Thermal) (fix : Fix) (costs : MoveCosts) (t since : ℕ) (v : ℤ) → allowed unit fix costs t true since false ≡ Some v
     → may_be_off unit fix t ≡ true
 may-enter_off unit fix costs t since v e =
-    let tests = through (may_be_off unit fix t && holds_initially unit t true && may_stop unit since t) (costs t true since false) v e in
-    let firsts = and_parts (may_be_off unit fix t && holds_initially unit t true) (may_stop unit since t) tests.0 in
-    (and_parts (may_be_off unit fix t) (holds_initially unit t true) firsts.0).0
+    may-turn_off unit fix t since (through (may_move unit fix t true since false) (costs t true since false) v e).0
 
 -- ---- one period more
 by-case : (choices : Choices) (t : ℕ) (start stop : Option Choice) (on : Bool) → choices t true ≡ start → choices t false ≡ stop

@@ -39,12 +39,6 @@ pub next-cost : (known total rest whole new : Option ℤ) → lesser_of known (l
     → lesser_of new rest ≡ whole
 next-cost known total rest whole new e is = ap (λ o. lesser_of o rest) is ∙ lesser-assoc known total rest ∙ e
 
--- and none behind it
-pub last-cost : (known total rest whole new : Option ℤ) → lesser_of known (lesser_of total rest) ≡ whole → rest ≡ None
-    → new ≡ lesser_of known total → new ≡ whole
-last-cost known total rest whole new e none is =
-    sym (lesser-none new) ∙ ap (lesser_of new) (sym none) ∙ next-cost known total rest whole new e is
-
 -- ---- a period of the recursion
 module _ (periods : ℕ) (table : Table) (unit : Thermal) (fix : Fix) where
   abbrev to_go : ℕ → Bool → ℕ → Option ℤ

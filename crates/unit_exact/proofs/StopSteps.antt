@@ -1,12 +1,13 @@
 -- A stop behind the hours of a run, and one before the first period.
-use Rattle.std.proofs.Common.{◌≡◌, ℕ, suc, ◌-◌, ◌<◌, ◌≤◌, ◌⊎◌, inl, inr, ⊎_elim, Bool, true, false, ◌&&◌, ◌==◌, refl, sym, ap, subst, ◌∙◌, arith, [], ℤ, pos, ◌+ℤ◌, ◌-ℤ◌, neg_ℤ, ◌≤ℤ◌, ◌<ℤ◌, IsTrue, nat_lt, unsigned_abs, Option, Some, None, if◌then◌else◌}
+use Rattle.std.proofs.Common.{◌≡◌, ℕ, suc, add-one, ◌+◌, ◌-◌, ◌<◌, ◌≤◌, ◌⊎◌, inl, inr, ⊎_elim, Bool, true, false, ◌==◌, refl, sym, ap, subst, ◌∙◌, arith, [], ℤ, pos, ◌+ℤ◌, ◌-ℤ◌, neg_ℤ, ◌≤ℤ◌, ◌<ℤ◌, IsTrue, nat_lt, unsigned_abs, Option, Some, None, if◌then◌else◌}
 use Rattle.std.specs.Ordering.{int_eq}
 use Rattle.std.proofs.lemmas.Int.{ints}
-use Rattle.std.proofs.lemmas.Bool.{and_parts, cond-true, cond-false, eq-eqb, lt-ltb}
-use Rattle.uc_model.specs.Prelude.{sum_below, may_stop}
+use Rattle.std.proofs.lemmas.Bool.{cond-true, cond-false, eq-eqb, lt-ltb}
+use Rattle.uc_model.specs.Prelude.{sum_below}
 use Rattle.uc_model.proofs.Common.{linear, le_antisymm, le_of_eq, int_eq-true}
-use Rattle.dual_model.specs.Prelude.{holds_initially, may_be_off}
+use Rattle.dual_model.specs.Prelude.{may_move}
 use Rattle.dual_model.specs.CostToGo.{total_of}
+use Rattle.dual_model.proofs.Following.{may-turn_off}
 use Rattle.step_functions.specs.Functions.{Steps, IsLeastBetween, IsPlace, last_place, value_at}
 use Rattle.step_functions.specs.Runs.{slope_at}
 use Rattle.unit_runs.specs.CostThrough.{least_between, run_cost}
@@ -66,12 +67,11 @@ least-outside low high output out = by (least_between low high (λ p. if int_eq 
 -- ---- a stop in a period of the horizon
 module _ (periods : ℕ) (table : Table) (unit : Thermal) (fix : Fix) where
   abbrev may : ℕ → ℕ → Bool
-  may t since = may_be_off unit fix t && holds_initially unit t true && may_stop unit since t
+  may t since = may_move unit fix t true since false
 
-  pub stop-off : (t since : ℕ) → IsTrue (may t since) → may_be_off unit fix t ≡ true
-  stop-off t since lets =
-      let off = (and_parts (may_be_off unit fix t && holds_initially unit t true) (may_stop unit since t) lets).0 in
-      (and_parts (may_be_off unit fix t) (holds_initially unit t true) off).0
+  -- as it is asked in the code of the period behind t
+  pub may-behind : (t since : ℕ) (asked b : Bool) → asked ≡ may (t + 1) since → asked ≡ b → may (suc t) since ≡ b
+  may-behind t since asked b is e = ap (λ k. may k since) (sym (add-one t)) ∙ sym is ∙ e
 
   -- that may not be
   pub stop-none : (t since : ℕ) → t < periods → may t since ≡ false → None ≡ switch_total periods table unit fix t true since
@@ -85,7 +85,7 @@ module _ (periods : ℕ) (table : Table) (unit : Thermal) (fix : Fix) where
       → cost ≡ run_until periods table unit since t → result ≡ total_of cost (choice_cost next.stop)
       → AreSwitches periods table unit fix t next → result ≡ switch_total periods table unit fix t true since
   stop-some t since cost result next l lets is total entry =
-      let next = (entry.stop (stop-off t since lets)).cost in
+      let next = (entry.stop (may-turn_off unit fix t since lets)).cost in
       total
       ∙ (λ i. total_of (is i) (next i))
       ∙ ap (λ o. total_of o (runs_to_go periods table unit fix (periods - suc t) (suc t) false (suc t)))

@@ -3,9 +3,8 @@
 //! `since` says since when a state lasts: 0 is since before the first period, and s + 1 since period s (from 0), in
 //! which the unit was switched.
 
-ghost use Rattle.std.specs.Prelude.{◌≡◌, ◌&&◌, ◌<◌, ◌≤◌, true, false};
-ghost use Rattle.dual_model.specs.Prelude.{holds_initially as initially, may_be_off, may_be_on};
-ghost use Rattle.uc_model.specs.Prelude.{may_start as starts, may_stop as stops};
+ghost use Rattle.std.specs.Prelude.{◌≡◌, ◌<◌, ◌≤◌, true, false};
+ghost use Rattle.dual_model.specs.Prelude.{may_move};
 ghost use Rattle.hull_function.specs.Problems.{IsLawfulProblem};
 ghost use Rattle.unit_runs.specs.RunsToGo.{may_stay};
 
@@ -18,7 +17,7 @@ pub(crate) fn may_stop(problem: &Problem, since: usize, t: usize) -> bool
     requires lawful { IsLawfulProblem problem.now.periods problem.now.table.now problem.now.unit.now }
     requires past { since ≤ MAX_PERIODS }
     requires period { t < problem.now.periods }
-    ensures { result ≡ (may_be_off problem.now.unit.now problem.now.fix.now t && initially problem.now.unit.now t true && stops problem.now.unit.now since t) }
+    ensures { result ≡ may_move problem.now.unit.now problem.now.fix.now t true since false }
 {
     problem.fix.may_be_off(problem.unit, t)
         && holds_initially(problem.unit, t, true)
@@ -30,7 +29,7 @@ pub(crate) fn may_start(problem: &Problem, since: usize, t: usize) -> bool
     requires lawful { IsLawfulProblem problem.now.periods problem.now.table.now problem.now.unit.now }
     requires past { since ≤ MAX_PERIODS }
     requires period { t < problem.now.periods }
-    ensures { result ≡ (may_be_on problem.now.fix.now t && starts problem.now.unit.now since t) }
+    ensures { result ≡ may_move problem.now.unit.now problem.now.fix.now t false since true }
 {
     problem.fix.may_be_on(t) && problem.unit.may_switch(false, since, t)
 }

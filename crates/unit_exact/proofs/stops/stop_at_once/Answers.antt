@@ -4,12 +4,13 @@ use Rattle.std.specs.Int.{w64}
 use Rattle.std.specs.Int.Signed.{lt_z}
 use Rattle.std.proofs.lemmas.Int.{ints}
 use Rattle.dual_model.specs.CostToGo.{total_of}
+use Rattle.dual_model.proofs.Following.{may-turn_off}
 use Rattle.hull_function.specs.Problems.{MAX_POWER}
 use Rattle.unit_runs.specs.Runs.{entry_output}
 use Rattle.unit_exact.specs.inside.Choices.{choice_cost}
 use Rattle.unit_exact.specs.inside.Switches.{IsWithinSwitches, entry_in}
 use Rattle.unit_exact.proofs.Sizes.{some-map, total-size}
-use Rattle.unit_exact.proofs.StopSteps.{run-none, run-stuck, stop-none, stop-off, stop-some, stop-stuck}
+use Rattle.unit_exact.proofs.StopSteps.{run-none, run-stuck, stop-none, stop-some, stop-stuck}
 use Rattle.unit_exact.proofs.stops.stop_at_once.Goals as goal
 use Rattle.unit_exact.proofs.stops.stop_at_once.Goals.{then-not-may_stop-via-then-not-may_stop, then-not-may_stop-via-else-not-may_stop+then-before-problem, then-not-may_stop-via-else-not-may_stop+else-before-problem+then-before-problem-2}
 
@@ -56,7 +57,7 @@ with_choice-requires c =
     let some = c.requires.lawful.periods_are.0 in
     let few = c.requires.lawful.periods_are.1 in
     let entry = c.requires.table.entry 0 (omega arith) some in
-    let next = entry.stop (stop-off p.periods p.table.now p.unit.now p.fix.now 0 0 (sym c.may_stop.ensures ∙ c.if-not-may_stop.false)) in
+    let next = entry.stop (may-turn_off p.unit.now p.fix.now 0 0 (sym c.may_stop.ensures ∙ c.if-not-may_stop.false)) in
     some-map (λ choice. IsWithinSwitches (p.periods - 1) choice.cost) (λ choice. 0 + unsigned_abs choice.cost < 2 ^ 127) (entry_in c.args.entries.now 0).stop
     (λ choice h. omega (arith, few, h)) next.size
 
@@ -79,7 +80,7 @@ returns-clause-size c =
     let p = c.args.problem.now in
     let some = c.requires.lawful.periods_are.0 in
     let entry = c.requires.table.entry 0 (omega arith) some in
-    let next = entry.stop (stop-off p.periods p.table.now p.unit.now p.fix.now 0 0 (sym c.may_stop.ensures ∙ c.if-not-may_stop.false)) in
+    let next = entry.stop (may-turn_off p.unit.now p.fix.now 0 0 (sym c.may_stop.ensures ∙ c.if-not-may_stop.false)) in
     let left : suc (p.periods - 1) ≡ p.periods = omega (arith, some) in
     subst (λ o. IfSome o (IsWithinSwitches p.periods)) (sym c.with_choice.ensures)
     (subst (λ n. IfSome (total_of (Some (pos 0)) (choice_cost (entry_in c.args.entries.now 0).stop)) (IsWithinSwitches n)) left

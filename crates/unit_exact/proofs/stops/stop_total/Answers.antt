@@ -1,17 +1,16 @@
 -- The run that ends there, and the ways behind it.
-use Rattle.std.proofs.Common.{◌≡◌, add-one, lit<, inl, refl, suc, ◌-◌, ◌≤◌, ◌&&◌, true, sym, ap, subst, ◌∙◌, arith, IsTrue, Some, None, IfSome, unsigned_abs}
+use Rattle.std.proofs.Common.{◌≡◌, lit<, inl, refl, suc, ◌-◌, ◌≤◌, true, false, sym, ap, subst, ◌∙◌, arith, Some, None, IfSome, unsigned_abs}
 use Rattle.uc_model.proofs.Common.{abs_wide}
 use Rattle.uc_model.proofs.Sizes.{wide}
-use Rattle.dual_model.specs.Prelude.{holds_initially, may_be_off}
 use Rattle.dual_model.specs.CostToGo.{total_of}
-use Rattle.uc_model.specs.Prelude.{may_stop}
+use Rattle.dual_model.proofs.Following.{may-turn_off}
 use Rattle.unit_runs.specs.CostThrough.{run_cost}
 use Rattle.unit_exact.specs.inside.Choices.{choice_cost, IsCostBelow}
 use Rattle.unit_exact.specs.inside.Problems.{MAX_SWITCH, MAX_WAY}
 use Rattle.unit_exact.specs.inside.Running.{IsRunning}
 use Rattle.unit_exact.specs.inside.Switches.{IsWithinSwitches}
 use Rattle.unit_exact.proofs.Sizes.{some-map, total-size}
-use Rattle.unit_exact.proofs.StopSteps.{run-until, stop-below, stop-none, stop-off}
+use Rattle.unit_exact.proofs.StopSteps.{may-behind, run-until, stop-below, stop-none}
 use Rattle.unit_exact.proofs.stops.stop_total.Goals as goal
 
 pub cost_below-requires-clause-running : goal.cost_below-requires-clause-running
@@ -23,11 +22,9 @@ pub with_choice-requires : goal.with_choice-requires
 with_choice-requires c =
     let p = c.args.problem.now in
     let t = c.args.t in
-    let lets : IsTrue (may_be_off p.unit.now p.fix.now (suc t) && holds_initially p.unit.now (suc t) true && may_stop p.unit.now c.args.since (suc t)) =
-    ap (λ k. may_be_off p.unit.now p.fix.now k && holds_initially p.unit.now k true && may_stop p.unit.now c.args.since k) (sym (add-one t))
-    ∙ sym c.may_stop.ensures ∙ c.if-not-may_stop.false in
+    let lets = may-behind p.periods p.table.now p.unit.now p.fix.now t c.args.since c.may_stop.result true c.may_stop.ensures c.if-not-may_stop.false in
     let small : unsigned_abs c.in-Some.cost ≤ MAX_SWITCH = subst (λ o. IfSome o (λ v. unsigned_abs v ≤ MAX_SWITCH)) c.in-Some.is c.cost_below.ensures.size in
-    let next = c.requires.entry.stop (stop-off p.periods p.table.now p.unit.now p.fix.now (suc t) c.args.since lets) in
+    let next = c.requires.entry.stop (may-turn_off p.unit.now p.fix.now (suc t) c.args.since lets) in
     let cast = abs_wide c.in-Some.cost in
     let few = c.requires.lawful.periods_are.1 in
     some-map (λ choice. IsWithinSwitches (p.periods - suc (suc t)) choice.cost) _ c.args.next.now.stop (λ choice h. omega (arith, cast, small, few, h)) next.size
@@ -37,8 +34,7 @@ returns-then-not-may_stop-clause-total c =
     let p = c.args.problem.now in
     let t = c.args.t in
     inl (stop-none p.periods p.table.now p.unit.now p.fix.now (suc t) c.args.since c.requires.period
-    (ap (λ k. may_be_off p.unit.now p.fix.now k && holds_initially p.unit.now k true && may_stop p.unit.now c.args.since k) (sym (add-one t))
-    ∙ sym c.may_stop.ensures ∙ c.if-not-may_stop.true))
+    (may-behind p.periods p.table.now p.unit.now p.fix.now t c.args.since c.may_stop.result false c.may_stop.ensures c.if-not-may_stop.true))
 
 pub limit_before-requires-clause-best : goal.limit_before-requires-clause-best
 limit_before-requires-clause-best c =
@@ -51,10 +47,8 @@ pub limit_before-requires-clause-next : goal.limit_before-requires-clause-next
 limit_before-requires-clause-next c =
     let p = c.args.problem.now in
     let few = c.requires.lawful.periods_are.1 in
-    let lets : IsTrue (may_be_off p.unit.now p.fix.now (suc c.args.t) && holds_initially p.unit.now (suc c.args.t) true && may_stop p.unit.now c.args.since (suc c.args.t)) =
-    ap (λ k. may_be_off p.unit.now p.fix.now k && holds_initially p.unit.now k true && may_stop p.unit.now c.args.since k) (sym (add-one c.args.t))
-    ∙ sym c.may_stop.ensures ∙ c.if-not-may_stop.false in
-    let next = c.requires.entry.stop (stop-off p.periods p.table.now p.unit.now p.fix.now (suc c.args.t) c.args.since lets) in
+    let lets = may-behind p.periods p.table.now p.unit.now p.fix.now c.args.t c.args.since c.may_stop.result true c.may_stop.ensures c.if-not-may_stop.false in
+    let next = c.requires.entry.stop (may-turn_off p.unit.now p.fix.now (suc c.args.t) c.args.since lets) in
     some-map (λ choice. IsWithinSwitches (p.periods - suc (suc c.args.t)) choice.cost) (λ choice. unsigned_abs choice.cost ≤ MAX_WAY) c.args.next.now.stop
     (λ choice h. omega (arith, few, h)) next.size
 
@@ -62,9 +56,7 @@ pub returns-in-None-clause-total : goal.returns-in-None-clause-total
 returns-in-None-clause-total c =
     let p = c.args.problem.now in
     let t = c.args.t in
-    let lets : IsTrue (may_be_off p.unit.now p.fix.now (suc t) && holds_initially p.unit.now (suc t) true && may_stop p.unit.now c.args.since (suc t)) =
-    ap (λ k. may_be_off p.unit.now p.fix.now k && holds_initially p.unit.now k true && may_stop p.unit.now c.args.since k) (sym (add-one t))
-    ∙ sym c.may_stop.ensures ∙ c.if-not-may_stop.false in
+    let lets = may-behind p.periods p.table.now p.unit.now p.fix.now t c.args.since c.may_stop.result true c.may_stop.ensures c.if-not-may_stop.false in
     let begun = c.run_begin.ensures in
     let cost = run_cost p.periods p.table.now p.unit.now c.run_begin.result (suc (t - c.run_begin.result)) in
     stop-below p.periods p.table.now p.unit.now p.fix.now (suc t) c.args.since c.limit_before.result (choice_cost c.args.best.now) cost None None c.args.next.now
@@ -77,9 +69,7 @@ pub returns-in-Some-clause-total : goal.returns-in-Some-clause-total
 returns-in-Some-clause-total c =
     let p = c.args.problem.now in
     let t = c.args.t in
-    let lets : IsTrue (may_be_off p.unit.now p.fix.now (suc t) && holds_initially p.unit.now (suc t) true && may_stop p.unit.now c.args.since (suc t)) =
-    ap (λ k. may_be_off p.unit.now p.fix.now k && holds_initially p.unit.now k true && may_stop p.unit.now c.args.since k) (sym (add-one t))
-    ∙ sym c.may_stop.ensures ∙ c.if-not-may_stop.false in
+    let lets = may-behind p.periods p.table.now p.unit.now p.fix.now t c.args.since c.may_stop.result true c.may_stop.ensures c.if-not-may_stop.false in
     let begun = c.run_begin.ensures in
     let cost = run_cost p.periods p.table.now p.unit.now c.run_begin.result (suc (t - c.run_begin.result)) in
     let small : unsigned_abs c.in-Some.cost ≤ MAX_SWITCH = subst (λ o. IfSome o (λ v. unsigned_abs v ≤ MAX_SWITCH)) c.in-Some.is c.cost_below.ensures.size in
@@ -95,12 +85,10 @@ pub returns-in-Some-clause-size : goal.returns-in-Some-clause-size
 returns-in-Some-clause-size c =
     let p = c.args.problem.now in
     let t = c.args.t in
-    let lets : IsTrue (may_be_off p.unit.now p.fix.now (suc t) && holds_initially p.unit.now (suc t) true && may_stop p.unit.now c.args.since (suc t)) =
-    ap (λ k. may_be_off p.unit.now p.fix.now k && holds_initially p.unit.now k true && may_stop p.unit.now c.args.since k) (sym (add-one t))
-    ∙ sym c.may_stop.ensures ∙ c.if-not-may_stop.false in
+    let lets = may-behind p.periods p.table.now p.unit.now p.fix.now t c.args.since c.may_stop.result true c.may_stop.ensures c.if-not-may_stop.false in
     let small : unsigned_abs c.in-Some.cost ≤ MAX_SWITCH = subst (λ o. IfSome o (λ v. unsigned_abs v ≤ MAX_SWITCH)) c.in-Some.is c.cost_below.ensures.size in
     let cast = wide c.in-Some.cost MAX_SWITCH small (lit< tt) in
-    let next = c.requires.entry.stop (stop-off p.periods p.table.now p.unit.now p.fix.now (suc t) c.args.since lets) in
+    let next = c.requires.entry.stop (may-turn_off p.unit.now p.fix.now (suc t) c.args.since lets) in
     let is : c.with_choice.result ≡ total_of (Some c.in-Some.cost) (choice_cost c.args.next.now.stop) =
     c.with_choice.ensures ∙ ap (λ z. total_of (Some z) (choice_cost c.args.next.now.stop)) cast in
     let left : suc (p.periods - suc (suc t)) ≡ p.periods - suc t = (let short = c.requires.period in omega (arith, short)) in
