@@ -1,20 +1,10 @@
--- Paths that a walk over a tree makes: their decisions are placed, and a path decides each cell once if each split is on a
--- cell that the path to it hasn't decided.
--- Cite from a crate above by `use Rattle.leaf_values.proofs.PathsOfNodes.{placed, decides_once-more}`.
+-- Paths that a walk over a tree makes: a path decides each cell once if each split is on a cell that the path to it hasn't decided.
+-- Cite from a crate above by `use Rattle.leaf_values.proofs.PathsOfNodes.{decides_once-more}`.
 use Rattle.std.proofs.Common.{◌≡◌, ℕ, ◌+◌, ◌<◌, ◌≤◌, ◌⊎◌, ⊎_elim, not, List, [], ◌∷◌, ◌++◌, length, take, sym, arith, All, IsTrue}
 use Rattle.std.proofs.lemmas.List.{get_or-take, get_or_append_left, get_or_push, length-append, length-take, take-append-le, take-take, take_all}
 use Rattle.uc_model.specs.Prelude.{IsLawfulInstance, thermal_count}
 use Rattle.dual_model.specs.Prelude.{IsNodeOf, is_decided}
 use Rattle.leaf_values.specs.Paths.{Fixing, Instance, DecidesOnce, IsPlaced, node_of}
-
-pub placed : (instance : Instance) (path : List Fixing) (units : ℕ) → IsLawfulInstance instance → IsNodeOf instance (node_of path)
-    → units ≡ thermal_count instance → All (IsPlaced units) path
-placed instance path units lawful inside count i d h = record {
-  unit = omega (arith, count, (inside i d h).unit);
-  period = omega (arith, lawful.periods.1, (inside i d h).period);
-}
-
--- ---- each cell once
 
 pub decides_once-nil : DecidesOnce []
 decides_once-nil = record { fresh = λ i d h. absurd (omega arith) }

@@ -1,5 +1,6 @@
 -- The entries that were reckoned are those of the table, and add up to the node's value.
 use Rattle.std.proofs.Common.{List, lit<, refl, sym, subst, arith, MatchOption, inr}
+use Rattle.std.specs.Vec.{with_items}
 use Rattle.std.proofs.lemmas.List.{with_items_is}
 use Rattle.uc_model.specs.Prelude.{thermal_count}
 use Rattle.uc_model.proofs.Sizes.{wide}
@@ -10,16 +11,26 @@ use Rattle.leaf_values.specs.declared.entries.UnitEntry.{UnitEntry}
 use Rattle.leaf_values.proofs.ExactSums.{empty-unscheduled}
 use Rattle.leaf_values.proofs.NodeTotals.{decided_units, entries_kept, node_answer, values_at}
 use Rattle.leaf_values.proofs.exact.exact_reaches.Goals as goal
+use Rattle.leaf_values.proofs.exact.exact_reaches.Goals.{After-reckon_each}
+
+-- the units' entries after the reckoning
+reckoned : (c : After-reckon_each) → AreReckonedFor c.args.instance.now c.args.fixes.now (thermal_count c.args.instance.now) c.args.entries.now.units.items
+    (with_items c.args.entries.now.units c.reckon_each.new.units).items
+reckoned c =
+    let instance = c.args.instance.now in
+    let fixes = c.args.fixes.now in
+    let old = c.args.entries.now in
+    let is = with_items_is old.units c.reckon_each.new.units (omega (arith, c.reckon_each.auto.units, c.as_mut_slice.ensures.len)) in
+    subst (AreReckonedFor instance fixes (thermal_count instance) old.units.items) (sym is)
+    (subst (λ (units : List UnitEntry). AreReckonedFor instance fixes (thermal_count instance) units c.reckon_each.new.units)
+    c.as_mut_slice.ensures.value c.reckon_each.ensures.units)
 
 pub reaches_from-requires-clause-entries : goal.reaches_from-requires-clause-entries
 reaches_from-requires-clause-entries c =
     let instance = c.args.instance.now in
     let fixes = c.args.fixes.now in
     let old = c.args.entries.now in
-    let is = with_items_is old.units c.reckon_each.new.units (omega (arith, c.reckon_each.auto.units, c.as_mut_slice.ensures.len)) in
-    let after = subst (AreReckonedFor instance fixes (thermal_count instance) old.units.items) (sym is)
-    (subst (λ (units : List UnitEntry). AreReckonedFor instance fixes (thermal_count instance) units c.reckon_each.new.units)
-    c.as_mut_slice.ensures.value c.reckon_each.ensures.units) in
+    let after = reckoned (goal.at.reaches_from-requires-clause-entries c).After-reckon_each in
     entries_kept instance c.args.table.now fixes old _ c.requires.entries after refl refl
 
 pub returns-in-None-clause-kept : goal.returns-in-None-clause-kept
@@ -27,10 +38,7 @@ returns-in-None-clause-kept c =
     let instance = c.args.instance.now in
     let fixes = c.args.fixes.now in
     let old = c.args.entries.now in
-    let is = with_items_is old.units c.reckon_each.new.units (omega (arith, c.reckon_each.auto.units, c.as_mut_slice.ensures.len)) in
-    let after = subst (AreReckonedFor instance fixes (thermal_count instance) old.units.items) (sym is)
-    (subst (λ (units : List UnitEntry). AreReckonedFor instance fixes (thermal_count instance) units c.reckon_each.new.units)
-    c.as_mut_slice.ensures.value c.reckon_each.ensures.units) in
+    let after = reckoned (goal.at.returns-in-None-clause-kept c).After-reckon_each in
     entries_kept instance c.args.table.now fixes old _ c.requires.entries after refl refl
 
 pub returns-in-None-clause-reaches : goal.returns-in-None-clause-reaches
@@ -39,10 +47,7 @@ returns-in-None-clause-reaches c = λ node decided.
     let table = c.args.table.now in
     let fixes = c.args.fixes.now in
     let old = c.args.entries.now in
-    let is = with_items_is old.units c.reckon_each.new.units (omega (arith, c.reckon_each.auto.units, c.as_mut_slice.ensures.len)) in
-    let after = subst (AreReckonedFor instance fixes (thermal_count instance) old.units.items) (sym is)
-    (subst (λ (units : List UnitEntry). AreReckonedFor instance fixes (thermal_count instance) units c.reckon_each.new.units)
-    c.as_mut_slice.ensures.value c.reckon_each.ensures.units) in
+    let after = reckoned (goal.at.returns-in-None-clause-reaches c).After-reckon_each in
     let are = entries_kept instance table fixes old _ c.requires.entries after refl refl in
     let answer = node_answer instance table node _ c.total.result (values_at instance table node fixes old _ are after decided) c.total.ensures.total in
     let empty : HasEmptyUnit instance node = subst (λ o. MatchOption o (HasEmptyUnit instance node) (IsNodeValue instance node table)) c.in-None.is answer in
@@ -54,10 +59,7 @@ returns-in-Some-clause-reaches c = λ node decided.
     let table = c.args.table.now in
     let fixes = c.args.fixes.now in
     let old = c.args.entries.now in
-    let is = with_items_is old.units c.reckon_each.new.units (omega (arith, c.reckon_each.auto.units, c.as_mut_slice.ensures.len)) in
-    let after = subst (AreReckonedFor instance fixes (thermal_count instance) old.units.items) (sym is)
-    (subst (λ (units : List UnitEntry). AreReckonedFor instance fixes (thermal_count instance) units c.reckon_each.new.units)
-    c.as_mut_slice.ensures.value c.reckon_each.ensures.units) in
+    let after = reckoned (goal.at.returns-in-Some-clause-reaches c).After-reckon_each in
     let are = entries_kept instance table fixes old _ c.requires.entries after refl refl in
     let answer = node_answer instance table node _ c.total.result (values_at instance table node fixes old _ are after decided) c.total.ensures.total in
     let value = subst (λ o. MatchOption o (HasEmptyUnit instance node) (IsNodeValue instance node table)) c.in-Some.is answer in
