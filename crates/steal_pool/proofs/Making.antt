@@ -1,7 +1,7 @@
 -- The seats of a new pool, one after another.
-use Rattle.std.proofs.Common.{◌≡◌, ◌⊎◌, ℕ, zero, suc, ◌+◌, ◌-◌, ◌<◌, ◌≤◌, add-one, List, [], ◌∷◌, ◌++◌, map, length, get_or, take, drop, Some, sym, refl, ap, ◌∙◌, subst, inl, inr, ⊎_elim, arith, length-append, length-drop, slice_get, remove}
+use Rattle.std.proofs.Common.{◌≡◌, ◌⊎◌, ℕ, zero, suc, ◌+◌, ◌-◌, ◌<◌, ◌≤◌, add-one, List, [], ◌∷◌, ◌++◌, map, length, get_or, take, drop, Some, append_assoc, sym, refl, ap, ◌∙◌, subst, inl, inr, ⊎_elim, arith, length-append, length-drop, slice_get, remove}
 use Rattle.std.proofs.Math.Seq.{take-length}
-use Rattle.std.proofs.lemmas.List.{take-map, drop-map, map-append, length-map, length-take}
+use Rattle.std.proofs.lemmas.List.{take_more, take-map, drop-map, map-append, length-map, length-take}
 use Rattle.steal_pool.specs.Seats.{DequeId, TheftOf, SeatOf, what_taken, untouched, IsFresh}
 use Rattle.steal_pool.specs.Ends.{Own, Victim, own_id, victim_id}
 use Rattle.steal_pool.specs.Pools.{AreFresh}
@@ -25,6 +25,16 @@ module _ {A : Type 0} where
   get_snoc [] y (suc i) z e = (cc)
   get_snoc (x ∷ xs) y zero z e = inl e
   get_snoc (x ∷ xs) y (suc i) z e = ⊎_elim (λ h. inl h) (λ (h : (i ≡ length xs) × (y ≡ z)). inr (ap suc h.0, h.1)) (get_snoc xs y i z e)
+
+-- one more is made of the next of the items
+pub made_more : {A B C : Type 0} (f : A → C) (g : B → C) (front : List C) (made more : List A) (items : List B) (i : ℕ) (a : A) (b : B)
+    → map f made ≡ front ++ map g (take i items) → more ≡ made ++ a ∷ [] → i < length items → b ≡ get_or items i b → f a ≡ g b
+    → map f more ≡ front ++ map g (take (i + 1) items)
+made_more {A} {B} {C} f g front made more items i a b so_far added within is same =
+    let next : map g (take (i + 1) items) ≡ map g (take i items) ++ g b ∷ [] =
+    ap (map g) (take_more items i b within ∙ ap (λ (y : B). take i items ++ y ∷ []) (sym is)) ∙ map-append g (take i items) (b ∷ []) in
+    ap (map f) added ∙ (map-append f made (a ∷ []) ∙ ((λ j. so_far j ++ same j ∷ [])
+    ∙ (append_assoc front (map g (take i items)) (g b ∷ []) ∙ ap (λ (cs : List C). front ++ cs) (sym next))))
 
 -- the identity of the deque at the front of what is left
 pub id_next : (owns : List Own) (n : ℕ) (own : Own) (rest : List Own) → drop n owns ≡ own ∷ rest → own_id own ≡ get_or (map own_id owns) n (0, 0)
