@@ -1,6 +1,6 @@
 //! The book and its calls.
 
-ghost use Rattle.std.specs.Prelude.{◌≡◌, ◌<◌, ◌∷◌, [], IfOk, vec_capacity};
+ghost use Rattle.std.specs.Prelude.{◌≡◌, ◌<◌, ◌∷◌, [], IfOk, pos, replicate, vec_capacity};
 
 use crate::case::Case;
 use crate::claims::{Claimed, Claims, Status};
@@ -56,6 +56,16 @@ fn first_table(alloc: Global, room: usize, table: Table) -> Result<Vec<Table>, N
     Ok(tables)
 }
 
+// No entries and no claims, with room for so many of each, over so many nodes.
+fn no_claims(alloc: Global, room: u32, nodes: u32) -> Result<(Log, Claims), NoMemory>
+    ensures log { IfOk result (λ both. both.0 ≡ record { entries = []; room = room; nodes = nodes; greatest = replicate nodes (pos 0) }) }
+    ensures claims { IfOk result (λ both. both.1 ≡ record { claims = []; room = room; nodes = nodes }) }
+{
+    let log = Log::with_room(alloc, room, nodes)?;
+    let claims = Claims::with_room(alloc, room, nodes)?;
+    Ok((log, claims))
+}
+
 impl<C: Case> Book<C> {
     ghost use Rattle.std.specs.Prelude.{◌≡◌, ◌≢◌, ◌↔◌, ◌<◌, ◌≤◌, ℕ, Bool, [], IsTrue, true, false, None, Some, IfOk, IfSome, MatchOption, length};
     ghost use Rattle.branch_tree.specs.NumberedTree.{node_count};
@@ -89,25 +99,22 @@ impl<C: Case> Book<C> {
         ensures { IfOk result (λ book. book ≡ opened C.opening) }
     {
         let units = instance.thermal.as_slice().len() as u32;
-        let nodes = 2 * budget + 1;
+        let leaf = Leaf::Live {
+            table: 0,
+            value,
+            exact: false,
+        };
+        let tree = start::root(alloc, units, instance.periods, budget, &leaf)?;
+        let tables = first_table(alloc, budget as usize + 2, table)?;
+        let (log, claims) = no_claims(alloc, budget, 2 * budget + 1)?;
         Ok(Book {
             budget,
             gap,
             count: 1,
-            tree: start::root(
-                alloc,
-                units,
-                instance.periods,
-                budget,
-                &Leaf::Live {
-                    table: 0,
-                    value,
-                    exact: false,
-                },
-            )?,
-            tables: first_table(alloc, budget as usize + 2, table)?,
-            log: Log::with_room(alloc, budget, nodes)?,
-            claims: Claims::with_room(alloc, budget, nodes)?,
+            tree,
+            tables,
+            log,
+            claims,
             of: PhantomData,
         })
     }
