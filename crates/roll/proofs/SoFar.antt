@@ -172,21 +172,7 @@ further MayFind instance window step done windows place kept stitched wide long 
           (omega (arith, all, within.part, within.within));
     }
 
--- ---- where it begins and ends
-pub begun : (MayFind : Instance → Found → Type 0) (instance : Instance) (window step : ℕ) (kept : Printed) → IsLawfulInstance instance
-    → IsKept instance 0 kept → IsRolledSoFar MayFind instance window step 0 0 kept
-begun MayFind instance window step kept lawful is = record {
-  kept = is;
-  categories = λ g t h none. absurd (omega (arith, none));
-  few = omega arith;
-  place = λ some. omega arith;
-  going = λ some. record {
-    before = λ j none. absurd (omega (arith, none));
-    each = λ j none. absurd (omega (arith, none));
-  };
-  ended = λ none. absurd (omega (arith, none, lawful.periods.0));
-}
-
+-- ---- where it ends
 pub whole : (MayFind : Instance → Found → Type 0) (instance : Instance) (window step done windows : ℕ) (kept : Printed) (cost : ℤ)
     → IsRolledSoFar MayFind instance window step done windows kept → done ≡ instance.periods → IsAccepted instance kept cost
     → IsWholeRoll MayFind instance window step kept cost windows

@@ -25,12 +25,6 @@ kept_row : (instance : Instance) (m : ℕ) (kept : Printed) → IsKept instance 
     → length (row_of kept g) ≡ m
 kept_row instance m kept is g h = All-get_or (λ row. length row ≡ m) kept.thermal g [] (omega (arith, is.shape.thermal)) is.shape.cells
 
-new_row : (instance : Instance) (m n : ℕ) (kept shown : Printed) (next : IsContinuation instance kept m n shown) → (g : ℕ) → g < thermal_count instance
-    → length (row_of shown g) ≡ next.len
-new_row instance m n kept shown next g h =
-    All-get_or (λ row. length row ≡ next.window.periods) shown.thermal g [] (omega (arith, next.shape.thermal, next.next.is_window.thermal_units)) next.shape.cells
-    ∙ next.next.is_window.periods
-
 -- the renewable units' rows
 kept_outputs : (instance : Instance) (m : ℕ) (kept : Printed) → IsKept instance m kept → length kept.renewable ≡ renewable_count instance
 kept_outputs instance m kept is = is.shape.renewable ∙ length-map instance.renewable (first_limits m)
