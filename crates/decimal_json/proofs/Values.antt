@@ -30,27 +30,30 @@ letter_missing bytes at i letters outer v lt fails =
     ap (λ ls. scan bytes at outer (awaited v ls)) (byte_and_rest letters i lt)
     ∙ fails_there bytes at at 2 outer (literal v (get_or letters i 0 ∷ drop (i + 1) letters)) (λ c. c == get_or letters i 0) fails refl (λ c e. rw e refl)
 
--- what a first byte leads to
-abbrev pub Led : List ℕ → ℕ → ℕ → Spot → Type 0
-Led bytes start at spot = (outer : List Frame) → scan bytes start outer wanted ≡ scan bytes at outer spot
+-- what the byte with which a value begins leads to
+abbrev pub Begins : ℕ → ℕ → Spot → Type 0
+Begins start k spot = (outer : List Frame) → step start outer wanted k ≡ next outer spot
 
-pub leads_at : (bytes : List ℕ) (start c k : ℕ) (spot : Spot) → ((outer : List Frame) → step start outer wanted k ≡ next outer spot) → StandsAt bytes start c → c ≡ k → Led bytes start (start + 1) spot
-leads_at bytes start c k spot each e is = λ outer. moved bytes start k outer wanted outer spot (subst (λ (b : ℕ). StandsAt bytes start b) is e) (each outer)
+begins_at : (bytes : List ℕ) (start c k : ℕ) (spot : Spot) (outer : List Frame) → Begins start k spot → StandsAt bytes start c → c ≡ k
+    → scan bytes start outer wanted ≡ scan bytes (start + 1) outer spot
+begins_at bytes start c k spot outer begins stands is = moved bytes start k outer wanted outer spot (subst (λ (b : ℕ). StandsAt bytes start b) is stands) (begins outer)
 
--- what comes behind it, read from a copy of the bytes
-pub read_behind : (bytes source : List ℕ) (start at end : ℕ) (spot : Spot) (v : Value) → bytes ≡ source → Led source start at spot → Reads bytes at spot end v → Reads source start wanted end v
-read_behind bytes source start at end spot v same led r = λ outer. led outer ∙ subst (λ (s : List ℕ). Reads s at spot end v) same r outer
+-- What comes behind it, read from a copy of the bytes. What is read is a value of memory, which is seen as that.
+pub read_behind : (bytes source : List ℕ) (start end c k : ℕ) (spot : Spot) (v w : Value) → bytes ≡ source → StandsAt source start c → c ≡ k → Begins start k spot
+    → Reads bytes (start + 1) spot end v → w ≡ v → Reads source start wanted end w
+read_behind bytes source start end c k spot v w same stands is begins r viewed = subst (λ (x : Value). Reads source start wanted end x) (sym viewed)
+    (λ outer. begins_at source start c k spot outer begins stands is ∙ subst (λ (s : List ℕ). Reads s (start + 1) spot end v) same r outer)
 
-pub breaks_behind : {T : Type 0} (bytes source : List ℕ) (start at : ℕ) (spot : Spot) (e : JsonFault) (r : Result T JsonFault) → bytes ≡ source → Led source start at spot → Breaks bytes at spot e
-    → IsErrAnd r (λ d. d ≡ e) → IfErr r (Breaks source start wanted)
-breaks_behind bytes source start at spot e r same led broken h = passed_on r e (Breaks source start wanted) h
-    (λ outer. subst (λ (o : Outcome). Leads e o) (sym (led outer)) (subst (λ (s : List ℕ). Breaks s at spot e) same broken outer))
+pub breaks_behind : {T : Type 0} (bytes source : List ℕ) (start c k : ℕ) (spot : Spot) (e : JsonFault) (r : Result T JsonFault) → bytes ≡ source → StandsAt source start c → c ≡ k
+    → Begins start k spot → Breaks bytes (start + 1) spot e → IsErrAnd r (λ d. d ≡ e) → IfErr r (Breaks source start wanted)
+breaks_behind bytes source start c k spot e r same stands is begins broken h = passed_on r e (Breaks source start wanted) h
+    (λ outer. subst (λ (o : Outcome). Leads e o) (sym (begins_at source start c k spot outer begins stands is)) (subst (λ (s : List ℕ). Breaks s (start + 1) spot e) same broken outer))
 
-pub text_behind : (source : List ℕ) (start end : ℕ) (t : List ℕ) → Led source start (start + 1) (quoted for_value (plain [])) → ReadsText source (start + 1) end t → Reads source start wanted end (text t)
+pub text_reads : (source : List ℕ) (start end : ℕ) (t : List ℕ) → ReadsText source start end t → Reads source start (quoted for_value (plain [])) end (text t)
 unfolding quote_step
-text_behind source start end t led r = λ outer. led outer ∙ r outer for_value
+text_reads source start end t r = λ outer. r outer for_value
 
-pub text_breaks : (source : List ℕ) (start : ℕ) (e : JsonFault) → BreaksText source (start + 1) e → Breaks source (start + 1) (quoted for_value (plain [])) e
+pub text_breaks : (source : List ℕ) (start : ℕ) (e : JsonFault) → BreaksText source start e → Breaks source start (quoted for_value (plain [])) e
 text_breaks source start e b = λ outer. b outer for_value
 
 -- a byte with which no value begins
@@ -67,10 +70,6 @@ pub boundary_behind : (source : List ℕ) (at c : ℕ) → IsUtf8 source → at 
 boundary_behind source at c utf8 lt e low =
     let here : get_or source at 0 ≡ c = let f = byte_and_rest source at lt in cc in
     IsCharBoundary-after_ascii source at utf8 lt (omega (arith, here))
-
--- a value, as it is seen in memory
-pub as_viewed : (source : List ℕ) (start end : ℕ) (v w : Value) → w ≡ v → Reads source start wanted end v → Reads source start wanted end w
-as_viewed source start end v w e r = subst (λ (x : Value). Reads source start wanted end x) (sym e) r
 
 -- what `token_at` says of its byte
 pub token_of : (bytes : List ℕ) (at c : ℕ) (o : Option ℕ) → o ≡ Some c → IfSome o (IsToken bytes at) → IsToken bytes at c
