@@ -44,21 +44,31 @@ of_text least most text (Some n) fits reads = (
   (λ outer. outside least most text (λ h. outer (omega (arith, reads.0.1, h.2), omega (arith, reads.0.1, h.3)))),
 )
 
-pub kept_of : (least most : ℕ) (text : Option Text) (read : Option ℕ) → most < 2 ^ 32 → (text ≡ None → read ≡ None)
+kept_of : (least most : ℕ) (text : Option Text) (read : Option ℕ) → most < 2 ^ 32 → (text ≡ None → read ≡ None)
     → ((t : Text) → text ≡ Some t → Reads t read) → IsKept least most read (option_map_or (whole_within least most) text least)
 kept_of least most None read fits none reads = rw (none refl) refl
 kept_of least most (Some t) read fits none reads = of_text least most t read fits (reads t refl)
 
--- where a number was read
-pub kept_some : (least most n : ℕ) (read : Option ℕ) (kept : ℕ) → read ≡ Some n → IsKept least most read kept
-    → (least ≤ n → n ≤ most → kept ≡ n) × (¬ ((least ≤ n) × (n ≤ most)) → kept ≡ least)
+kept_some : (least most n : ℕ) (read : Option ℕ) (kept : ℕ) → read ≡ Some n → IsKept least most read kept
+    → (least ≤ n → n ≤ most → n ≡ kept) × (¬ ((least ≤ n) × (n ≤ most)) → least ≡ kept)
 kept_some least most n None kept is h = absurd (cc)
 kept_some least most n (Some m) kept is h =
     let same : m ≡ n = cc in (
-      (λ low high. h.0 (omega (arith, same, low)) (omega (arith, same, high)) ∙ same),
-      (λ outer. h.1 (λ inner. outer (omega (arith, same, inner.0), omega (arith, same, inner.1)))),
+      (λ low high. sym (h.0 (omega (arith, same, low)) (omega (arith, same, high)) ∙ same)),
+      (λ outer. sym (h.1 (λ inner. outer (omega (arith, same, inner.0), omega (arith, same, inner.1))))),
     )
 
-pub kept_none : (least most : ℕ) (read : Option ℕ) (kept : ℕ) → read ≡ None → IsKept least most read kept → kept ≡ least
-kept_none least most None kept is h = h
+kept_none : (least most : ℕ) (read : Option ℕ) (kept : ℕ) → read ≡ None → IsKept least most read kept → least ≡ kept
+kept_none least most None kept is h = sym h
 kept_none least most (Some m) kept is h = absurd (cc)
+
+-- where a number was read, and where none was, of an option's text
+pub number_read : (least most n : ℕ) (seen text : Option Text) (read : Option ℕ) → seen ≡ text → most < 2 ^ 32 → (text ≡ None → read ≡ None)
+    → ((t : Text) → text ≡ Some t → Reads t read) → read ≡ Some n
+    → (least ≤ n → n ≤ most → n ≡ option_map_or (whole_within least most) seen least)
+    × (¬ ((least ≤ n) × (n ≤ most)) → least ≡ option_map_or (whole_within least most) seen least)
+number_read least most n seen text read same fits none reads is = rw same (kept_some least most n read _ is (kept_of least most text read fits none reads))
+
+pub number_missing : (least most : ℕ) (seen text : Option Text) (read : Option ℕ) → seen ≡ text → most < 2 ^ 32 → (text ≡ None → read ≡ None)
+    → ((t : Text) → text ≡ Some t → Reads t read) → read ≡ None → least ≡ option_map_or (whole_within least most) seen least
+number_missing least most seen text read same fits none reads is = rw same (kept_none least most read _ is (kept_of least most text read fits none reads))

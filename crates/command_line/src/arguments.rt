@@ -1,10 +1,12 @@
 //! The commands of the program with their arguments, for the command-line parser.
 
-ghost use Rattle.std.specs.Prelude.{◌≡◌, IfOk, true, false, [], codes};
+ghost use Rattle.std.specs.Prelude.{◌≡◌, IfOk, true, false, [], codes, pos};
 ghost use Rattle.clap.specs.Words.{App, Rule, Shape, app_of, rule_of, shape_of, with_rule, with_subcommand};
+ghost use Rattle.clap.specs.declared.builder.value_parser.ValueParser.TheVariants.{Signed};
 ghost use Rattle.clap.specs.declared.builder.command.Command.TheViews.{out-Command as fields_of};
-ghost use Rattle.command_line.specs.Arguments.{place as place_rule, needed_option as needed_rule, units_option as units_rule, workers_option as workers_rule, gap_option as gap_rule, price_option as price_rule, hours_option as hours_rule, table_option as table_rule, switch as switch_rule, seed_place as seed_rule, solve_shape, check_shape, demo_shape, upgrade_shape, uplift_shape, roll_shape, program as program_app};
+ghost use Rattle.command_line.specs.Arguments.{place as place_rule, needed_option as needed_rule, number_option as number_rule, units_option as units_rule, workers_option as workers_rule, gap_option as gap_rule, price_option as price_rule, hours_option as hours_rule, table_option as table_rule, switch as switch_rule, seed_place as seed_rule, solve_shape, check_shape, demo_shape, upgrade_shape, uplift_shape, roll_shape, program as program_app};
 
+use clap::builder::ValueParser;
 use clap::{Arg, ArgAction, Command, value_parser};
 use std::alloc::{AllocError, Global};
 
@@ -24,15 +26,29 @@ fn needed_option<'a>(alloc: Global, name: &'a str) -> Arg<'a>
     Arg::new(alloc, name).long(name).required(true)
 }
 
+// The whole numbers from the least to the most.
+fn whole_numbers<'a>(least: u32, most: u32) -> ValueParser<'a>
+    ensures { result ≡ Signed (pos least) (pos most) }
+{
+    value_parser!(u32).range(i64::from(least)..=i64::from(most))
+}
+
+// `--NAME N`, a whole number from the least to the most.
+fn number_option<'a>(alloc: Global, name: &'a str, least: u32, most: u32) -> Arg<'a>
+    ensures rule { rule_of result ≡ number_rule name.entry.now least most }
+    ensures local { result.global ≡ false }
+{
+    Arg::new(alloc, name)
+        .long(name)
+        .value_parser(whole_numbers(least, most))
+}
+
 // `--units N`, a whole number from 1 to a million, which is 1000 where the option isn't given.
 fn units_option<'a>(alloc: Global) -> Arg<'a>
     ensures rule { rule_of result ≡ units_rule }
     ensures local { result.global ≡ false }
 {
-    Arg::new(alloc, "units")
-        .long("units")
-        .value_parser(value_parser!(u32).range(1..=1_000_000))
-        .default_value("1000")
+    number_option(alloc, "units", 1, 1_000_000).default_value("1000")
 }
 
 // `--workers N`, a whole number from 1 to 64, which is 1 where the option isn't given.
@@ -40,10 +56,7 @@ fn workers_option<'a>(alloc: Global) -> Arg<'a>
     ensures rule { rule_of result ≡ workers_rule }
     ensures local { result.global ≡ false }
 {
-    Arg::new(alloc, "workers")
-        .long("workers")
-        .value_parser(value_parser!(u32).range(1..=64))
-        .default_value("1")
+    number_option(alloc, "workers", 1, 64).default_value("1")
 }
 
 // `--gap PPM`, a whole number from 0 to a million, which is 1000 where the option isn't given.
@@ -51,10 +64,7 @@ fn gap_option<'a>(alloc: Global) -> Arg<'a>
     ensures rule { rule_of result ≡ gap_rule }
     ensures local { result.global ≡ false }
 {
-    Arg::new(alloc, "gap")
-        .long("gap")
-        .value_parser(value_parser!(u32).range(0..=1_000_000))
-        .default_value("1000")
+    number_option(alloc, "gap", 0, 1_000_000).default_value("1000")
 }
 
 // `--NAME PRICE`, a whole number from 1 to a million, which may be left out.
@@ -62,9 +72,7 @@ fn price_option<'a>(alloc: Global, name: &'a str) -> Arg<'a>
     ensures rule { rule_of result ≡ price_rule name.entry.now }
     ensures local { result.global ≡ false }
 {
-    Arg::new(alloc, name)
-        .long(name)
-        .value_parser(value_parser!(u32).range(1..=1_000_000))
+    number_option(alloc, name, 1, 1_000_000)
 }
 
 // `--NAME HOURS`, a number of periods from 1 to 168, which has to be given.
@@ -72,10 +80,7 @@ fn hours_option<'a>(alloc: Global, name: &'a str) -> Arg<'a>
     ensures rule { rule_of result ≡ hours_rule name.entry.now }
     ensures local { result.global ≡ false }
 {
-    Arg::new(alloc, name)
-        .long(name)
-        .value_parser(value_parser!(u32).range(1..=168))
-        .required(true)
+    number_option(alloc, name, 1, 168).required(true)
 }
 
 // `--table K`, the number of a table from 1, which is the first where the option isn't given.
@@ -83,10 +88,7 @@ fn table_option<'a>(alloc: Global) -> Arg<'a>
     ensures rule { rule_of result ≡ table_rule }
     ensures local { result.global ≡ false }
 {
-    Arg::new(alloc, "table")
-        .long("table")
-        .value_parser(value_parser!(u32).range(1..=1_000_002))
-        .default_value("1")
+    number_option(alloc, "table", 1, 1_000_002).default_value("1")
 }
 
 // `--NAME`.
