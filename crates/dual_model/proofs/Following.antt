@@ -1,13 +1,13 @@
 -- The way that choices lead costs what the first one says, where each costs the least.
--- Cite from a crate above by `use Rattle.dual_model.proofs.Following.{followed, may-enter_on, may-turn_on}`.
+-- Cite from a crate above by `use Rattle.dual_model.proofs.Following.{followed, forced-to, lasting-split, may-enter_on}`.
 use Rattle.std.proofs.Common.{◌≡◌, ◌≢◌, ℕ, zero, suc, ◌+◌, ◌-◌, ◌<◌, ◌≤◌, ⊎_elim, Bool, true, false, not, ◌&&◌, ◌==◌, refl, sym, ap, subst, ◌∙◌, arith, ℤ, Option, Some, None, IfSome, if◌then◌else◌}
 use Rattle.std.proofs.lemmas.Bool.{and_parts, cases_lt, cond-true, cond-false, eq-eqb, ne_eqb}
 use Rattle.uc_model.specs.Prelude.{Commitment, commitment_of, may_start, may_stop}
-use Rattle.dual_model.specs.Bellman.{EndCosts, MoveCosts, least_cost, since_after, total_of, way_cost}
+use Rattle.dual_model.specs.Bellman.{EndCosts, MoveCosts, least_cost, lesser_of, since_after, total_of, way_cost}
 use Rattle.dual_model.specs.Choices.{Choice, choice_cost, ends_at, next_after}
 use Rattle.dual_model.specs.Moves.{Fix, Thermal, allowed, holds_initially, may_be_off, may_be_on, may_move}
 use Rattle.dual_model.specs.Traces.{AreLeast, Choices, IsAttained, IsTraced, Stretch, Trace, lasting, stretch, stretch_behind}
-use Rattle.dual_model.proofs.Costs.{total-assoc, total-zero}
+use Rattle.dual_model.proofs.Costs.{lesser-none, total-assoc, total-zero, zero-total}
 use Rattle.dual_model.proofs.Optimum.{total_of-parts}
 use Rattle.dual_model.proofs.Ways.{through}
 
@@ -64,6 +64,53 @@ traced-more choices on first t old new end is here others traced =
           (cases_lt k t);
       after = λ k low. others k (λ e. omega (arith, e, low)) ∙ traced.after k (omega (arith, low));
     }
+
+-- ---- a state that lasts
+pub lasting-split : (move : MoveCosts) (was : Bool) (since t m n : ℕ)
+    → lasting move was since t (m + n) ≡ total_of (lasting move was since t m) (lasting move was since (t + m) n)
+lasting-split move was since t m zero =
+    ap (lasting move was since t) (let e : m + 0 ≡ m = omega arith in e) ∙ sym (zero-total (lasting move was since t m))
+lasting-split move was since t m (suc n) =
+    let count : m + suc n ≡ suc (m + n) = omega arith in
+    let at : t + (m + n) ≡ (t + m) + n = omega arith in
+    ap (lasting move was since t) count
+    ∙ (λ i. total_of (lasting-split move was since t m n i) (move (at i) was since was))
+    ∙ total-assoc (lasting move was since t m) (lasting move was since (t + m) n) (move ((t + m) + n) was since was)
+
+module _ (move : MoveCosts) (end : EndCosts) (periods : ℕ) where
+  abbrev to_go : ℕ → Bool → ℕ → Option ℤ
+  to_go t was since = least_cost move end (periods - t) t was since
+
+  -- one that may not be left
+  forced : (was : Bool) (since t : ℕ) → t < periods → move t was since (not was) ≡ None
+      → to_go t was since ≡ total_of (move t was since was) (to_go (suc t) was since)
+  forced true since t h none =
+      let left : periods - t ≡ suc (periods - suc t) = omega arith in
+      let stay = total_of (move t true since true) (to_go (suc t) true since) in
+      ap (λ n. least_cost move end n t true since) left
+      ∙ ap (λ o. lesser_of stay (total_of o (to_go (suc t) false (suc t)))) none
+      ∙ lesser-none stay
+  forced false since t h none =
+      let left : periods - t ≡ suc (periods - suc t) = omega arith in
+      ap (λ n. least_cost move end n t false since) left
+      ∙ ap (λ o. lesser_of (total_of o (to_go (suc t) true (suc t))) (total_of (move t false since false) (to_go (suc t) false since))) none
+
+  forced-on : (was : Bool) (since t n : ℕ) → t + n ≤ periods → ((k : ℕ) → t ≤ k → k < t + n → move k was since (not was) ≡ None)
+      → to_go t was since ≡ total_of (lasting move was since t n) (to_go (t + n) was since)
+  forced-on was since t zero h none = ap (λ k. to_go k was since) (let e : t ≡ t + 0 = omega arith in e) ∙ sym (total-zero (to_go (t + 0) was since))
+  forced-on was since t (suc n) h none =
+      let next : suc (t + n) ≡ t + suc n = omega arith in
+      forced-on was since t n (omega arith) (λ k a b. none k a (omega (arith, b)))
+      ∙ ap (total_of (lasting move was since t n)) (forced was since (t + n) (omega arith) (none (t + n) (omega arith) (omega arith)))
+      ∙ sym (total-assoc (lasting move was since t n) (move (t + n) was since was) (to_go (suc (t + n)) was since))
+      ∙ ap (λ k. total_of (lasting move was since t (suc n)) (to_go k was since)) next
+
+  pub forced-to : (was : Bool) (since t to : ℕ) → t ≤ to → to ≤ periods → ((k : ℕ) → t ≤ k → k < to → move k was since (not was) ≡ None)
+      → to_go t was since ≡ total_of (lasting move was since t (to - t)) (to_go to was since)
+  forced-to was since t to low high none =
+      let there : t + (to - t) ≡ to = omega arith in
+      forced-on was since t (to - t) (omega arith) (λ k a b. none k a (omega (arith, b)))
+      ∙ ap (λ k. total_of (lasting move was since t (to - t)) (to_go k was since)) there
 
 -- ---- a way along a state that lasts, and over the switch behind it
 after-stay : (was : Bool) (since t : ℕ) → since_after was since was t ≡ since

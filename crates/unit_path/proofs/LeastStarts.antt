@@ -2,14 +2,15 @@
 use Rattle.std.proofs.Common.{◌≡◌, ℕ, suc, ◌+◌, ◌-◌, ◌<◌, ◌≤◌, ◌⊎◌, ⊎_elim, true, false, refl, sym, ap, subst, ◌∙◌, arith, ℤ, pos, ◌*ℤ◌, Option, Some, None, IfSome, unwrap_or}
 use Rattle.std.proofs.lemmas.Bool.{cases_Bool}
 use Rattle.uc_model.specs.Prelude.{IsLawfulThermal, sigma, period_count, may_start}
-use Rattle.dual_model.specs.Prelude.{AreSizedTerms, may_be_off, stop_since, IsWithin, MAX_COST_TO_GO}
+use Rattle.dual_model.specs.Prelude.{AreSizedTerms, may_be_off, move, stop_since, IsWithin, MAX_COST_TO_GO}
 use Rattle.dual_model.specs.CostToGo.{lesser_of, total_of}
 use Rattle.unit_path.specs.inside.Choices.{Fix, Terms, Thermal, Choice, choice_cost, ends_at, rests, start_total, IsLeastStart, IsOneOf, IsStart}
 use Rattle.unit_path.specs.inside.Hours.{IsCold, IsColdStart, IsStartIn}
 use Rattle.dual_model.proofs.BestChoices.{some-of}
 use Rattle.dual_model.proofs.Costs.{lesser-assoc, lesser-comm, total-zero}
+use Rattle.dual_model.proofs.Following.{lasting-split}
 use Rattle.unit_path.proofs.Going.{start_total-end, to_go, to_go-end, to_go-fits}
-use Rattle.unit_path.proofs.RestLaws.{lasted-later, off-barred, off-free, rest-until, rests-barred, rests-free, rests-split}
+use Rattle.unit_path.proofs.RestLaws.{lasted-later, off-barred, off-free, rest-until, rests-barred, rests-free}
 use Rattle.unit_path.proofs.Switched.{start-total_of}
 
 -- ---- chosen starts
@@ -39,7 +40,7 @@ start-further terms unit fix since t from (Some choice) h free start =
       within = start.within;
       attained =
           ap (λ x. total_of x (start_total terms unit fix since to))
-          (ap (rests terms unit fix since t) count ∙ rests-split terms unit fix since t (from - t) (to - from)
+          (ap (rests terms unit fix since t) count ∙ lasting-split (move terms unit fix) false since t (from - t) (to - from)
           ∙ (λ i. total_of (free i) (rests terms unit fix since (at i) (to - from)))
           ∙ total-zero (rests terms unit fix since from (to - from)))
           ∙ start.attained;

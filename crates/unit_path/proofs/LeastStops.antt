@@ -8,8 +8,9 @@ use Rattle.unit_path.specs.inside.Choices.{Fix, Terms, Thermal, Choice, choice_c
 use Rattle.unit_path.specs.inside.Hours.{leave_cost, IsOnward, IsStopIn}
 use Rattle.dual_model.proofs.BestChoices.{some-of}
 use Rattle.dual_model.proofs.Costs.{total-assoc, total-zero}
+use Rattle.dual_model.proofs.Following.{lasting-split}
 use Rattle.unit_path.proofs.Going.{on-step, stop_cost-end, to_go, to_go-end, to_go-fits}
-use Rattle.unit_path.proofs.RunLaws.{run-least, stay-barred, stay-hour, stays-split}
+use Rattle.unit_path.proofs.RunLaws.{run-least, stay-barred, stay-hour}
 use Rattle.unit_path.proofs.Switched.{stop-total}
 
 pub longer-cost : (cost : ℤ) (choice : Option Choice) → choice_cost (longer_of cost choice) ≡ total_of (Some cost) (choice_cost choice)
@@ -42,7 +43,7 @@ stop-further terms unit fix since t from spent choice h is stop =
       within = stop.within;
       attained =
           ap (λ x. total_of x (stop_cost terms unit fix since to))
-          (ap (stays terms unit fix since t) count ∙ stays-split terms unit fix since t (from - t) (to - from)
+          (ap (stays terms unit fix since t) count ∙ lasting-split (move terms unit fix) true since t (from - t) (to - from)
           ∙ (λ i. total_of (sym is i) (stays terms unit fix since (at i) (to - from))))
           ∙ total-assoc (Some spent) (stays terms unit fix since from (to - from)) (stop_cost terms unit fix since to)
           ∙ ap (total_of (Some spent)) stop.attained;

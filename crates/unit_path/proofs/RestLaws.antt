@@ -1,13 +1,14 @@
 -- A rest on the least way: how it splits, and that until it may end it has to go on.
-use Rattle.std.proofs.Common.{◌≡◌, ℕ, zero, suc, ◌+◌, ◌-◌, ◌<◌, ◌≤◌, true, false, ◌&&◌, refl, sym, ap, ◌∙◌, arith, pos, Some, None, if◌then◌else◌}
+use Rattle.std.proofs.Common.{◌≡◌, ℕ, zero, suc, ◌+◌, ◌-◌, ◌<◌, ◌≤◌, true, false, ◌&&◌, refl, ap, ◌∙◌, arith, pos, Some, None, if◌then◌else◌}
 use mathlib.Core.Bool.{and-false}
 use Rattle.std.proofs.lemmas.Bool.{cond-true, cond-false, le-leb, leb-true}
 use Rattle.uc_model.specs.Prelude.{period_count, has_lasted, may_start}
-use Rattle.dual_model.specs.Prelude.{may_be_off, may_be_on, move}
+use Rattle.dual_model.specs.Prelude.{end_cost, may_be_off, may_be_on, move}
 use Rattle.dual_model.specs.CostToGo.{lesser_of, total_of}
 use Rattle.unit_path.specs.inside.Choices.{Fix, Terms, Thermal, rests, start_total}
-use Rattle.dual_model.proofs.Costs.{lesser-none, total-assoc, total-none, total-zero, zero-total}
-use Rattle.unit_path.proofs.Going.{off-step, start_total-at, to_go}
+use Rattle.dual_model.proofs.Costs.{lesser-none, total-none, total-zero}
+use Rattle.dual_model.proofs.Following.{forced-to, lasting-split}
+use Rattle.unit_path.proofs.Going.{off-step, to_go}
 
 -- a state that has lasted for long enough has so in a later period
 pub lasted-later : (left most since t k : ℕ) → t ≤ k → has_lasted left most since t ≡ true → has_lasted left most since k ≡ true
@@ -21,23 +22,11 @@ rest-allowed terms unit fix since t e = cond-true (may_be_off unit fix t) (Some 
 pub rest-barred : (terms : Terms) (unit : Thermal) (fix : Fix) (since t : ℕ) → may_be_off unit fix t ≡ false → move terms unit fix t false since false ≡ None
 rest-barred terms unit fix since t e = cond-false (may_be_off unit fix t) (Some (pos 0)) None e
 
-pub start-barred : (terms : Terms) (unit : Thermal) (fix : Fix) (since t : ℕ) → t < period_count terms → may_start unit since t ≡ false
-    → start_total terms unit fix since t ≡ None
-start-barred terms unit fix since t h e =
-    start_total-at terms unit fix since t h
-    ∙ ap (λ x. total_of x (to_go terms unit fix (suc t) true (suc t)))
-    (cond-false (may_be_on fix t && may_start unit since t) _ _ (ap (λ b. may_be_on fix t && b) e ∙ and-false (may_be_on fix t)))
+pub start-barred : (terms : Terms) (unit : Thermal) (fix : Fix) (since t : ℕ) → may_start unit since t ≡ false → move terms unit fix t false since true ≡ None
+start-barred terms unit fix since t e =
+    cond-false (may_be_on fix t && may_start unit since t) _ _ (ap (λ b. may_be_on fix t && b) e ∙ and-false (may_be_on fix t))
 
 -- ---- rests
-pub rests-split : (terms : Terms) (unit : Thermal) (fix : Fix) (since t m n : ℕ) → rests terms unit fix since t (m + n) ≡ total_of (rests terms unit fix since t m) (rests terms unit fix since (t + m) n)
-rests-split terms unit fix since t m zero = ap (rests terms unit fix since t) (let e : m + 0 ≡ m = omega arith in e) ∙ sym (zero-total (rests terms unit fix since t m))
-rests-split terms unit fix since t m (suc n) =
-    let count : m + suc n ≡ suc (m + n) = omega arith in
-    let at : t + (m + n) ≡ (t + m) + n = omega arith in
-    ap (rests terms unit fix since t) count
-    ∙ (λ i. total_of (rests-split terms unit fix since t m n i) (if may_be_off unit fix (at i) then Some (pos 0) else None))
-    ∙ total-assoc (rests terms unit fix since t m) (rests terms unit fix since (t + m) n) (if may_be_off unit fix ((t + m) + n) then Some (pos 0) else None)
-
 -- where the unit may rest throughout, it costs nothing
 pub rests-free : (terms : Terms) (unit : Thermal) (fix : Fix) (since t n : ℕ) → ((k : ℕ) → t ≤ k → k < t + n → may_be_off unit fix k ≡ true) → rests terms unit fix since t n ≡ Some (pos 0)
 rests-free terms unit fix since t zero may = refl
@@ -53,35 +42,17 @@ rests-barred terms unit fix since t k n low high e =
     let here : (if may_be_off unit fix (t + (k - t)) then Some (pos 0) else None) ≡ None =
     cond-false (may_be_off unit fix (t + (k - t))) (Some (pos 0)) None (ap (may_be_off unit fix) at ∙ e) in
     ap (rests terms unit fix since t) count
-    ∙ rests-split terms unit fix since t (suc (k - t)) (n - suc (k - t))
+    ∙ lasting-split (move terms unit fix) false since t (suc (k - t)) (n - suc (k - t))
     ∙ ap (λ x. total_of x (rests terms unit fix since (t + suc (k - t)) (n - suc (k - t))))
     (ap (total_of (rests terms unit fix since t (k - t))) here ∙ total-none (rests terms unit fix since t (k - t)))
 
 -- until it may start, the unit has to stay off
-pub forced-rests : (terms : Terms) (unit : Thermal) (fix : Fix) (since t n : ℕ) → t + n ≤ period_count terms
-    → ((k : ℕ) → t ≤ k → k < t + n → may_start unit since k ≡ false)
-    → to_go terms unit fix t false since ≡ total_of (rests terms unit fix since t n) (to_go terms unit fix (t + n) false since)
-forced-rests terms unit fix since t zero h barred =
-    ap (λ k. to_go terms unit fix k false since) (let e : t ≡ t + 0 = omega arith in e) ∙ sym (total-zero (to_go terms unit fix (t + 0) false since))
-forced-rests terms unit fix since t (suc n) h barred =
-    let here = t + n in
-    let next : suc (t + n) ≡ t + suc n = omega arith in
-    let none = start-barred terms unit fix since here (omega arith) (barred here (omega arith) (omega arith)) in
-    let rest = move terms unit fix here false since false in
-    forced-rests terms unit fix since t n (omega arith) (λ k a b. barred k a (omega arith))
-    ∙ ap (total_of (rests terms unit fix since t n))
-    (off-step terms unit fix since here (omega arith) ∙ ap (λ x. lesser_of x (total_of rest (to_go terms unit fix (suc here) false since))) none)
-    ∙ sym (total-assoc (rests terms unit fix since t n) rest (to_go terms unit fix (suc here) false since))
-    ∙ ap (λ k. total_of (rests terms unit fix since t (suc n)) (to_go terms unit fix k false since)) next
-
--- from period `since` to `from`
 pub rest-until : (terms : Terms) (unit : Thermal) (fix : Fix) (since from : ℕ) → since ≤ from → from ≤ period_count terms
     → ((k : ℕ) → since ≤ k → k < from → may_start unit since k ≡ false)
     → to_go terms unit fix since false since ≡ total_of (rests terms unit fix since since (from - since)) (to_go terms unit fix from false since)
 rest-until terms unit fix since from low high barred =
-    let end : since + (from - since) ≡ from = omega arith in
-    forced-rests terms unit fix since since (from - since) (omega arith) (λ k a b. barred k a (omega arith))
-    ∙ ap (λ k. total_of (rests terms unit fix since since (from - since)) (to_go terms unit fix k false since)) end
+    forced-to (move terms unit fix) (end_cost terms unit) (period_count terms) false since since from low high
+    (λ k a b. start-barred terms unit fix since k (barred k a b))
 
 -- where it may rest, the least of a start and of a rest; else a start
 pub off-free : (terms : Terms) (unit : Thermal) (fix : Fix) (since t : ℕ) → t < period_count terms → may_be_off unit fix t ≡ true

@@ -1,5 +1,5 @@
 -- A run of on hours on the least way: how it splits, and that until it may end it has to go on.
-use Rattle.std.proofs.Common.{◌≡◌, ℕ, zero, suc, ◌+◌, ◌-◌, ◌*◌, ◌<◌, ◌≤◌, Bool, true, false, ◌&&◌, cond, sym, ap, subst, ◌∙◌, lit<, arith, ℤ, pos, ◌+ℤ◌, to_z, of_z, FitsSigned, Some, None, ◌==◌, nat_lt, unsigned_abs}
+use Rattle.std.proofs.Common.{◌≡◌, ℕ, suc, ◌+◌, ◌-◌, ◌*◌, ◌<◌, ◌≤◌, Bool, true, false, ◌&&◌, cond, sym, ap, subst, ◌∙◌, lit<, arith, ℤ, pos, ◌+ℤ◌, to_z, of_z, FitsSigned, Some, None, ◌==◌, nat_lt, unsigned_abs}
 use mathlib.Core.Bool.{and-true, and-false}
 use Rattle.std.specs.Int.{w128}
 use Rattle.std.proofs.lemmas.Int.{fits_signed_from_abs}
@@ -8,12 +8,13 @@ use Rattle.uc_model.specs.declared.limits.TheConstants.{MAX_PERIODS}
 use Rattle.uc_model.proofs.Common.{abs_add}
 use Rattle.uc_model.proofs.Sizes.{wide}
 use Rattle.uc_model.specs.Prelude.{period_count, may_stop}
-use Rattle.dual_model.specs.Prelude.{holds_initially, hour_before, may_be_off, may_be_on, move, MAX_MOVE}
+use Rattle.dual_model.specs.Prelude.{end_cost, holds_initially, hour_before, may_be_off, may_be_on, move, MAX_MOVE}
 use Rattle.dual_model.specs.CostToGo.{lesser_of, total_of}
 use Rattle.unit_path.specs.inside.Choices.{Fix, Terms, Thermal, stays, stop_cost}
 use Rattle.unit_path.specs.inside.Hours.{leave_cost, stay_cost}
-use Rattle.dual_model.proofs.Costs.{lesser-comm, lesser-none, total-assoc, total-none, total-zero, zero-total}
-use Rattle.unit_path.proofs.Going.{on-step, stop_cost-at, to_go}
+use Rattle.dual_model.proofs.Costs.{lesser-comm, total-assoc, total-none, total-zero}
+use Rattle.dual_model.proofs.Following.{forced-to, lasting-split}
+use Rattle.unit_path.proofs.Going.{on-step, to_go}
 
 -- ---- one period
 -- a unit that may not be on doesn't stay on
@@ -49,17 +50,6 @@ stay-hour terms unit fix since t h e =
     ∙ cond-true (may_be_on fix t && holds_initially unit t false) _ _ (and_from _ _ e (holds-later unit t false (omega arith)))
 
 -- ---- runs
-pub stays-split : (terms : Terms) (unit : Thermal) (fix : Fix) (since t m n : ℕ)
-    → stays terms unit fix since t (m + n) ≡ total_of (stays terms unit fix since t m) (stays terms unit fix since (t + m) n)
-stays-split terms unit fix since t m zero =
-    ap (stays terms unit fix since t) (let e : m + 0 ≡ m = omega arith in e) ∙ sym (zero-total (stays terms unit fix since t m))
-stays-split terms unit fix since t m (suc n) =
-    let count : m + suc n ≡ suc (m + n) = omega arith in
-    let at : t + (m + n) ≡ (t + m) + n = omega arith in
-    ap (stays terms unit fix since t) count
-    ∙ (λ i. total_of (stays-split terms unit fix since t m n i) (move terms unit fix (at i) true since true))
-    ∙ total-assoc (stays terms unit fix since t m) (stays terms unit fix since (t + m) n) (move terms unit fix ((t + m) + n) true since true)
-
 -- the first period apart
 pub stays-first : (terms : Terms) (unit : Thermal) (fix : Fix) (since t n : ℕ)
     → stays terms unit fix since t (suc n) ≡ total_of (move terms unit fix t true since true) (stays terms unit fix since (suc t) n)
@@ -68,7 +58,7 @@ stays-first terms unit fix since t n =
     let at : t + 0 ≡ t = omega arith in
     let next : t + 1 ≡ suc t = omega arith in
     ap (stays terms unit fix since t) count
-    ∙ stays-split terms unit fix since t 1 n
+    ∙ lasting-split (move terms unit fix) true since t 1 n
     ∙ (λ i. total_of (total-zero (move terms unit fix (at i) true since true) i) (stays terms unit fix since (next i) n))
 
 -- a run through a period in which the unit may not be on isn't there
@@ -78,31 +68,12 @@ stays-barred terms unit fix since t k n low high e =
     let count : n ≡ (k - t) + suc (n - suc (k - t)) = omega arith in
     let at : t + (k - t) ≡ k = omega arith in
     ap (stays terms unit fix since t) count
-    ∙ stays-split terms unit fix since t (k - t) (suc (n - suc (k - t)))
+    ∙ lasting-split (move terms unit fix) true since t (k - t) (suc (n - suc (k - t)))
     ∙ ap (λ x. total_of (stays terms unit fix since t (k - t)) x)
     (stays-first terms unit fix since (t + (k - t)) (n - suc (k - t))
     ∙ ap (λ x. total_of x (stays terms unit fix since (suc (t + (k - t))) (n - suc (k - t))))
     (ap (λ j. move terms unit fix j true since true) at ∙ stay-barred terms unit fix since k e))
     ∙ total-none (stays terms unit fix since t (k - t))
-
--- until it may stop, the unit has to stay on
-pub forced-stays : (terms : Terms) (unit : Thermal) (fix : Fix) (since t n : ℕ) → t + n ≤ period_count terms
-    → ((k : ℕ) → t ≤ k → k < t + n → may_stop unit since k ≡ false)
-    → to_go terms unit fix t true since ≡ total_of (stays terms unit fix since t n) (to_go terms unit fix (t + n) true since)
-forced-stays terms unit fix since t zero h barred =
-    ap (λ k. to_go terms unit fix k true since) (let e : t ≡ t + 0 = omega arith in e) ∙ sym (total-zero (to_go terms unit fix (t + 0) true since))
-forced-stays terms unit fix since t (suc n) h barred =
-    let here = t + n in
-    let next : suc (t + n) ≡ t + suc n = omega arith in
-    let none : stop_cost terms unit fix since here ≡ None =
-    stop_cost-at terms unit fix since here (omega arith)
-    ∙ ap (λ x. total_of x (to_go terms unit fix (suc here) false (suc here))) (stop-barred terms unit fix since here (barred here (omega arith) (omega arith))) in
-    let stay = total_of (move terms unit fix here true since true) (to_go terms unit fix (suc here) true since) in
-    forced-stays terms unit fix since t n (omega arith) (λ k a b. barred k a (omega arith))
-    ∙ ap (total_of (stays terms unit fix since t n))
-    (on-step terms unit fix since here (omega arith) ∙ ap (lesser_of stay) none ∙ lesser-none stay)
-    ∙ sym (total-assoc (stays terms unit fix since t n) (move terms unit fix here true since true) (to_go terms unit fix (suc here) true since))
-    ∙ ap (λ k. total_of (stays terms unit fix since t (suc n)) (to_go terms unit fix k true since)) next
 
 -- a unit that has just been switched on stops at once, or goes on until it may stop
 pub run-least : (terms : Terms) (unit : Thermal) (fix : Fix) (since from : ℕ) → since < from → from ≤ period_count terms
@@ -111,12 +82,11 @@ pub run-least : (terms : Terms) (unit : Thermal) (fix : Fix) (since from : ℕ) 
     ≡ lesser_of (stop_cost terms unit fix since since) (total_of (stays terms unit fix since since (from - since)) (to_go terms unit fix from true since))
 run-least terms unit fix since from low high barred =
     let count : from - since ≡ suc (from - suc since) = omega arith in
-    let end : suc since + (from - suc since) ≡ from = omega arith in
     let first = move terms unit fix since true since true in
     let rest = stays terms unit fix since (suc since) (from - suc since) in
     let later : to_go terms unit fix (suc since) true since ≡ total_of rest (to_go terms unit fix from true since) =
-    forced-stays terms unit fix since (suc since) (from - suc since) (omega arith) (λ k a b. barred k (omega arith) (omega arith))
-    ∙ ap (λ k. total_of rest (to_go terms unit fix k true since)) end in
+    forced-to (move terms unit fix) (end_cost terms unit) (period_count terms) true since (suc since) from low high
+    (λ k a b. stop-barred terms unit fix since k (barred k a b)) in
     let whole : total_of first (to_go terms unit fix (suc since) true since) ≡ total_of (stays terms unit fix since since (from - since)) (to_go terms unit fix from true since) =
     ap (total_of first) later
     ∙ sym (total-assoc first rest (to_go terms unit fix from true since))
