@@ -12,10 +12,16 @@ use Rattle.leaf_values.specs.inside.ExactTotals.{IsGained, MAX_PART}
 use Rattle.leaf_values.proofs.ExactSums.{enough-so-far, no-units, told-at-end}
 use Rattle.leaf_values.proofs.GainSteps.{entries-with, entry-read, exact-read, gain-here, known-more, none-here, one_more}
 use Rattle.leaf_values.proofs.exact.reaches_from.Goals as goal
+use Rattle.leaf_values.proofs.exact.reaches_from.Goals.{After-is_reached}
 
 -- a unit of the loop is one of the instance
 unit-known : (g end len long count : ℕ) → g < end → end ≡ len → len ≡ long → long ≡ count → g < count
 unit-known g end len long count before is same all = omega (arith, before, is, same, all)
+
+known_unit : (c : After-is_reached) → c.loop-g.g < thermal_count c.args.instance.now
+known_unit c =
+    unit-known c.loop-g.g c.len-g-end.result c.args.entries.now.units.len _ (thermal_count c.args.instance.now) c.loop-g-test.true c.len-g-end.ensures
+    c.args.entries.now.units.ok.0 c.requires.entries.reckoned.units.count
 
 -- what is decided of the entries at first is decided of those in the loop
 decided-still : (periods g : ℕ) (node : Node) (old new : List UnitEntry) → new ≡ old → IsFixOf periods node g (entry_in old g).fix
@@ -39,8 +45,7 @@ returns-then-is_reached-clause-reaches c = λ node decided value.
     let table = c.args.table.now in
     let g = c.loop-g.g in
     let own = to_z-of_z w128 c.args.plain c.ranges.plain in
-    let known = unit-known g c.len-g-end.result c.args.entries.now.units.len _ (thermal_count instance) c.loop-g-test.true c.len-g-end.ensures
-    c.args.entries.now.units.ok.0 c.requires.entries.reckoned.units.count in
+    let known = known_unit (goal.at.returns-then-is_reached-clause-reaches c).After-is_reached in
     let gained = subst (λ p. IsGained instance table node p g (to_z w128 c.loop-g.total-bits)) own (c.loop-g.invariant.sum node decided) in (
       (λ told. enough-so-far instance table node c.args.plain (least_value c.args.least.now) g (to_z w128 c.loop-g.total-bits) c.requires.lawful
           (omega (arith, known)) value gained (c.is_reached.ensures.0 c.if-is_reached.true)),
@@ -50,15 +55,13 @@ returns-then-is_reached-clause-reaches c = λ node decided value.
 pub value_from-exact-requires-clause-known : goal.value_from-exact-requires-clause-known
 value_from-exact-requires-clause-known c =
     let instance = c.args.instance.now in
-    let known = unit-known c.loop-g.g c.len-g-end.result c.args.entries.now.units.len _ (thermal_count instance) c.loop-g-test.true c.len-g-end.ensures
-    c.args.entries.now.units.ok.0 c.requires.entries.reckoned.units.count in
+    let known = known_unit (goal.at.value_from-exact-requires-clause-known c).After-is_reached in
     exact-read instance c.args.table.now c.loop-g.entries c.loop-g.g c.index_mut.result.now c.loop-g.invariant.entries known c.index_mut.ensures.value
 
 pub part-requires-clause-value : goal.part-requires-clause-value
 part-requires-clause-value c =
     let instance = c.args.instance.now in
-    let known = unit-known c.loop-g.g c.len-g-end.result c.args.entries.now.units.len _ (thermal_count instance) c.loop-g-test.true c.len-g-end.ensures
-    c.args.entries.now.units.ok.0 c.requires.entries.reckoned.units.count in
+    let known = known_unit (goal.at.part-requires-clause-value c).After-is_reached in
     let are = c.loop-g.invariant.entries in
     subst (λ (entry : UnitEntry). IsWithin MAX_COST_TO_GO entry.value)
     (sym (entry-read instance c.args.table.now c.loop-g.entries c.loop-g.g c.index-in-loop-g.result.now are known c.index-in-loop-g.ensures))
@@ -67,8 +70,7 @@ part-requires-clause-value c =
 pub part-requires-clause-constant : goal.part-requires-clause-constant
 part-requires-clause-constant c =
     let instance = c.args.instance.now in
-    let known = unit-known c.loop-g.g c.len-g-end.result c.args.entries.now.units.len _ (thermal_count instance) c.loop-g-test.true c.len-g-end.ensures
-    c.args.entries.now.units.ok.0 c.requires.entries.reckoned.units.count in
+    let known = known_unit (goal.at.part-requires-clause-constant c).After-is_reached in
     let are = c.loop-g.invariant.entries in
     subst (λ (entry : UnitEntry). unsigned_abs entry.constant ≤ MAX_CONSTANT)
     (sym (entry-read instance c.args.table.now c.loop-g.entries c.loop-g.g c.index-in-loop-g.result.now are known c.index-in-loop-g.ensures))
@@ -78,8 +80,7 @@ pub returns-in-None-clause-kept : goal.returns-in-None-clause-kept
 returns-in-None-clause-kept c =
     let instance = c.args.instance.now in
     let table = c.args.table.now in
-    let known = unit-known c.loop-g.g c.len-g-end.result c.args.entries.now.units.len _ (thermal_count instance) c.loop-g-test.true c.len-g-end.ensures
-    c.args.entries.now.units.ok.0 c.requires.entries.reckoned.units.count in
+    let known = known_unit (goal.at.returns-in-None-clause-kept c).After-is_reached in
     let are = c.loop-g.invariant.entries in
     entries-with instance table c.loop-g.entries _ are refl refl
     (known-more instance table c.loop-g.entries.exact.items c.loop-g.g c.value_from-exact.new.known known are.exact c.value_from-exact.ensures.known)
@@ -90,8 +91,7 @@ returns-in-None-clause-reaches c = λ node decided value.
     let table = c.args.table.now in
     let entries = c.loop-g.entries in
     let g = c.loop-g.g in
-    let known = unit-known g c.len-g-end.result c.args.entries.now.units.len _ (thermal_count instance) c.loop-g-test.true c.len-g-end.ensures
-    c.args.entries.now.units.ok.0 c.requires.entries.reckoned.units.count in
+    let known = known_unit (goal.at.returns-in-None-clause-reaches c).After-is_reached in
     let are = c.loop-g.invariant.entries in
     let here = decided-still instance.periods g node c.args.entries.now.units.items entries.units.items (ap (λ v. v.items) c.loop-g.invariant.units) (decided g known) in
     let none = none-here instance table node entries g are known here c.index.result.now c.index-in-loop-g.result.now
@@ -106,8 +106,7 @@ loop-g-preserved c =
     let table = c.args.table.now in
     let entries = c.loop-g.entries in
     let g = c.loop-g.g in
-    let known = unit-known g c.len-g-end.result c.args.entries.now.units.len _ (thermal_count instance) c.loop-g-test.true c.len-g-end.ensures
-    c.args.entries.now.units.ok.0 c.requires.entries.reckoned.units.count in
+    let known = known_unit (goal.at.loop-g-preserved c).After-is_reached in
     let are = c.loop-g.invariant.entries in
     let few : g < MAX_UNITS = omega (arith, known, c.requires.lawful.thermal_units) in
     let small = subst (λ o. IsWithin (2 * MAX_PART) o) c.in-Some.is c.gain.ensures.size in
