@@ -72,8 +72,7 @@ impl Claims {
         ensures { IfOk result (λ claims. claims ≡ record { claims = []; room = room; nodes = nodes }) }
     {
         let claims = Vec::with_capacity(alloc, room as usize)?;
-        let mut held = Vec::new(alloc);
-        held.resize(nodes as usize, false)?;
+        let held = vec![in alloc; false; nodes as usize]?;
         Ok(Claims { claims, held })
     }
 

@@ -49,12 +49,9 @@ impl Log {
     {
         let entries = Vec::with_capacity(alloc, room as usize)?;
         let previous = Vec::with_capacity(alloc, room as usize)?;
-        let mut newest = Vec::new(alloc);
-        newest.resize(nodes as usize, 0)?;
-        let mut counts = Vec::new(alloc);
-        counts.resize(nodes as usize, 0)?;
-        let mut greatest = Vec::new(alloc);
-        greatest.resize(nodes as usize, 0)?;
+        let newest = vec![in alloc; 0; nodes as usize]?;
+        let counts = vec![in alloc; 0; nodes as usize]?;
+        let greatest = vec![in alloc; 0; nodes as usize]?;
         Ok(Log {
             entries,
             previous,
