@@ -22,10 +22,8 @@ pub(crate) fn push<T: Drop>(alloc: Global, list: &mut List<T>, item: T) -> Resul
     let mut items = take_items(alloc, list);
     let pushed = items.push(item);
     *list = List::from_vec(items);
-    match pushed {
-        Ok(()) => Ok(()),
-        Err(_) => Err(NoMemory),
-    }
+    pushed?;
+    Ok(())
 }
 
 /// Puts the items at the end of a list.
@@ -40,10 +38,8 @@ pub(crate) fn append<T: Copy + Drop>(
     let mut items = take_items(alloc, list);
     let appended = items.extend_from_slice(more);
     *list = List::from_vec(items);
-    match appended {
-        Ok(()) => Ok(()),
-        Err(_) => Err(NoMemory),
-    }
+    appended?;
+    Ok(())
 }
 
 /// Keeps the first items of a list alone.
