@@ -1,10 +1,9 @@
 -- Paths that a walk over a tree makes: a path decides each cell once if each split is on a cell that the path to it hasn't decided.
 -- Cite from a crate above by `use Rattle.leaf_values.proofs.PathsOfNodes.{decides_once-more}`.
-use Rattle.std.proofs.Common.{◌≡◌, ℕ, ◌+◌, ◌<◌, ◌≤◌, ◌⊎◌, ⊎_elim, not, List, [], ◌∷◌, ◌++◌, length, take, sym, arith, All, IsTrue}
+use Rattle.std.proofs.Common.{◌≡◌, ℕ, ◌+◌, ◌<◌, ◌≤◌, ◌⊎◌, ⊎_elim, not, List, [], ◌∷◌, ◌++◌, length, take, sym, arith, IsTrue}
 use Rattle.std.proofs.lemmas.List.{get_or-take, get_or_append_left, get_or_push, length-append, length-take, take-append-le, take-take, take_all}
-use Rattle.uc_model.specs.Prelude.{IsLawfulInstance, thermal_count}
-use Rattle.dual_model.specs.Prelude.{IsNodeOf, is_decided}
-use Rattle.leaf_values.specs.Paths.{Fixing, Instance, DecidesOnce, IsPlaced, node_of}
+use Rattle.dual_model.specs.Prelude.{is_decided}
+use Rattle.leaf_values.specs.Paths.{Fixing, DecidesOnce, node_of}
 
 pub decides_once-nil : DecidesOnce []
 decides_once-nil = record { fresh = λ i d h. absurd (omega arith) }

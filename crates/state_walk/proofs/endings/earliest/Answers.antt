@@ -1,5 +1,5 @@
 -- A run without an hour lets the output before fall to nothing; one with an hour begins in the first period.
-use Rattle.std.proofs.Common.{◌≡◌, ℕ, Bool, true, false, lit<, ◌*◌, arith, sym, ap, ◌∙◌, ℤ, pos, Option, Some, None, if◌then◌else◌}
+use Rattle.std.proofs.Common.{◌≡◌, ℕ, Bool, true, false, lit<, ◌*◌, arith, sym, ap, ◌∙◌, ℤ, pos, Some, None, if◌then◌else◌}
 use Rattle.uc_model.proofs.Common.{narrow}
 use Rattle.unit_runs.specs.Runs.{entry_output}
 use Rattle.unit_runs.specs.RunsToGo.{run_until}
