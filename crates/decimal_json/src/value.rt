@@ -186,8 +186,6 @@ fn object(
 {
     let mut pairs = Vec::new(alloc);
     let mut places = IndexMap::new(alloc);
-    match members(alloc, source, start, room, &mut pairs, &mut places) {
-        Ok(end) => Ok((pairs, end)),
-        Err(fault) => Err(fault),
-    }
+    let end = members(alloc, source, start, room, &mut pairs, &mut places)?;
+    Ok((pairs, end))
 }

@@ -1,6 +1,6 @@
 //! Rows of a stitched schedule.
 
-ghost use Rattle.std.specs.Prelude.{◌≡◌, ◌≢◌, ℕ, ◌+◌, ◌++◌, ◌<◌, ◌≤◌, IfOk, OnOk, false, length, take};
+ghost use Rattle.std.specs.Prelude.{◌≡◌, ◌≢◌, ℕ, ◌+◌, ◌++◌, ◌<◌, ◌≤◌, IfOk, false, length, take};
 ghost use Rattle.uc_model.specs.Prelude.{IsLawfulThermal, commitment_of};
 ghost use Rattle.uc_model.specs.declared.limits.TheConstants.{MAX_PERIODS};
 ghost use Rattle.schedule_check.specs.WholeWatts.{category, cell, commitment};
@@ -25,19 +25,9 @@ pub(crate) fn joined<T: Copy>(
 {
     let (part, _) = new.split_at(keep);
     let mut row = Vec::new(alloc);
-    add(&mut row, kept)?;
-    add(&mut row, part)?;
+    row.extend_from_slice(kept)?;
+    row.extend_from_slice(part)?;
     Ok(row)
-}
-
-// Adds the items to the row.
-fn add<T: Copy>(row: &mut Vec<T>, items: &[T]) -> Result<(), NoMemory>
-    ensures { OnOk result (row.new.items ≡ row.old.items ++ items.now) }
-{
-    match row.extend_from_slice(items) {
-        Ok(()) => Ok(()),
-        Err(_) => Err(NoMemory),
-    }
 }
 
 /// The row of a unit, with the start categories chosen anew. The only error is `NoMemory`.
