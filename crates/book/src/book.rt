@@ -67,14 +67,14 @@ fn no_claims(alloc: Global, room: u32, nodes: u32) -> Result<(Log, Claims), NoMe
 }
 
 impl<C: Case> Book<C> {
-    ghost use Rattle.std.specs.Prelude.{◌≡◌, ◌≢◌, ◌↔◌, ◌<◌, ◌≤◌, ℕ, Bool, [], IsTrue, true, false, None, Some, IfOk, IfSome, MatchOption, length};
+    ghost use Rattle.std.specs.Prelude.{◌≡◌, ◌≢◌, ◌↔◌, ◌<◌, ℕ, [], IsTrue, true, false, None, Some, IfOk, IfSome, MatchOption, length};
     ghost use Rattle.branch_tree.specs.NumberedTree.{node_count};
-    ghost use Rattle.branch_tree.specs.StoredTree.{IsNodeAt, tree_bound};
+    ghost use Rattle.branch_tree.specs.StoredTree.{tree_bound};
     ghost use Rattle.branch_tree.specs.TreeView.{HasFreeCell, IsFreeAt};
     ghost use Rattle.search_machine.specs.Machine.{IsOpen, IsHeld, IsHolding, entries_of};
     ghost use Rattle.search_machine.specs.Moves.{kept, MayGoOn, MayPrune, IsMoveLegal};
     ghost use Rattle.search_machine.specs.Runs.{IsTrueOutcome, IsSettled};
-    ghost use Rattle.search_machine.specs.Steps.{AnyCost, IsFresh, IsStoredTable};
+    ghost use Rattle.search_machine.specs.Steps.{IsFresh, IsStoredTable};
     ghost use Rattle.book.specs.BookView.{state_of, opened};
     ghost use Rattle.book.specs.Calls.{IsClaimAnswer, IsUnitHeld, IsStoredAt, AreChildren, MayBe, IsCommitAnswer, IsAbandonAnswer, IsHeldUnit, claimed, committed, given_back};
     ghost use Rattle.book.specs.Opening.{IsTrueOpening};

@@ -62,8 +62,7 @@ impl Model for Claims {
 }
 
 impl Claims {
-    ghost use Rattle.std.specs.Prelude.{◌≡◌, ◌↔◌, ℕ, suc, ◌+◌, ◌*◌, ◌<◌, ◌≤◌, ◌++◌, ◌∷◌, [], IsTrue, IfOk, IfSome, None, length};
-    ghost use Rattle.search_machine.specs.declared.limits.TheConstants.{MAX_BUDGET};
+    ghost use Rattle.std.specs.Prelude.{◌≡◌, ◌↔◌, ℕ, ◌+◌, ◌<◌, ◌++◌, ◌∷◌, [], IsTrue, IfOk, IfSome, None, length};
     ghost use Rattle.search_machine.specs.Machine.{IsHeldIn};
     ghost use Rattle.book.specs.Claims.{Held, IsHeldBy, holders, holder_by, ended};
 

@@ -1,6 +1,6 @@
 //! The scaled number of a JSON number: its value in whole millionths.
 
-ghost use Rattle.std.specs.Prelude.{◌≡◌, ◌+◌, ◌*◌, ◌/◌, ◌%◌, ◌^◌, ◌<◌, min, nat_le};
+ghost use Rattle.std.specs.Prelude.{◌≡◌, ◌+◌, ◌*◌, ◌%◌, ◌^◌, ◌<◌, min, nat_le};
 ghost use Rattle.decimal_json.specs.View.{decimal_of};
 ghost use Rattle.decimal_json.specs.Value.{whole_of};
 ghost use Rattle.instance.specs.Scaled.{places_past, places_before, kept_digits, cut_digits, seventh_digit, size_of, is_rounded, held};

@@ -1,6 +1,6 @@
 //! What each worker has by itself: what it has seen, and its tickets.
 
-ghost use Rattle.std.specs.Prelude.{◌≡◌, ◌<◌, OnOk, OnErr, length, not, ◌==◌, filter, drop};
+ghost use Rattle.std.specs.Prelude.{◌≡◌, ◌<◌, OnOk, OnErr, length, not, ◌==◌, filter};
 ghost use Rattle.search_machine.specs.Prelude.{is_in_hand, with_tickets, with_queued, without_first, first_queued};
 
 use crate::lists;

@@ -1,6 +1,6 @@
 //! The making of a pool.
 
-ghost use Rattle.std.specs.Prelude.{◌≡◌, ◌+◌, ◌<◌, ◌≤◌, ◌^◌, ◌++◌, map, length, remove, vec_len, All, IfOk, OnOk};
+ghost use Rattle.std.specs.Prelude.{◌≡◌, ◌+◌, ◌<◌, ◌^◌, ◌++◌, map, length, remove, vec_len, All, IfOk, OnOk};
 ghost use Rattle.steal_pool.specs.Seats.{what_taken, untouched};
 ghost use Rattle.steal_pool.specs.Ends.{IsNew, IsFirstInFirstOut, IsOfFirstInFirstOut, own_id, victim_id};
 ghost use Rattle.steal_pool.specs.Pools.{AreFresh, IsFreshPool};

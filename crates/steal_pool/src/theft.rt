@@ -16,7 +16,7 @@ pub(crate) struct Theft {
 }
 
 impl Model for Theft {
-    ghost use Rattle.steal_pool.specs.Seats.{TheftOf, theft_log};
+    ghost use Rattle.steal_pool.specs.Seats.{TheftOf};
 
     ghost Value = { TheftOf };
 

@@ -1,6 +1,6 @@
 //! A list of price tables.
 
-ghost use Rattle.std.specs.Prelude.{◌≡◌, ◌<◌, ◌∷◌, [], ◌++◌, ◌-◌, suc, length, IfOk, IfSome, option_copied, slice_get, slice_index_or};
+ghost use Rattle.std.specs.Prelude.{◌≡◌, ◌<◌, ◌∷◌, [], ◌++◌, ◌-◌, length, IfOk, IfSome, option_copied, slice_get, slice_index_or};
 
 use crate::change::Change;
 use crate::kept::Kept;
@@ -36,7 +36,6 @@ impl Model for TableList {
 }
 
 impl TableList {
-    ghost use Rattle.dual_model.specs.Prices.{IsWellFormed};
     ghost use Rattle.dual_model.specs.PriceTable.{PriceTable};
     ghost use Rattle.table_list.specs.Changes.{table_changes};
     ghost use Rattle.table_list.specs.TableChanges.{changes_of, last_table, AreAlike};

@@ -1,9 +1,9 @@
 //! Arrays of powers, with an entry for each period.
 
-ghost use Rattle.std.specs.Prelude.{◌≡◌, ◌+◌, ◌<◌, ◌≤◌, ◌^◌, [], length, map, sum_by, OnOk, IfOk, pos, vec_len};
+ghost use Rattle.std.specs.Prelude.{◌≡◌, ◌+◌, ◌<◌, ◌≤◌, ◌^◌, length, map, OnOk, IfOk, pos, vec_len};
 ghost use Rattle.std.specs.Int.{int_max};
-ghost use Rattle.decimal_json.specs.View.{view, pair_view};
-ghost use Rattle.instance.specs.FirstFault.{MAX_PERIODS, PowerOutputMaximum, each_at, power_entry, powers_at, maximum_entry, maxima_at, rounded_value, rounded_array};
+ghost use Rattle.decimal_json.specs.View.{pair_view};
+ghost use Rattle.instance.specs.FirstFault.{MAX_PERIODS, PowerOutputMaximum, each_at, powers_at, maxima_at, rounded_array};
 ghost use Rattle.instance.specs.Answer.{Gives};
 ghost use Rattle.instance.specs.inside.Parts.{Counts};
 

@@ -1,6 +1,6 @@
 //! Renewable units.
 
-ghost use Rattle.std.specs.Prelude.{◌≡◌, ◌+◌, ◌*◌, ◌<◌, ◌≤◌, ◌^◌, OnOk};
+ghost use Rattle.std.specs.Prelude.{◌+◌, ◌<◌, ◌≤◌, ◌^◌, OnOk};
 ghost use Rattle.decimal_json.specs.View.{view};
 ghost use Rattle.instance.specs.FirstFault.{MAX_PERIODS, renewable_at, rounded_renewable};
 ghost use Rattle.instance.specs.Answer.{Gives};

@@ -1,6 +1,6 @@
 //! The rows of `startup` and of `piecewise_production`.
 
-ghost use Rattle.std.specs.Prelude.{◌≡◌, ◌+◌, ◌*◌, ◌<◌, ◌≤◌, ◌^◌, [], length, map, sum_by, OnOk, List};
+ghost use Rattle.std.specs.Prelude.{◌≡◌, ◌+◌, ◌<◌, ◌^◌, length, map, OnOk, List};
 ghost use Rattle.decimal_json.specs.View.{view, pair_view};
 ghost use Rattle.instance.specs.FirstFault.{MAX_POINTS, MAX_START_ROWS, each_at, start_row, point_row, startup_at, points_at, last_output, time_in, cost_in, power_in, rounded_field, rounded_start_row, rounded_point, rounded_startup, rounded_points};
 ghost use Rattle.uc_model.specs.declared.instance.StartRow.{StartRow};

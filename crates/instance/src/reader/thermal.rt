@@ -1,6 +1,6 @@
 //! Thermal units.
 
-ghost use Rattle.std.specs.Prelude.{◌≡◌, ◌+◌, ◌<◌, ◌^◌, map, max, OnOk};
+ghost use Rattle.std.specs.Prelude.{◌+◌, ◌<◌, ◌^◌, map, max, OnOk};
 ghost use Rattle.decimal_json.specs.View.{view, pair_view};
 ghost use Rattle.instance.specs.FirstFault.{flag_field, output_field, power_field, time_field, outputs_at, ramps_at, times_at, initial_at, figures_at, thermal_at, rounded_field, rounded_outputs, rounded_ramps, rounded_times, rounded_initial, rounded_figures, rounded_thermal};
 ghost use Rattle.instance.specs.Answer.{Gives};

@@ -1,6 +1,6 @@
 //! The fields of the whole system: its periods, demand and reserves.
 
-ghost use Rattle.std.specs.Prelude.{◌≡◌, ◌+◌, ◌<◌, ◌≤◌, ◌^◌, map, OnOk, IfOk};
+ghost use Rattle.std.specs.Prelude.{◌+◌, ◌<◌, ◌≤◌, ◌^◌, map, IfOk};
 ghost use Rattle.decimal_json.specs.View.{pair_view};
 ghost use Rattle.instance.specs.FirstFault.{MAX_PERIODS, totals_at, rounded_totals};
 ghost use Rattle.instance.specs.Answer.{Gives};

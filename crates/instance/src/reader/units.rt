@@ -1,6 +1,6 @@
 //! The units of an instance, in the order of the file.
 
-ghost use Rattle.std.specs.Prelude.{◌≡◌, ◌+◌, ◌*◌, ◌<◌, ◌≤◌, ◌^◌, ℕ, List, [], length, map, sum_by, OnOk};
+ghost use Rattle.std.specs.Prelude.{◌+◌, ◌*◌, ◌<◌, ◌≤◌, ◌^◌, [], map, OnOk};
 ghost use Rattle.decimal_json.specs.View.{pair_view};
 ghost use Rattle.instance.specs.FirstFault.{MAX_PERIODS, MAX_UNITS, each_at, thermal_member, renewable_member, thermal_units_at, renewable_units_at, NO_UNIT, rounded_thermal, rounded_renewable, rounded_thermal_units, rounded_renewable_units};
 ghost use Rattle.instance.specs.Answer.{Gives};
