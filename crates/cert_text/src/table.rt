@@ -1,6 +1,6 @@
 //! The lines of a price table that is told whole.
 
-ghost use Rattle.std.specs.Prelude.{◌≡◌, ◌∷◌, [], suc};
+ghost use Rattle.std.specs.Prelude.{◌∷◌, [], suc};
 ghost use Rattle.outside.specs.Lines.{line};
 ghost use Rattle.uc_model.specs.Decimal.{whole_text, signed_text};
 ghost use Rattle.cert_text.specs.CertificateText.{scale_line, ramp_line};

@@ -1,6 +1,6 @@
 //! The lines of tables one behind the other: the first is told whole, and each later one by its difference to the one before it.
 
-ghost use Rattle.std.specs.Prelude.{◌≡◌, ◌<◌, [], None, All, length, map, option_copied};
+ghost use Rattle.std.specs.Prelude.{◌<◌, [], None, All, length, map, option_copied};
 ghost use Rattle.std.specs.Option.{option_map_or};
 ghost use Rattle.branch_tree.specs.Prelude.{table_at};
 ghost use Rattle.cert_text.specs.inside.WrittenParts.{table_part, told_part, tables_part};

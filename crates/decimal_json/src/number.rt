@@ -2,7 +2,7 @@
 
 ghost use Rattle.std.specs.Prelude.{◌≡◌, ℕ, ◌+◌, ◌*◌, ◌-◌, ◌<◌, ◌≤◌, ◌^◌, Bool, true, false, List, [], length, IfOk, IfErr, pos, min};
 ghost use Rattle.decimal_json.specs.Value.{number as number_value, is_digit, digit_of, is_mark, exponent_of, Frame};
-ghost use Rattle.decimal_json.specs.inside.Scan.{Spot, numeral, point, mark, signed, scan, Leads, Reads, Breaks, AfterWhole, MayEnd, AddsDigits, ReadsWhole, ReadsFraction, AddsExponent, ReadsExponent, begun, FailsAt, StandsAt, kept};
+ghost use Rattle.decimal_json.specs.inside.Scan.{Spot, numeral, mark, signed, scan, Leads, Reads, Breaks, AfterWhole, MayEnd, AddsDigits, ReadsWhole, ReadsFraction, AddsExponent, ReadsExponent, begun, FailsAt, StandsAt, kept};
 ghost use Rattle.decimal_json.specs.View.{decimal_of};
 
 use crate::bytes::{byte_at, byte_wanted, has_byte};

@@ -1,6 +1,6 @@
 //! What stands behind white space.
 
-ghost use Rattle.std.specs.Prelude.{◌≡◌, ◌≢◌, ◌<◌, ◌≤◌, length, IfOk, IfErr};
+ghost use Rattle.std.specs.Prelude.{◌≢◌, ◌<◌, ◌≤◌, length, IfOk, IfErr};
 ghost use Rattle.decimal_json.specs.inside.Scan.{FindsToken, LacksToken, IsBehind, place_of};
 
 use crate::bytes::token_at;

@@ -1,9 +1,9 @@
 //! The report of what a search found.
 
-ghost use Rattle.std.specs.Prelude.{◌≡◌, ◌≤◌, OnOk, OnErr};
+ghost use Rattle.std.specs.Prelude.{◌≤◌, OnOk, OnErr};
 ghost use Rattle.outside.specs.Sinks.{SinkWrites, SinkWritesFront};
 ghost use Rattle.branch_tree.specs.Prelude.{tree_bound};
-ghost use Rattle.report.specs.FoundReport.{size_line, state_line, cost_line, bound_line, evaluations_line, schedule_summary, schedule_report, no_schedule_summary, no_schedule_report, found_report};
+ghost use Rattle.report.specs.FoundReport.{size_line, state_line, bound_line, evaluations_line, schedule_summary, schedule_report, no_schedule_summary, no_schedule_report, found_report};
 
 use crate::schedule::put_schedule;
 use crate::stuck::put_stuck;

@@ -1,7 +1,6 @@
 //! The lines of a schedule.
 
 ghost use Rattle.std.specs.Prelude.{◌≡◌, pos, ◌+ℤ◌, ◌*ℤ◌};
-ghost use Rattle.report.specs.Names.{unit_words};
 ghost use Rattle.report.specs.FoundReport.{denominator_line, start_text, cell_text, paired_thermal_line, paired_renewable_line, priced_line, shortage_lines, schedule_lines};
 ghost use Rattle.uc_model.specs.Money.{money_text};
 

@@ -1,6 +1,6 @@
 //! The line on a commitment that could not be dispatched.
 
-ghost use Rattle.std.specs.Prelude.{◌≡◌, ◌∷◌, [], codes};
+ghost use Rattle.std.specs.Prelude.{◌≡◌, ◌∷◌, []};
 ghost use Rattle.uc_model.specs.Prelude.{thermal_unit};
 ghost use Rattle.uc_model.specs.Money.{money_text};
 ghost use Rattle.outside.specs.Lines.{line};

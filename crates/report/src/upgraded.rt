@@ -1,6 +1,6 @@
 //! The report of a certificate that was written anew.
 
-ghost use Rattle.std.specs.Prelude.{◌≡◌, OnOk, OnErr};
+ghost use Rattle.std.specs.Prelude.{OnOk, OnErr};
 ghost use Rattle.outside.specs.Sinks.{SinkWrites, SinkWritesFront};
 ghost use Rattle.report.specs.UpgradeReport.{upgrade_report};
 

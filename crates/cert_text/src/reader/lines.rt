@@ -2,8 +2,8 @@
 
 ghost use Rattle.std.specs.Prelude.{◌≡◌, ◌<◌, IfSome, codes};
 ghost use Rattle.std.specs.Option.{option_map};
-ghost use Rattle.cert_text.specs.CertificateText.{LeafNode, SplitNode};
-ghost use Rattle.cert_text.specs.inside.Forms.{Gives, mapped, after, ended, whole_at, money_at, claim_at, penalty_at, denominator_at, head_at, schedule_at, plan_at, on_cell_at, cell_at, row_numbers_at, ramp_at, rises, is_ramp, named_at, split_at, exact_at, node_at, tells_exact};
+ghost use Rattle.cert_text.specs.CertificateText.{LeafNode};
+ghost use Rattle.cert_text.specs.inside.Forms.{Gives, mapped, after, ended, whole_at, money_at, claim_at, penalty_at, denominator_at, head_at, schedule_at, plan_at, on_cell_at, cell_at, row_numbers_at, ramp_at, rises, named_at, split_at, exact_at, node_at, tells_exact};
 ghost use Rattle.cert_text.specs.inside.Parts.{sizes, first_of, head_of};
 ghost use Rattle.cert_text.specs.Reading.{node_of};
 

@@ -1,6 +1,6 @@
 //! Numbers and fixed texts at the front of bytes. What is read stands before the bytes that are left.
 
-ghost use Rattle.std.specs.Prelude.{◌≡◌, ◌∷◌, [], ◌≤◌, ◌<◌, ◌^◌, false, true, nat_lt, length, IfSome, MatchOption, None};
+ghost use Rattle.std.specs.Prelude.{◌≡◌, ◌∷◌, [], ◌≤◌, ◌<◌, ◌^◌, false, true, nat_lt, IfSome, MatchOption, None};
 ghost use Rattle.cert_text.specs.inside.Forms.{Gives, text_at, ended, whole_at, decimals_at, millionths_at, money_at, ordinal_at, signed_at, run, run_value, is_digit};
 
 /// The most digits that a number has.

@@ -1,6 +1,6 @@
 //! Prices and schedules.
 
-ghost use Rattle.std.specs.Prelude.{◌≡◌, Ok, Err, IfOk, true, codes};
+ghost use Rattle.std.specs.Prelude.{◌≡◌, Ok, IfOk, true, codes};
 ghost use Rattle.std.specs.Option.{option_map};
 ghost use Rattle.branch_tree.specs.Prelude.{written_of};
 ghost use Rattle.cert_text.specs.inside.Forms.{signed_at};

@@ -1,6 +1,6 @@
 //! A whole certificate.
 
-ghost use Rattle.std.specs.Prelude.{◌≡◌, IfOk, Ok, Err, map};
+ghost use Rattle.std.specs.Prelude.{◌≡◌, IfOk, Ok, map};
 ghost use Rattle.cert_text.specs.Grammar.{AreSizes};
 ghost use Rattle.cert_text.specs.Reading.{listing_read, node_of};
 ghost use Rattle.branch_tree.specs.Prelude.{written_of};

@@ -1,6 +1,6 @@
 //! Lines that are lists of words.
 
-ghost use Rattle.std.specs.Prelude.{◌≡◌, ◌∷◌, [], ℕ, List, Option, IfOk, Ok, Err};
+ghost use Rattle.std.specs.Prelude.{ℕ, List, Option, IfOk, Ok, Err};
 ghost use Rattle.cert_text.specs.inside.Forms.{Gives, signed_at, cell_at, words_at, row_at};
 ghost use Rattle.cert_text.specs.inside.Parts.{GivesPart, line_of, rows_of};
 
