@@ -1,7 +1,6 @@
 -- What the fields of a state keep after a step.
-use Rattle.std.proofs.Common.{◌≡◌, ℕ, Bool, ◌+◌, ◌-◌, List, [], ◌∷◌, length, refl, ap, sym, ◌∙◌, subst, Option, Some, None, ℤ, length-set}
+use Rattle.std.proofs.Common.{◌≡◌, ℕ, Bool, ◌+◌, List, [], ◌∷◌, length, refl, ap, sym, ◌∙◌, subst, Option, Some, None, ℤ, length-set}
 use Rattle.branch_tree.specs.Prelude.{node_count, TreeView}
-use Rattle.branch_tree.specs.declared.tree.Leaf.TheVariants as leaf
 use Rattle.dual_model.specs.declared.table.Table.{Table}
 use Rattle.search_machine.specs.declared.holder.Holder.{Holder}
 use Rattle.branch_tree.specs.declared.found.Outcome.{Outcome}
