@@ -21,14 +21,21 @@ use uc_uplift::uplift_certificate;
 
 /// A run of the program. The words begin with the program's name; each slot of the files is unopened.
 ///
-/// The status of `solve` and `demo` is 0 where a schedule was printed whose cost is within the gap of the bound, 1 where the cost of the
-/// one printed is above, 2 where a bound was printed and no schedule was found, and 3 where none exists; that of `check` is 0
-/// where the certificate holds for the instance, and 9 where it doesn't, is no certificate's text or has more than 2^46
-/// bytes; that of `upgrade` is 0 where the certificate was written anew, and 9 where it is no certificate's text or has more than
-/// 2^46 bytes; that of `uplift` is as that of `check`, and 9 too where the certificate holds and has no uplifts; that of `roll` is 0 where
-/// a schedule of all periods was printed, and 10 where the search of a window found none. It is 4 where the instance's bytes stand for no instance or are more than 2^26, or the prices of shortages are too high for it, 5 where the command-line
-/// parser doesn't take the words, 6 where reading the instance or the certificate failed, 7 where writing the certificate or the report
-/// failed, and 8 where memory was refused.
+/// Its status is
+///
+/// - 0 where `solve` or `demo` printed a schedule whose cost is within the gap of the bound, or `roll` one of all periods; where the
+///   certificate holds for the instance (`check`), has uplifts besides (`uplift`) or was written anew (`upgrade`);
+/// - 1 where `solve` or `demo` printed a schedule whose cost is above that gap;
+/// - 2 where they printed a bound and found no schedule;
+/// - 3 where they found that none exists;
+/// - 4 where the instance's bytes stand for no instance or are more than 2^26, or the prices of shortages are too high for it;
+/// - 5 where the command-line parser doesn't take the words;
+/// - 6 where reading the instance or the certificate failed;
+/// - 7 where writing the certificate or the report failed;
+/// - 8 where memory was refused;
+/// - 9 where the certificate is no certificate's text, has more than 2^46 bytes, doesn't hold for the instance (`check`, `uplift`) or has no
+///   uplifts (`uplift`);
+/// - 10 where the search of a window found no schedule (`roll`).
 pub fn uc<R: Threads + Wait + Sync, F: Files, O: Sink, E: Sink, G: Gate + Sync>(
     rt: &R,
     alloc: Global,
