@@ -15,16 +15,16 @@ child='' work='' told='' crates=() uses=() began=() took=() proved=0
 . "$top/launch/record.sh"
 
 # What the proof of each crate took when it was measured, in seconds of one processor.
-weights='uc_model 101 dual_model 75 outside 99 outside_system 135 decimal_json 179 instance 246 table_list 109 cert_text 455
-  report 157 cost_curves 91 start_costs 43 period_term 78 ramp_duals 44 system_value 41 interval_graph 33
-  step_functions 123 pivot_run 194 fractions 24 dispatch_program 18 dispatch_rules 38 dispatch_prices 63
-  dispatch_table 220 dispatch_schedule 95 pivot_dispatch 71 found_schedule 18 hull_function 42 unit_path 91
-  unit_runs 26 unit_exact 129 dispatch_repair 276 dual_value 115 quick_value 314 opening_tables 66 decided_nodes 62
-  uplift 169 bundle 209 prices 369 repair_state 315 schedule_repair 327 roll 131 branch_tree 98 incumbent 40
-  steal_pool 81 search_machine 36 pivot_closing 19 claims 43 book 186 decommitment 301 opening 157 search_desk 130
-  node_visits 141 closing_pass 143 tree_search 481 search_answers 114 workers 180 schedule_check 151 state_walk 119
-  leaf_values 122 cert_check 146 demo_gen 53 command_line 223 command_runs 73 uc_check 74 uc_uplift 60 uc_cli 146
-  uc 256'
+weights='uc_model 60 dual_model 48 outside 54 outside_system 72 decimal_json 90 instance 126 table_list 54 cert_text 246
+  report 84 cost_curves 48 start_costs 18 period_term 36 ramp_duals 18 system_value 24 interval_graph 18
+  step_functions 60 pivot_run 102 fractions 12 dispatch_program 6 dispatch_rules 18 dispatch_prices 42
+  dispatch_table 114 dispatch_schedule 60 pivot_dispatch 30 found_schedule 12 hull_function 24 unit_path 48
+  unit_runs 12 unit_exact 60 dispatch_repair 156 dual_value 60 quick_value 144 opening_tables 36 decided_nodes 30
+  uplift 90 bundle 96 prices 174 repair_state 162 schedule_repair 150 roll 78 branch_tree 42 incumbent 24
+  steal_pool 42 search_machine 24 pivot_closing 12 claims 24 book 78 decommitment 162 opening 72 search_desk 84
+  node_visits 72 closing_pass 84 tree_search 270 search_answers 60 workers 90 schedule_check 66 state_walk 78
+  leaf_values 66 cert_check 84 demo_gen 30 command_line 114 command_runs 36 uc_check 42 uc_uplift 36 uc_cli 66
+  uc 144'
 
 say() { printf 'uc: %s\n' "$*" >&2; }
 

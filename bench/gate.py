@@ -13,8 +13,8 @@ the run began, and the longest chain of proofs, each of which waits for the one 
 
 Five times a second it looks at the processes below `rt ci` and keeps the processor time of each. The words of a check name its
 crate and say whether it is one of tests, and an edit is checked in a folder of its own. What is left of the whole time, as linking
-and running, stands in the row `rest`, which a run by names keeps as it is. The memory is the greatest sum of what these processes
-held, with shared pages counted anew.
+and running, stands in the row `rest`: of a whole run from nothing its own, and else the page's, if that is more. The memory is the
+greatest sum of what these processes held, with shared pages counted anew.
 """
 import os
 import pathlib
@@ -214,7 +214,8 @@ def main():
     names = crates(top)
     table = {of: it for of, it in (kept | new).items() if of[0] in names}
     notes = [conditions(load, clock, len(new), len(table)), chain_text(top, table)]
-    text = as_text(names, table, rest if set(given) - {"--anew"} else whole - sum(new.values()))
+    own = whole - sum(new.values())
+    text = as_text(names, table, own if given == ["--anew"] else max(rest, own))
     text += "".join("\n" + textwrap.fill(it, 116, break_on_hyphens=False) + "\n" for it in notes)
     print(text, end="")
     print(f"this run: {whole / 60:.0f} processor minutes; {memory / 1e9:.1f} GB")
