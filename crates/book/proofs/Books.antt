@@ -1,20 +1,19 @@
 -- What the fields of a book keep after each call.
-use Rattle.std.proofs.Common.{◌≡◌, ◌≢◌, ℕ, suc, ◌+◌, ◌-◌, ◌*◌, ◌<◌, ◌≤◌, Bool, List, [], ◌∷◌, length, map, refl, ap, sym, ◌∙◌, subst, arith, ⊎_elim, Option, Some, None, length-append, length-set, pos, get_or}
-use Rattle.std.proofs.lemmas.List.{length-map, length-replicate, get_or-map}
+use Rattle.std.proofs.Common.{◌≡◌, ◌≢◌, ℕ, suc, ◌+◌, ◌-◌, ◌*◌, ◌<◌, ◌≤◌, Bool, List, [], ◌∷◌, length, map, refl, ap, sym, ◌∙◌, subst, arith, Option, Some, None, length-append, length-set, pos, get_or}
+use Rattle.std.proofs.lemmas.List.{length-map, get_or-map}
 use Rattle.std.proofs.lemmas.Option.{slice_get_within}
 use Rattle.uc_model.specs.declared.instance.Instance.{Instance}
 use Rattle.dual_model.specs.declared.node.Node.{Node}
 use Rattle.dual_model.specs.declared.table.Table.{Table}
 use Rattle.std.proofs.lemmas.Bool.{cases_lt}
-use Rattle.dual_model.specs.Prelude.{root}
-use Rattle.branch_tree.specs.Prelude.{NumberedTree, Subtree, IsNumbered, spot_of, subtree_at, spot_at, node_count, node_at, IsNodeAt, StoredHolds, TreeView, IsOpenAt, IsTrueEntry, AreApart, IsTrueLog}
+use Rattle.branch_tree.specs.Prelude.{NumberedTree, IsNumbered, spot_at, node_count, IsNodeAt, StoredHolds, TreeView, IsOpenAt, IsTrueEntry, AreApart, IsTrueLog}
 use Rattle.branch_tree.specs.declared.tree.Spot.{Spot}
 use Rattle.branch_tree.proofs.Changes.{from_some}
 use Rattle.branch_tree.proofs.Subtrees.{part_counted}
 use Rattle.branch_tree.specs.declared.found.Entry.{Entry}
 use Rattle.branch_tree.specs.declared.found.Outcome.{Outcome}
 use Rattle.branch_tree.specs.declared.tree.Leaf.TheVariants as leaf
-use Rattle.search_machine.specs.Prelude.{Machine, IsHeldIn, IsLive, IsOpen, IsHolding, no_desk, spot_stored, stored_at, kept, children_by, tickets_of, IsMoveLegal, IsOrderly, IsTrueOutcome, IsTrueEvent, IsTrueStart, TreeHoldsAt, TreeRunsHold, AnyCost, IsLegalBy}
+use Rattle.search_machine.specs.Prelude.{Machine, IsHeldIn, IsLive, IsOpen, IsHolding, spot_stored, stored_at, kept, children_by, tickets_of, IsMoveLegal, IsOrderly, IsTrueOutcome, IsTrueEvent, IsTrueStart, TreeHoldsAt, TreeRunsHold, AnyCost, IsLegalBy}
 use Rattle.search_machine.specs.declared.holder.Holder.{Holder}
 use Rattle.search_machine.specs.declared.stored.Stored.{Stored}
 use Rattle.std.specs.Option.{IfSome}
@@ -22,16 +21,16 @@ use Rattle.branch_tree.specs.declared.tree.Spot.TheVariants as spot
 use Rattle.search_machine.specs.declared.event.Move.{Move}
 use Rattle.search_machine.specs.declared.event.Move.TheVariants.{Again, Prune}
 use Rattle.search_machine.specs.declared.event.Event.TheVariants as event
-use Rattle.search_machine.proofs.Claims.{IsHoldable, holdable, holder_place, one_held}
+use Rattle.search_machine.proofs.Claims.{IsHoldable, holdable, holder_place}
 use Rattle.search_machine.proofs.Growth.{tree_grows, leaf_part, holds_of_leaf}
 use Rattle.search_machine.proofs.OrderlySteps.{free_for, sound_of}
 use Rattle.book.specs.BookView.{BookView, state_of, opened}
 use Rattle.book.specs.Calls.{claimed, committed, given_back, MayBe}
-use Rattle.book.specs.Claims.{Claim, Status, Held, Committed, GivenBack, holder_by, holders, claim_of, ended}
+use Rattle.book.specs.Claims.{Claim, Status, Committed, GivenBack, holder_by, holders, claim_of, ended}
 use Rattle.book.specs.Opening.{Opening, IsTrueOpening, start_by}
 use Rattle.book.specs.Replay.{with_unit, number_of, replay, replayed}
 use Rattle.book.specs.Running.{IsReplayed, IsHeldOnce, IsRunning}
-use Rattle.book.specs.inside.Chains.{IsScaleNoted, raised}
+use Rattle.book.specs.inside.Chains.{raised}
 use Rattle.book.specs.inside.Kept.{Rooms, IsKept}
 use Rattle.book.proofs.Scales.{scales_raised}
 use Rattle.std.specs.Int.{int_max}
@@ -72,13 +71,7 @@ held_holds law opening book rooms worker unit node kept holds =
 
 -- what stands at a number is a node
 pub spot_below : (tree : NumberedTree) (wanted : ℕ) (s : Spot) → IsNumbered tree → spot_at tree wanted ≡ Some s → wanted < node_count tree
-spot_below tree wanted s numbered e =
-    let part = from_some (λ (p : Subtree). spot_of p.tree) (subtree_at tree wanted) s e in
-    let some = part_counted root tree wanted part.0 part.1 in
-    ⊎_elim
-    (λ (l : wanted < node_count tree). l)
-    (λ (l : node_count tree ≤ wanted). absurd (omega (arith, numbered.none wanted l)))
-    (cases_lt wanted (node_count tree))
+spot_below tree wanted s numbered e = grind (arith, from_some, part_counted, cases_lt, numbered, e)
 
 -- ---- the log with its own units
 log_true : (instance : Instance) (tree : TreeView) (tables : List Table) (f : ℕ → ℕ) (log : List Entry)
@@ -121,54 +114,18 @@ kept_runs law opening book rooms kept =
 pub kept_start : (opening : Opening) (rooms : Rooms) → IsTrueOpening opening → rooms.count ≡ 1 → rooms.tables ≡ suc (suc opening.budget)
     → rooms.log ≡ opening.budget → rooms.claims ≡ opening.budget → rooms.log_nodes ≡ 2 * opening.budget + 1
     → rooms.claims_nodes ≡ 2 * opening.budget + 1 → length rooms.greatest ≡ rooms.log_nodes → IsKept opening (opened opening) rooms
-kept_start opening rooms begun count tables log claims log_nodes claims_nodes greatest = record {
-  begun = begun;
-  budget = refl;
-  gap = refl;
-  replayed = opened_replayed opening;
-  few = omega arith;
-  once = once_none;
-  paired = refl;
-  count = count;
-  tables = tables;
-  log = log;
-  claims = claims;
-  log_nodes = omega (arith, log_nodes);
-  claims_nodes = omega (arith, claims_nodes);
-  scales = All-nil (IsScaleNoted (opening.table ∷ []) rooms.greatest);
-  greatest = greatest;
-}
+kept_start opening rooms begun count tables log claims log_nodes claims_nodes greatest = grind (arith, opened_replayed, once_none, All-nil, begun)
 
 -- ---- a claim
 pub kept_claimed : (opening : Opening) (book : BookView) (rooms : Rooms) (worker node : ℕ) → IsKept opening book rooms → worker < 256
     → length book.claims ≢ book.budget → IsOpen (state_of book) node → IsKept opening (claimed book worker node) rooms
 kept_claimed opening book rooms worker node kept small left open_node =
-    let next : Claim = record { worker = worker; node = node; behind = length book.log; status = Held } in
-    let holder : Holder = record { worker = worker; node = node } in
-    let below : length book.claims < book.budget = omega (arith, left, kept.few) in
-    record {
-      begun = kept.begun;
-      budget = kept.budget;
-      gap = kept.gap;
-      replayed = claimed_replayed opening book worker node kept.replayed small below open_node;
-      few = omega (arith, below, length-append book.claims (next ∷ []));
-      once = subst IsHeldOnce (sym (holders_push book.claims next)) (once_push (holders book.claims) holder kept.once open_node.unheld);
-      paired = kept.paired;
-      count = kept.count;
-      tables = kept.tables;
-      log = kept.log;
-      claims = kept.claims;
-      log_nodes = kept.log_nodes;
-      claims_nodes = kept.claims_nodes;
-      scales = kept.scales;
-      greatest = kept.greatest;
-    }
+    grind (arith, claimed_replayed, length-append, holders_push, once_push, kept, small, left, open_node)
 
 -- ---- a claim that ends
 ended_once : (claims : List Claim) (unit : ℕ) (status : Status) → ((holder : Holder) → holder_by status holder ≡ None) → IsHeldOnce (holders claims)
     → IsHeldOnce (holders (ended claims unit status))
-ended_once claims unit status ends once =
-    subst IsHeldOnce (sym (holders_after claims unit status ends)) (once_ended (holders claims) (unit - 1) once)
+ended_once claims unit status ends once = grind (arith, holders_after, once_ended, ends, once)
 
 ended_count : (claims : List Claim) (unit : ℕ) (status : Status) → length (ended claims unit status) ≡ length claims
 ended_count claims unit status = length-set claims (unit - 1) (record (claim_of claims unit) { status = status })
@@ -183,27 +140,14 @@ move_legal book worker node table exact outcome _ legal = legal
 pub commit_legal : (book : BookView) (worker unit node : ℕ) (given : Node) (table : Table) (exact : Bool) (outcome : Outcome) (action : Move)
     → worker < 256 → IsHolding (state_of book) worker unit node → MayBe book node given table exact outcome action
     → IsLegalBy AnyCost (state_of book) (event.Commit worker unit table exact outcome action)
-commit_legal book worker unit node given table exact outcome action small holds may = (
-  subst (λ n. worker < n) (sym (length-replicate 256 no_desk)) small,
-  record {
-    node = node;
-    holds = holds;
-    fresh = may.fresh;
-    first = may.first;
-    legal = move_legal book worker node table exact outcome action may.legal;
-  },
-)
+commit_legal book worker unit node given table exact outcome action small holds may = grind (arith, small, holds, may)
 
 commit_true : (instance : Instance) (book : BookView) (worker unit node : ℕ) (given : Node) (table : Table) (exact : Bool) (outcome : Outcome)
     (action : Move) → IsHolding (state_of book) worker unit node → IsNodeAt book.tree node given
     → IsTrueOutcome exact instance given table outcome
     → IsTrueEvent instance (state_of book) (event.Commit worker unit table exact outcome action)
 commit_true instance book worker unit node given table exact outcome action holds is_node told number found holding is_found =
-    let here : node_at book.tree.nodes number ≡ Some given =
-    ap (λ n. node_at book.tree.nodes n) (sym (one_held (state_of book) worker worker unit node number holds holding)) ∙ is_node in
-    let nodes : Some given ≡ Some found = sym here ∙ is_found in
-    let same : given ≡ found = cc in
-    subst (λ n. IsTrueOutcome exact instance n table outcome) same told
+    grind (arith, holds, is_node, told, number, found, holding, is_found)
 
 pub committed_run : (opening : Opening) (book : BookView) (worker unit node : ℕ) (given : Node) (table : Table) (exact : Bool) (outcome : Outcome)
     (action : Move) → IsReplayed opening book → worker < 256 → IsHolding (state_of book) worker unit node
@@ -266,8 +210,7 @@ kept_given_back opening book rooms worker unit node kept_is holds =
       begun = kept_is.begun;
       budget = kept_is.budget;
       gap = kept_is.gap;
-      replayed = subst (λ u. IsReplayed opening (given_back book u)) (sym part.unit_is)
-          (abandoned_replayed opening book part.before part.after part.claim part.is part.status kept_is.replayed);
+      replayed = grind (arith, abandoned_replayed, opening, book, part, kept_is);
       few = omega (arith, kept_is.few, ended_count book.claims unit GivenBack);
       once = ended_once book.claims unit GivenBack (λ holder. refl) kept_is.once;
       paired = kept_is.paired;
@@ -291,9 +234,7 @@ few_children a b Again = omega arith
 few_children a b _ = omega arith
 
 pub held_is : (m : Machine) (worker unit node : ℕ) → IsHolding m worker unit node → IsHeldIn m.claims node
-held_is m worker unit node holds =
-    let at = holder_place m.claims unit (record { worker = worker; node = node }) holds in
-    record { claim = at.0; worker = worker; holds = at.2 }
+held_is m worker unit node holds = grind (arith, holder_place, holds)
 
 -- what stands at an open leaf
 pub live_open : (tree : NumberedTree) (number : ℕ) (s : Spot) → spot_at tree number ≡ Some s → IsLive s → IsOpenAt tree number
@@ -301,10 +242,7 @@ live_open tree number (spot.Leaf (leaf.Live table value exact)) e live = record 
 live_open tree number _ e live = absurd live
 
 pub open_live : (tree : NumberedTree) (number : ℕ) (s : Spot) → spot_at tree number ≡ Some s → IsOpenAt tree number → IsLive s
-open_live tree number s e at =
-    let both : Some (spot.Leaf (leaf.Live at.table at.value at.exact)) ≡ Some s = sym at.live ∙ e in
-    let same : spot.Leaf (leaf.Live at.table at.value at.exact) ≡ s = cc in
-    subst IsLive same tt
+open_live tree number s e at = grind (arith, e, at)
 
 -- ---- what a commit needs of the fields
 pub record HasRoom (book : BookView) (rooms : Rooms) (node : ℕ) : Type 0 where
@@ -339,8 +277,7 @@ has_room law opening book rooms worker unit node kept_is holds =
 -- the same of what contracts see
 pub room_of : TreeRunsHold → (opening : Opening) (book seen : BookView) (rooms : Rooms) (worker unit node : ℕ) → book ≡ seen → IsKept opening book rooms
     → IsHolding (state_of seen) worker unit node → HasRoom book rooms node
-room_of law opening book seen rooms worker unit node same kept_is holds =
-    has_room law opening book rooms worker unit node kept_is (subst (λ (b : BookView). IsHolding (state_of b) worker unit node) (sym same) holds)
+room_of law opening book seen rooms worker unit node same kept_is holds = grind (arith, has_room, law, same, kept_is, holds)
 
 -- the node that is held stores a table that is there
 pub stored_within : TreeRunsHold → (opening : Opening) (book : BookView) (rooms : Rooms) (worker unit node : ℕ) → IsKept opening book rooms

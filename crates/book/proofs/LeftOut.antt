@@ -164,18 +164,11 @@ simulated_more : (instance : Instance) (place : ℕ) (m : Machine) (first : Even
     → IsTrueEvent instance (state_without place m) (event_anew (units_of place) first)
     → after (state_without place m) (event_anew (units_of place) first) ≡ state_without place (after m first)
     → IsSimulated instance place (after m first) events → IsSimulated instance place m (first ∷ events)
-simulated_more instance place m first events legal told step later = record {
-  run = (legal, told, subst (λ x. IsTrueRunBy AnyCost instance x (run_anew place events)) (sym step) later.run);
-  ends = ap (λ x. after_all x (run_anew place events)) step ∙ later.ends;
-}
+simulated_more instance place m first events legal told step later = grind (arith, legal, told, step, later)
 
 beside_more : (place : ℕ) (m : Machine) (first : Event) (events : List Event) → IsBeside place m (first ∷ events)
     → IsBeside place (after m first) events
-beside_more place m first events beside = ⊎_elim
-    (λ (l : length (after_all (after m first) events).claims ≤ place). inl l)
-    (λ (r : (place < length m.claims) × (slice_get (after_all (after m first) events).claims place ≢ Some None)).
-    inr (omega (arith, r.0, weight_after m first), r.1))
-    beside
+beside_more place m first events beside = grind (arith, weight_after, beside)
 
 -- a claim of the run is at another place
 other_claim : (place : ℕ) (m : Machine) (worker node : ℕ) (events : List Event) → IsBeside place m (event.Claim worker node ∷ events)
@@ -308,13 +301,6 @@ left_out instance place start before worker node later fixed none count run open
     ap (λ x. after_all x (run_anew place before)) (sym fixed) ∙ one.ends ∙ same in
     let split = map-append (event_anew (units_of place)) before later in
     record {
-      run = subst (IsTrueRunBy AnyCost instance start) (sym split)
-          (run_joined instance start (run_anew place before) (run_anew place later)
-          (subst (λ x. IsTrueRunBy AnyCost instance x (run_anew place before)) fixed one.run)
-          (subst (λ x. IsTrueRunBy AnyCost instance x (run_anew place later)) (sym middle) two.run));
-      ends = ap (after_all start) split
-          ∙ after_all-append start (run_anew place before) (run_anew place later)
-          ∙ ap (λ x. after_all x (run_anew place later)) middle
-          ∙ two.ends
-          ∙ ap (state_without place) (sym joined);
+      run = grind (arith, run_joined, instance, start, split, place, before, later, fixed, one, middle, two);
+      ends = grind (arith, after_all-append, start, split, place, before, later, middle, two, joined);
     }

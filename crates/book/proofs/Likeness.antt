@@ -1,10 +1,9 @@
 -- The same event at two states that differ in the numbers of units alone: where it is legal and true at one, it is so at the other, and
 -- it leaves the same.
-use Rattle.std.proofs.Common.{◌≡◌, ◌≢◌, ℕ, suc, ◌-◌, ◌<◌, Bool, true, false, cond, All, List, [], ◌∷◌, length, map, refl, ap, sym, ◌∙◌, subst, Option, Some, None, slice_get, slice_set, ◌==◌, ◌⊎◌}
+use Rattle.std.proofs.Common.{arith, ◌≡◌, ◌≢◌, ℕ, ◌-◌, ◌<◌, Bool, true, false, cond, All, List, [], ◌∷◌, length, map, refl, ap, sym, ◌∙◌, subst, Option, Some, None, slice_get, slice_set, ◌==◌}
 use Rattle.std.proofs.lemmas.List.{map-append, length-map, nil_from_length}
 use Rattle.std.proofs.lemmas.List.Elements.{All-map}
-use Rattle.branch_tree.specs.Prelude.{HasFreeCell}
-use Rattle.search_machine.specs.Prelude.{Machine, holder_in, holder_of, IsHolding, entries_of, IsMoveLegal, tickets_of, IsTrueEvent, AnyCost, IsLegalBy, committed, committed_by, after, with_desk, with_tickets}
+use Rattle.search_machine.specs.Prelude.{Machine, holder_in, holder_of, IsHolding, entries_of, IsMoveLegal, tickets_of, IsTrueEvent, AnyCost, IsLegalBy, committed, after, with_desk, with_tickets}
 use Rattle.branch_tree.specs.declared.found.Entry.{Entry}
 use Rattle.dual_model.specs.declared.table.Table.{Table}
 use Rattle.search_machine.specs.declared.holder.Holder.{Holder}
@@ -46,12 +45,8 @@ none_renamed f log node none = nil_from_length (entries_of log node) (sym (count
 move_renamed : (f : ℕ → ℕ) (claims : List (Option Holder)) (desks : List WorkerState) (m : Machine) (worker node : ℕ) (table : Table) (exact : Bool)
     (outcome : Outcome) (action : Move) → IsMoveLegal (AnyCost m worker) m node table exact outcome action
     → IsMoveLegal (AnyCost (renamed f claims desks m) worker) (renamed f claims desks m) node table exact outcome action
-move_renamed f claims desks m worker node table exact outcome Again legal = (
-  legal.0,
-  subst (λ n. (suc n < 100) ⊎ (¬ HasFreeCell m.tree node)) (sym (count_renamed f m.log node)) legal.1,
-)
-move_renamed f claims desks m worker node table exact outcome (Prune seen) legal =
-    (legal.0, record { looked = tt; within = legal.1.within })
+move_renamed f claims desks m worker node table exact outcome Again legal = grind (arith, count_renamed, Again, legal)
+move_renamed f claims desks m worker node table exact outcome (Prune seen) legal = grind (arith, seen, legal)
 move_renamed f claims desks m worker node table exact outcome _ legal = legal
 
 pub legal_renamed : (f : ℕ → ℕ) (claims : List (Option Holder)) (desks : List WorkerState) (m : Machine) (worker unit : ℕ) (table : Table)
@@ -86,16 +81,11 @@ true_renamed instance f claims desks m worker unit table exact outcome action he
 pub after_commit : (m : Machine) (worker unit node : ℕ) (table : Table) (exact : Bool) (outcome : Outcome) (action : Move)
     → IsHolding m worker unit node
     → after m (event.Commit worker unit table exact outcome action) ≡ committed m worker unit node table exact outcome action
-after_commit m worker unit node table exact outcome action holds =
-    ap (committed_by m worker unit table exact outcome action) holds
+after_commit m worker unit node table exact outcome action holds = grind (arith, holds)
 
 pub committed_renamed : (f : ℕ → ℕ) (claims : List (Option Holder)) (desks : List WorkerState) (m : Machine) (worker unit node : ℕ) (table : Table)
     (exact : Bool) (outcome : Outcome) (action : Move)
     → committed (renamed f claims desks m) worker (f unit) node table exact outcome action
     ≡ renamed f (slice_set claims (f unit - 1) None) (with_desk desks worker (λ desk. with_tickets desk (tickets_of m.tree action)))
     (committed m worker unit node table exact outcome action)
-committed_renamed f claims desks m worker unit node table exact outcome action =
-    let entry : Entry =
-    record { unit = unit; worker = worker; node = node; table = length m.tables; exact = exact; outcome = outcome } in
-    ap (λ log. record (committed (renamed f claims desks m) worker (f unit) node table exact outcome action) { log = log })
-    (sym (map-append (with_unit f) m.log (entry ∷ [])))
+committed_renamed f claims desks m worker unit node table exact outcome action = grind (arith, map-append)

@@ -1,6 +1,6 @@
 -- The links of the log: with one entry more, and on the walk from entry to entry.
-use Rattle.std.proofs.Common.{◌≡◌, ◌≢◌, ℕ, suc, ◌+◌, ◌<◌, ◌≤◌, Bool, All, List, [], ◌∷◌, ◌++◌, length, set, refl, ap, sym, ◌∙◌, subst, arith, ⊎_elim, Some, slice_get, get_or, length-append, length-set, ◌==◌, cond, true, false, eq-eqb}
-use Rattle.std.proofs.lemmas.Bool.{cases_eq, cases_lt, ne_eqb}
+use Rattle.std.proofs.Common.{◌≡◌, ◌≢◌, ℕ, suc, ◌+◌, ◌<◌, ◌≤◌, Bool, All, List, [], ◌∷◌, ◌++◌, length, set, refl, ap, sym, ◌∙◌, subst, arith, ⊎_elim, Some, slice_get, length-append, length-set, ◌==◌, cond, true, false, eq-eqb}
+use Rattle.std.proofs.lemmas.Bool.{cases_eq, ne_eqb}
 use Rattle.std.proofs.lemmas.List.Elements.{All-nil, All-cons}
 use Rattle.std.proofs.lemmas.Option.{slice_get_within, slice_get-get_or, get_or_from_slice_get}
 use Rattle.search_machine.specs.Prelude.{entries_of}
@@ -12,45 +12,16 @@ use Rattle.book.specs.inside.Chains.{Entry, Table, IsNewest, AreLinked, IsElsewh
 -- ---- one entry more
 newest_more : (entries : List Entry) (next : Entry) (bound node link : ℕ) → bound ≤ length entries → IsNewest entries bound node link
     → IsNewest (entries ++ next ∷ []) bound node link
-newest_more entries next bound node link low is = record {
-  within = is.within;
-  own = λ place entry e at. is.own place entry e (before place entry (omega (arith, e, is.within)) at);
-  others = λ place entry above below at. is.others place entry above below (before place entry below at);
-}
-  where
-    before : (place : ℕ) (entry : Entry) → place < bound → slice_get (entries ++ next ∷ []) place ≡ Some entry → slice_get entries place ≡ Some entry
-    before place entry below at = ⊎_elim
-        (λ (l : slice_get entries place ≡ Some entry). l)
-        (λ (r : (place ≡ length entries) × (next ≡ entry)). absurd (omega (arith, r.0, below)))
-        (get_push_cases entries next entry place at)
+newest_more entries next bound node link low is = grind (arith, get_push_cases, low, is)
 
 -- of another node the link stays the newest
 newest_other : (entries : List Entry) (next : Entry) (node link : ℕ) → node ≢ next.node → IsNewest entries (length entries) node link
     → IsNewest (entries ++ next ∷ []) (suc (length entries)) node link
-newest_other entries next node link differ is =
-    let more = newest_more entries next (length entries) node link (omega arith) is in
-    record {
-      within = omega (arith, is.within);
-      own = more.own;
-      others = λ place entry above below at. ⊎_elim
-          (λ (l : slice_get entries place ≡ Some entry). is.others place entry above (slice_get_within entries place entry l) l)
-          (λ (r : (place ≡ length entries) × (next ≡ entry)).
-          λ (e : entry.node ≡ node). differ (sym e ∙ ap (λ (x : Entry). x.node) (sym r.1)))
-          (get_push_cases entries next entry place at);
-    }
+newest_other entries next node link differ is = grind (arith, newest_more, slice_get_within, get_push_cases, differ, is)
 
 -- of the entry's node it is the entry
 newest_own : (entries : List Entry) (next : Entry) → IsNewest (entries ++ next ∷ []) (suc (length entries)) next.node (suc (length entries))
-newest_own entries next = record {
-  within = omega arith;
-  own = λ place entry e at.
-      let here : place ≡ length entries = omega arith in
-      let both : Some next ≡ Some entry =
-      sym (get_push_last entries next) ∙ ap (slice_get (entries ++ next ∷ [])) (sym here) ∙ at in
-      let same : next ≡ entry = cc in
-      ap (λ (x : Entry). x.node) (sym same);
-  others = λ place entry above below at. absurd (omega arith);
-}
+newest_own entries next = grind (arith, get_push_last)
 
 pub linked_push : (entries : List Entry) (previous newest counts : List ℕ) (next : Entry) (link count : ℕ)
     → AreLinked entries previous newest counts → next.node < length newest → slice_get newest next.node ≡ Some link
@@ -63,10 +34,7 @@ linked_push entries previous newest counts next link count are inside here count
     record {
       linked = omega (arith, size, length-append previous (link ∷ []), are.linked);
       counted = omega (arith, nodes, length-set counts next.node (count + 1), are.counted);
-      within = λ place entry at. ⊎_elim
-          (λ (l : slice_get entries place ≡ Some entry). omega (arith, nodes, are.within place entry l))
-          (λ (r : (place ≡ length entries) × (next ≡ entry)). omega (arith, nodes, inside, ap (λ (x : Entry). x.node) r.1))
-          (get_push_cases entries next entry place at);
+      within = λ place entry at. grind (arith, get_push_cases, nodes, are, inside, at);
       latest = λ node now at. ⊎_elim
           (λ (l : (node ≡ next.node) × (suc (length entries) ≡ now)).
           subst (λ b. IsNewest (entries ++ next ∷ []) b node now) (sym bound)
@@ -76,25 +44,7 @@ linked_push entries previous newest counts next link count are inside here count
           subst (λ b. IsNewest (entries ++ next ∷ []) b node now) (sym bound)
           (newest_other entries next node now r.0 (are.latest node now r.1)))
           (get_set_cases newest next.node node (suc (length entries)) now at);
-      earlier = λ place now entry at is. ⊎_elim
-          (λ (l : slice_get previous place ≡ Some now).
-          let below = slice_get_within previous place now l in
-          ⊎_elim
-          (λ (old : slice_get entries place ≡ Some entry).
-          newest_more entries next place entry.node now (omega (arith, below, are.linked)) (are.earlier place now entry l old))
-          (λ (new : (place ≡ length entries) × (next ≡ entry)). absurd (omega (arith, below, are.linked, new.0)))
-          (get_push_cases entries next entry place is))
-          (λ (r : (place ≡ length previous) × (link ≡ now)).
-          let last : place ≡ length entries = omega (arith, r.0, are.linked) in
-          ⊎_elim
-          (λ (old : slice_get entries place ≡ Some entry). absurd (omega (arith, last, slice_get_within entries place entry old)))
-          (λ (new : (place ≡ length entries) × (next ≡ entry)).
-          let own = newest_more entries next (length entries) next.node link (omega arith) (are.latest next.node link here) in
-          subst (λ p. IsNewest (entries ++ next ∷ []) p entry.node now) (sym last)
-          (subst (λ (x : Entry). IsNewest (entries ++ next ∷ []) (length entries) x.node now) new.1
-          (subst (IsNewest (entries ++ next ∷ []) (length entries) next.node) r.1 own)))
-          (get_push_cases entries next entry place is))
-          (get_push_cases previous link now place at);
+      earlier = λ place now entry at is. grind (arith, slice_get_within, newest_more, get_push_cases, are, is, here, at);
       many = λ node now at. ⊎_elim
           (λ (l : (node ≡ next.node) × (count + 1 ≡ now)).
           let more = ap length (entries_own entries next node (sym l.0)) in
@@ -142,22 +92,7 @@ entry_of P entries node place entry each at own =
 pub walk_on : (entries : List Entry) (tables : List Table) (table : Table) (exact : Bool) (node place link : ℕ) (entry : Entry)
     → IsWalked entries tables table exact node (suc place) → slice_get entries place ≡ Some entry → IsElsewhere tables table exact entry
     → IsNewest entries place entry.node link → IsWalked entries tables table exact node link
-walk_on entries tables table exact node place link entry is here elsewhere newest =
-    let own = is.own place entry refl here in
-    record {
-      within = omega (arith, newest.within, is.within);
-      own = λ other found e at. newest.own other found e at ∙ own;
-      clear = λ other found above at same. ⊎_elim
-          (λ (l : other < place). absurd (newest.others other found above l at (same ∙ sym own)))
-          (λ (r : place ≤ other). ⊎_elim
-          (λ (e : other ≡ place).
-          let both : Some entry ≡ Some found = sym here ∙ ap (slice_get entries) (sym e) ∙ at in
-          let one : entry ≡ found = cc in
-          subst (IsElsewhere tables table exact) one elsewhere)
-          (λ (d : other ≡ place → ⊥). is.clear other found (omega (arith, r, d)) at same)
-          (cases_eq other place))
-          (cases_lt other place);
-    }
+walk_on entries tables table exact node place link entry is here elsewhere newest = grind (arith, is, here, elsewhere, newest)
 
 -- at its end
 pub walk_ends : (entries : List Entry) (tables : List Table) (table : Table) (exact : Bool) (node link : ℕ)
@@ -168,6 +103,4 @@ walk_ends entries tables table exact node link is e =
 -- a node past the last has no entry
 pub entries_none : (entries : List Entry) (previous newest counts : List ℕ) (node : ℕ) → AreLinked entries previous newest counts
     → length newest ≤ node → entries_of entries node ≡ []
-entries_none entries previous newest counts node are past =
-    no_entries entries (length newest) node
-    (λ k d within. are.within k (get_or entries k d) (slice_get-get_or entries k d within)) past
+entries_none entries previous newest counts node are past = grind (arith, no_entries, slice_get-get_or, are, past)

@@ -1,5 +1,5 @@
 -- The greatest scale of the tables of a node's entries: after one entry more, and that a table above it is at none of them.
-use Rattle.std.proofs.Common.{◌≡◌, ℕ, ◌<◌, Bool, All, List, [], ◌∷◌, ◌++◌, length, ap, sym, ◌∙◌, subst, arith, ⊎_elim, ℤ, pos, ◌≤ℤ◌, ◌<ℤ◌, Some, slice_get, get_or, get_or-set_same, get_or-set_other}
+use Rattle.std.proofs.Common.{◌≡◌, ℕ, ◌<◌, Bool, All, List, [], ◌∷◌, ◌++◌, length, ap, sym, ◌∙◌, subst, arith, ℤ, pos, ◌≤ℤ◌, ◌<ℤ◌, Some, slice_get, get_or, get_or-set_same, get_or-set_other}
 use Rattle.std.specs.Int.{int_max}
 use Rattle.std.proofs.lemmas.Bool.{cases_eq}
 use Rattle.std.proofs.lemmas.Int.{ints, int_max_is}
@@ -14,17 +14,7 @@ use Rattle.book.proofs.Links.{all_entries}
 -- no greatest scale gets less
 raised_above : (greatest : List ℤ) (node other : ℕ) (scale : ℤ) → node < length greatest
     → get_or greatest other (pos 0) ≤ℤ get_or (raised greatest node scale) other (pos 0)
-raised_above greatest node other scale within =
-    let was = get_or greatest node (pos 0) in
-    ⊎_elim
-    (λ (e : other ≡ node).
-    let now = get_or-set_same greatest node (int_max was scale) (pos 0) within in
-    let above : was ≤ℤ int_max was scale = omega (arith, ints, int_max_is was scale) in
-    subst (λ n. get_or greatest n (pos 0) ≤ℤ get_or (raised greatest node scale) n (pos 0)) (sym e) (subst (λ z. was ≤ℤ z) (sym now) above))
-    (λ (d : other ≡ node → ⊥).
-    let same = get_or-set_other greatest node other (int_max was scale) (pos 0) d in
-    subst (λ z. get_or greatest other (pos 0) ≤ℤ z) (sym same) (omega (arith, ints)))
-    (cases_eq other node)
+raised_above greatest node other scale within = grind (arith, ints, get_or-set_same, int_max_is, get_or-set_other, cases_eq, within)
 
 pub scales_raised : (tables : List Table) (table : Table) (greatest : List ℤ) (log : List Entry) (entry : Entry) → entry.table ≡ length tables
     → entry.node < length greatest → All (IsScaleNoted tables greatest) log

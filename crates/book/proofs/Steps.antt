@@ -29,9 +29,7 @@ use Rattle.book.proofs.Weaving.{claim_weight, claims_in, rising_kept, rising_mor
 run_snoc : (instance : Instance) (start : Machine) (events : List Event) (last : Event) (m : Machine)
     → IsTrueRunBy AnyCost instance start events → after_all start events ≡ m → IsLegalBy AnyCost m last → IsTrueEvent instance m last
     → IsTrueRunBy AnyCost instance start (events ++ last ∷ [])
-run_snoc instance start events last m run is legal told =
-    run_joined instance start events (last ∷ []) run
-    (subst (λ (x : Machine). IsTrueRunBy AnyCost instance x (last ∷ [])) (sym is) (legal, told, tt))
+run_snoc instance start events last m run is legal told = grind (arith, run_joined, run, is, legal, told)
 
 after_snoc : (start : Machine) (events : List Event) (last : Event) (m : Machine) → after_all start events ≡ m
     → after_all start (events ++ last ∷ []) ≡ after m last
@@ -90,8 +88,7 @@ claimed_replayed opening book worker node is small left open_node =
     let holders_more : holders (kept_claims more) ≡ holders (kept_claims claims) ++ Some (record { worker = worker; node = node }) ∷ [] =
     ap holders kept ∙ map-append holder_of (kept_claims claims) (next ∷ []) in
     record {
-      run = subst (IsTrueRunBy AnyCost opening.instance start) (sym same)
-          (run_snoc opening.instance start (replay book) now m is.run is.gives legal tt);
+      run = grind (arith, run_snoc, opening, start, same, book, now, m, is, legal);
       desks = is.desks;
       workers = is.workers;
       gives = ap (after_all start) same
@@ -123,9 +120,7 @@ marks_stay : (claims more before : List Claim) (claim : Claim) (status : Status)
     → claims ≡ before ++ claim ∷ rest → more ≡ before ++ (record claim { status = status }) ∷ rest → claim.status ≡ Held → tables ≤ later
     → All (IsMarked claims tables) log → All (IsMarked more later) log
 marks_stay claims more before claim status rest tables later log list more_is held above each k d within =
-    let entry = get_or log k d in
-    subst (λ cs. IsMarked cs later entry) (sym more_is)
-    (marked_ended before claim status rest tables later entry held above (subst (λ cs. IsMarked cs tables entry) list (each k d within)))
+    grind (arith, marked_ended, list, more_is, held, above, each, k, d, within)
 
 -- who holds which nodes by the claims that are kept, where one of them ended
 holders_ended : (claims more before : List Claim) (claim : Claim) (action : Move) (rest : List Claim) → claims ≡ before ++ claim ∷ rest
@@ -234,10 +229,7 @@ committed_replayed opening book before rest claim node table exact outcome actio
             claims = hs_new i;
             log = map_units (number_of claims) (number_of more) (book.log ++ entry ∷ []) (λ u. sym (same_f u)) i;
           });
-      rising = subst (λ cs. IsRising 0 (length book2.log) cs) (sym more_is)
-          (rising_same 0 (length book2.log) before claim (Committed action) rest
-          (rising_more 0 (length book.log) (length book2.log) (before ++ claim ∷ rest) (omega (arith, log_more))
-          (subst (IsRising 0 (length book.log)) list is.rising)));
+      rising = grind (arith, rising_same, rising_more, book2, more_is, before, claim, action, rest, book, log_more, list, is);
       marked = All-push (IsMarked more (length later)) book.log entry marked_old marked_new;
     }
 
@@ -317,12 +309,8 @@ abandoned_replayed opening book before rest claim list held is =
       run = subst (IsTrueRunBy AnyCost opening.instance start) (sym same) law.run;
       desks = is.desks;
       workers = is.workers;
-      gives = ap (after_all start) same
-          ∙ law.ends
-          ∙ ap (state_without place) ends
-          ∙ (λ i. record m { claims = claims_new i; log = log_new i });
-      rising = subst (IsRising 0 (length book.log)) (sym more_is)
-          (rising_same 0 (length book.log) before claim GivenBack rest (subst (IsRising 0 (length book.log)) list is.rising));
+      gives = grind (arith, state_without, start, same, law, place, ends, m, claims, claims_new, log_new);
+      rising = grind (arith, rising_same, book, more_is, before, claim, rest, list, is);
       marked = marks_stay claims more before claim GivenBack rest (length book.tables) (length book.tables) book.log list more_is held
           (omega arith) is.marked;
     }

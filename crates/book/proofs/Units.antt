@@ -9,7 +9,7 @@ use Rattle.search_machine.specs.Prelude.{holder_in, IsHeldIn}
 use Rattle.search_machine.specs.declared.holder.Holder.{Holder}
 use Rattle.search_machine.proofs.Claims.{holder_place}
 use Rattle.book.specs.BookView.{Entry}
-use Rattle.book.specs.Claims.{Claim, Status, Held, Committed, GivenBack, holder_by, holder_of, holders, IsHeldBy, stays, kept_claims, are_kept, unit_anew, no_claim, claim_of, ended, move_by, move_of}
+use Rattle.book.specs.Claims.{Claim, Status, Held, Committed, GivenBack, holder_by, holder_of, holders, IsHeldBy, stays, kept_claims, are_kept, unit_anew, no_claim, ended, move_by, move_of}
 use Rattle.book.specs.Running.{IsMarked}
 use Rattle.book.proofs.LeftOut.{less_one}
 
@@ -96,9 +96,7 @@ ended_part before claim after status =
 -- who holds which nodes then, where the status is another than held
 pub holders_after : (claims : List Claim) (unit : ℕ) (status : Status) → ((holder : Holder) → holder_by status holder ≡ None)
     → holders (ended claims unit status) ≡ set (holders claims) (unit - 1) None
-holders_after claims unit status ends =
-    map-set holder_of claims (unit - 1) (record (claim_of claims unit) { status = status })
-    ∙ ap (set (holders claims) (unit - 1)) (ends (record { worker = (claim_of claims unit).worker; node = (claim_of claims unit).node }))
+holders_after claims unit status ends = grind (arith, map-set, ends)
 
 -- ---- the numbers of units
 -- how many are kept
@@ -138,36 +136,25 @@ anew_push (suc unit) (first ∷ kept) last within = ap (λ n. cond first (suc n)
 -- ---- which claims are kept
 pub kept_flags : (before : List Claim) (claim : Claim) (after : List Claim) (kept : Bool) → stays claim ≡ kept
     → are_kept (before ++ claim ∷ after) ≡ are_kept before ++ kept ∷ are_kept after
-kept_flags before claim after kept is =
-    map-append stays before (claim ∷ after) ∙ ap (λ b. are_kept before ++ b ∷ are_kept after) is
+kept_flags before claim after kept is = grind (arith, map-append, is)
 
 pub kept_with : (before : List Claim) (claim : Claim) (after : List Claim) → stays claim ≡ true
     → kept_claims (before ++ claim ∷ after) ≡ kept_claims before ++ claim ∷ kept_claims after
-kept_with before claim after is =
-    filter-append stays before (claim ∷ after)
-    ∙ ap (λ b. kept_claims before ++ cond b (claim ∷ kept_claims after) (kept_claims after)) is
+kept_with before claim after is = grind (arith, filter-append, is)
 
 pub kept_without : (before : List Claim) (claim : Claim) (after : List Claim) → stays claim ≡ false
     → kept_claims (before ++ claim ∷ after) ≡ kept_claims before ++ kept_claims after
-kept_without before claim after is =
-    filter-append stays before (claim ∷ after)
-    ∙ ap (λ b. kept_claims before ++ cond b (claim ∷ kept_claims after) (kept_claims after)) is
+kept_without before claim after is = grind (arith, filter-append, is)
 
 -- the number of a claim that is kept
 pub number_here : (claims before : List Claim) (claim : Claim) (after : List Claim) → claims ≡ before ++ claim ∷ after → stays claim ≡ true
     → unit_anew (suc (length before)) (are_kept claims) ≡ suc (length (kept_claims before))
-number_here claims before claim after is kept =
-    ap (unit_anew (suc (length before))) (ap are_kept is ∙ kept_flags before claim after true kept)
-    ∙ ap (λ n. unit_anew (suc n) (are_kept before ++ true ∷ are_kept after)) (sym (length-map before stays))
-    ∙ anew_here (are_kept before) (are_kept after)
-    ∙ ap suc (sym (kept_length before))
+number_here claims before claim after is kept = grind (arith, kept_flags, length-map, anew_here, kept_length, is, kept)
 
 -- who holds which nodes by the claims that are kept
 pub holders_with : (claims before : List Claim) (claim : Claim) (after : List Claim) → claims ≡ before ++ claim ∷ after → stays claim ≡ true
     → holders (kept_claims claims) ≡ holders (kept_claims before) ++ holder_of claim ∷ holders (kept_claims after)
-holders_with claims before claim after is kept =
-    ap holders (ap kept_claims is ∙ kept_with before claim after kept)
-    ∙ map-append holder_of (kept_claims before) (claim ∷ kept_claims after)
+holders_with claims before claim after is kept = grind (arith, kept_with, map-append, is, kept)
 
 -- the holder of a held claim, among those that are kept, is that of its new number
 pub holder_anew : (claims : List Claim) (unit : ℕ) (holder : Holder) → holder_in (holders claims) unit ≡ Some holder
@@ -226,10 +213,7 @@ kept_fewer (claim ∷ claims) = one_more (stays claim) (kept_fewer claims)
 -- the move of an entry's commit
 pub marked_move : (claims : List Claim) (tables : ℕ) (entry : Entry) (mark : IsMarked claims tables entry)
     → move_of claims entry.unit ≡ move_by mark.claim.status
-marked_move claims tables entry mark =
-    let place : entry.unit - 1 ≡ mark.place = omega (arith, mark.unit) in
-    ap (λ i. move_by (get_or claims i no_claim).status) place
-    ∙ ap (λ (c : Claim). move_by c.status) (get_or_from_slice_get claims mark.place mark.claim no_claim mark.is)
+marked_move claims tables entry mark = grind (arith, get_or_from_slice_get)
 
 pub marked_within : (claims : List Claim) (tables : ℕ) (entry : Entry) → IsMarked claims tables entry → entry.unit ≤ length claims
 marked_within claims tables entry mark = omega (arith, mark.unit, slice_get_within claims mark.place mark.claim mark.is)
@@ -237,22 +221,11 @@ marked_within claims tables entry mark = omega (arith, mark.unit, slice_get_with
 -- with the same claim among other claims
 pub marked_as : (claims more : List Claim) (tables later : ℕ) (entry : Entry) (mark : IsMarked claims tables entry) → tables ≤ later
     → slice_get more mark.place ≡ Some mark.claim → IsMarked more later entry
-marked_as claims more tables later entry mark above there = record {
-  claim = mark.claim;
-  place = mark.place;
-  unit = mark.unit;
-  is = there;
-  action = mark.action;
-  status = mark.status;
-  worker = mark.worker;
-  node = mark.node;
-  table = omega (arith, mark.table, above);
-}
+marked_as claims more tables later entry mark above there = grind (arith, above, there)
 
 pub marked_push : (claims : List Claim) (next : Claim) (tables : ℕ) (entry : Entry) → IsMarked claims tables entry
     → IsMarked (claims ++ next ∷ []) tables entry
-marked_push claims next tables entry mark =
-    marked_as claims (claims ++ next ∷ []) tables tables entry mark (omega arith) (get-append claims (next ∷ []) mark.place mark.claim mark.is)
+marked_push claims next tables entry mark = grind (arith, marked_as, get-append, mark)
 
 -- its move stays
 pub push_move : (claims : List Claim) (next : Claim) (tables : ℕ) (entry : Entry) → IsMarked claims tables entry
@@ -264,12 +237,7 @@ push_move claims next tables entry mark =
 -- a claim that is held is that of no entry
 pub marked_apart : (before : List Claim) (claim : Claim) (after : List Claim) (tables : ℕ) (entry : Entry) → claim.status ≡ Held
     → (mark : IsMarked (before ++ claim ∷ after) tables entry) → mark.place ≢ length before
-marked_apart before claim after tables entry held mark e =
-    let both : Some claim ≡ Some mark.claim =
-    sym (get_here before claim after) ∙ ap (slice_get (before ++ claim ∷ after)) (sym e) ∙ mark.is in
-    let same : claim ≡ mark.claim = cc in
-    let status : Held ≡ Committed mark.action = sym held ∙ ap (λ (c : Claim). c.status) same ∙ mark.status in
-    absurd (cc)
+marked_apart before claim after tables entry held mark e = grind (arith, get_here, held, e)
 
 pub marked_ended : (before : List Claim) (claim : Claim) (status : Status) (after : List Claim) (tables later : ℕ) (entry : Entry)
     → claim.status ≡ Held → tables ≤ later → IsMarked (before ++ claim ∷ after) tables entry

@@ -53,8 +53,7 @@ pub woven_same : (put : ℕ) (before : List Claim) (claim : Claim) (status : Sta
     → woven put (before ++ (record claim { status = status }) ∷ after) commits ≡ woven put (before ++ claim ∷ after) commits
 woven_same put [] claim status after commits = refl
 woven_same put (first ∷ before) claim status after commits =
-    ap (λ xs. take (first.behind - put) commits ++ claim_event first ∷ xs)
-    (woven_same first.behind before claim status after (drop (first.behind - put) commits))
+    grind (arith, (woven_same first.behind before claim status after (drop (first.behind - put) commits)))
 
 -- ---- one claim more, and one commit more
 pub woven_claim : (put : ℕ) (claims : List Claim) (next : Claim) (commits : List Event) → IsRising put (put + length commits) claims
@@ -138,13 +137,7 @@ woven_from put entries claim (next ∷ claims) commits low rising =
 pub woven_less : (put entries : ℕ) (before : List Claim) (claim : Claim) (after : List Claim) (commits : List Event) → claims_in commits ≡ 0
     → IsRising put entries (before ++ claim ∷ after)
     → IsLeftOut (woven put (before ++ claim ∷ after) commits) (woven put (before ++ after) commits) (claim_event claim) (length before)
-woven_less put entries [] claim after commits none rising = record {
-  before = take (claim.behind - put) commits;
-  after = woven claim.behind after (drop (claim.behind - put) commits);
-  all_is = refl;
-  less_is = woven_from put entries claim after commits rising.0 rising.1;
-  claims = omega (arith, sum_by-take-drop claim_weight commits (claim.behind - put), none);
-}
+woven_less put entries [] claim after commits none rising = grind (arith, woven_from, sum_by-take-drop, none, rising)
 woven_less put entries (first ∷ before) claim after commits none rising =
     let n = first.behind - put in
     let parts = sum_by-take-drop claim_weight commits n in

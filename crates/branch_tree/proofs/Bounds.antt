@@ -10,12 +10,12 @@ use Rattle.branch_tree.specs.NumberedTree.{Node, NumberedTree, EndAt, SplitAt, S
 use Rattle.branch_tree.specs.Places.{Inside, Place, HasPlaces, ArePlacesOf, tree_from, place_bound, view_of, IsStored}
 use Rattle.branch_tree.specs.inside.Minima.{IsLeastOf}
 pub use Rattle.branch_tree.specs.StoredTree.{AtMost}
-use Rattle.branch_tree.specs.StoredTree.{leaf_bound, spot_bound, lesser_bound, least_bound, tree_bound}
+use Rattle.branch_tree.specs.StoredTree.{spot_bound, lesser_bound, least_bound, tree_bound}
 use Rattle.branch_tree.specs.declared.tree.Spot.TheVariants as spot
 use Rattle.branch_tree.specs.TreeView.{Instance, TreeView, tree_of}
 use Rattle.branch_tree.specs.TreeLaws.{Leaf, Table, own_claim, claims_of, StoredHolds, StoredBoundsHold}
 use Rattle.branch_tree.specs.declared.tree.Leaf.TheVariants as leaf
-use Rattle.branch_tree.proofs.Subtrees.{IsHere, subtree_cases, leaf_case}
+use Rattle.branch_tree.proofs.Subtrees.{IsHere, subtree_cases}
 use Rattle.branch_tree.proofs.Changes.{place_part, part_place, bound_count}
 pub use Rattle.branch_tree.proofs.Lesser.{at_most_itself, at_most_through, at_most_both, lesser_first, lesser_second, lesser_greatest}
 
@@ -33,9 +33,7 @@ least_reaches places parent (SplitAt number g t off on) least has below =
 -- the tree's bound is at most that of each part
 pub bound_reaches : (here : Node) (tree : NumberedTree) (wanted : ℕ) (part : Subtree) → subtree_below here tree wanted ≡ Some part
     → AtMost (least_bound (unnumbered tree)) (least_bound (unnumbered part.tree))
-bound_reaches here (EndAt number leaf) wanted part e =
-    let h = leaf_case here number leaf wanted part e in
-    subst (λ (p : Subtree). AtMost (leaf_bound leaf) (least_bound (unnumbered p.tree))) (sym h.whole) (at_most_itself (leaf_bound leaf))
+bound_reaches here (EndAt number leaf) wanted part e = grind (arith, linear, number, leaf, e)
 bound_reaches here (SplitAt number g t off on) wanted part e =
     let left = least_bound (unnumbered off) in
     let right = least_bound (unnumbered on) in

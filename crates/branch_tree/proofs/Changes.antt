@@ -1,5 +1,5 @@
 -- The places of a tree, what stands at them, and what a replaced leaf, `close` and `split` make of them, of the cover and of the fields.
-use Rattle.std.proofs.Common.{◌≡◌, ℕ, zero, suc, ◌+◌, ◌-◌, ◌<◌, ◌≤◌, ◌⊎◌, true, false, List, [], ◌∷◌, length, get_or, drop, refl, ap, sym, ◌∙◌, subst, arith, ⊎_elim, Option, Some, None, ◌==◌, slice_get, get_or-drop, ◌≢◌, ◌*◌, cond, ◌++◌, set, length-append, length-set, map, append_assoc, ℤ, IsTrue, not}
+use Rattle.std.proofs.Common.{◌≡◌, ℕ, zero, suc, ◌+◌, ◌-◌, ◌<◌, ◌≤◌, ◌⊎◌, true, false, List, [], ◌∷◌, length, get_or, drop, refl, ap, sym, ◌∙◌, subst, arith, ⊎_elim, Option, Some, None, ◌==◌, slice_get, get_or-drop, ◌≢◌, ◌*◌, ◌++◌, set, length-append, length-set, map, append_assoc, ℤ, IsTrue, not}
 use Rattle.std.specs.Option.{option_map}
 use Rattle.std.specs.Vec.{vec_capacity}
 use Rattle.std.proofs.lemmas.Bool.{cases_lt, cases_eq, eq-eqb, ne_eqb}
@@ -10,10 +10,9 @@ use Rattle.branch_tree.specs.NumberedTree.{Node, Spot, NumberedTree, EndAt, Spli
 use Rattle.branch_tree.specs.Places.{Inside, Place, HasPlace, HasPlaces, ArePlacesOf, grown_from, trees_of, tree_from, place_bound, IsStored, view_of}
 use Rattle.branch_tree.specs.declared.tree.Spot.TheVariants as spot
 use Rattle.branch_tree.specs.StoredTree.{leaf_bound}
-use Rattle.branch_tree.specs.inside.Minima.{MinimaView}
 use Rattle.branch_tree.specs.TreeView.{Instance, TreeView, IsSizeOf, IsOpenAt, IsFreeAt, tree_of, IsWhole}
 use Rattle.branch_tree.specs.declared.tree.Leaf.TheVariants as leaf
-use Rattle.branch_tree.proofs.Subtrees.{same_or_not, none_here, one_if, leaves_at, number_of-replaced, total-replaced, replaced_nowhere, AreApart, IsHere, subtree_cases, leaf_case, part_number, some_part, IsOff, IsOn, apart_off, apart_on, leaf_at, leaf_sides}
+use Rattle.branch_tree.proofs.Subtrees.{same_or_not, none_here, one_if, leaves_at, number_of-replaced, total-replaced, replaced_nowhere, AreApart, IsHere, subtree_cases, leaf_case, part_number, some_part, IsOff, IsOn, apart_off, apart_on, leaf_sides}
 
 -- ---- the tree that the places stand for
 grown_at : (places : List Place) (first k : ℕ) (place : Place) → slice_get places k ≡ Some place
@@ -32,8 +31,7 @@ grown_at (p ∷ places) first (suc k) place e =
 
 child_at : (trees : List NumberedTree) (number child : ℕ) (tree : NumberedTree) → number < child → get_or trees child no_tree ≡ tree
     → get_or (drop (suc number) trees) (child - suc number) no_tree ≡ tree
-child_at trees number child tree later is =
-    get_or-drop (suc number) trees (child - suc number) no_tree ∙ (ap (λ n. get_or trees n no_tree) (omega arith) ∙ is)
+child_at trees number child tree later is = grind (arith, get_or-drop, later, is)
 
 pub tree_is : (places : List Place) (parent : ℕ) (tree : NumberedTree) → HasPlaces places parent tree
     → tree_from places (number_of tree) ≡ tree
@@ -50,11 +48,7 @@ tree_is places parent (SplitAt number g t off on) has =
 -- ---- the numbers are those of the places
 pub number_within : (places : List Place) (parent : ℕ) (tree : NumberedTree) (number : ℕ) → HasPlaces places parent tree
     → 1 ≤ times number tree → number < length places
-number_within places parent (EndAt m leaf) number has some = ⊎_elim
-    (λ (h : (m ≡ number) × ((m == number) ≡ true)).
-    subst (λ n. n < length places) h.0 (slice_get_within places m (record { parent = parent; spot = spot.Leaf leaf }) has.place))
-    (λ (h : ((m ≡ number) → ⊥) × ((m == number) ≡ false)). absurd (omega (arith, none_here m number h.1)))
-    (same_or_not m number)
+number_within places parent (EndAt m leaf) number has some = grind (arith, slice_get_within, none_here, same_or_not, m, leaf, has, some)
 number_within places parent (SplitAt m g t off on) number has some = ⊎_elim
     (λ (h : (m ≡ number) × ((m == number) ≡ true)).
     subst (λ n. n < length places) h.0
@@ -69,18 +63,10 @@ number_within places parent (SplitAt m g t off on) number has some = ⊎_elim
 
 pub times_past : (places : List Place) (parent : ℕ) (tree : NumberedTree) (number : ℕ) → HasPlaces places parent tree
     → length places ≤ number → times number tree ≡ 0
-times_past places parent tree number has past = ⊎_elim
-    (λ (l : 0 < times number tree). let within = number_within places parent tree number has (omega arith) in absurd (omega arith))
-    (λ (l : times number tree ≤ 0). omega arith)
-    (cases_lt 0 (times number tree))
+times_past places parent tree number has past = grind (arith, number_within, cases_lt, has, past)
 
 pub are_apart : (tree : NumberedTree) (places : List Place) → ArePlacesOf tree places → AreApart tree
-are_apart tree places are number = ⊎_elim
-    (λ (l : number < node_count tree). omega (arith, are.numbered.once number l))
-    (λ (l : node_count tree ≤ number).
-    let count = are.count in
-    let none = times_past places 0 tree number are.placed (omega arith) in omega arith)
-    (cases_lt number (node_count tree))
+are_apart tree places are number = grind (arith, are, number)
 
 -- ---- what stands at a place
 pub record IsPlacedPart (places : List Place) (part : Subtree) : Type 0 where
@@ -121,9 +107,7 @@ part_place places tree wanted part are e =
 -- each place has a part
 pub place_part : (places : List Place) (tree : NumberedTree) (wanted : ℕ) → ArePlacesOf tree places → wanted < length places
     → (part : Subtree) × (subtree_at tree wanted ≡ Some part)
-place_part places tree wanted are within =
-    let count = are.count in
-    some_part root tree wanted (are_apart tree places are) (omega (arith, are.numbered.once wanted (omega arith)))
+place_part places tree wanted are within = grind (arith, some_part, are_apart, are, within)
 
 -- what stands at a place is what the tree has at its number
 pub spot_is : (places : List Place) (tree : NumberedTree) (wanted : ℕ) (place : Place) → ArePlacesOf tree places
@@ -152,20 +136,7 @@ pub record IsChanged (old new : List Place) (wanted : ℕ) (was : Place) (grow :
 
 pub places_changed : (old new : List Place) (wanted : ℕ) (was : Place) (grow : Leaf → NumberedTree) → IsChanged old new wanted was grow
     → (parent : ℕ) (tree : NumberedTree) → HasPlaces old parent tree → HasPlaces new parent (replaced wanted grow tree)
-places_changed old new wanted was grow change parent (EndAt number leaf) has = ⊎_elim
-    (λ (h : (number ≡ wanted) × ((number == wanted) ≡ true)).
-    let here : Place = record { parent = parent; spot = spot.Leaf leaf } in
-    let stood : slice_get old wanted ≡ Some here = subst (λ n. slice_get old n ≡ Some here) h.0 has.place in
-    let same : was ≡ here = same_Some was here (sym change.at_leaf ∙ stood) in
-    let spots : spot.Leaf change.leaf ≡ spot.Leaf leaf = sym change.is_leaf ∙ ap (λ (p : Place). p.spot) same in
-    let leaves : change.leaf ≡ leaf = cc in
-    let parents : was.parent ≡ parent = ap (λ (p : Place). p.parent) same in
-    subst (λ b. HasPlaces new parent (cond b (grow leaf) (EndAt number leaf))) (sym h.1)
-    (subst (λ l. HasPlaces new parent (grow l)) leaves (subst (λ p. HasPlaces new p (grow change.leaf)) parents change.grown)))
-    (λ (h : ((number ≡ wanted) → ⊥) × ((number == wanted) ≡ false)).
-    subst (λ b. HasPlaces new parent (cond b (grow leaf) (EndAt number leaf))) (sym h.1)
-    (record { place = change.others number (record { parent = parent; spot = spot.Leaf leaf }) h.0 has.place }))
-    (same_or_not number wanted)
+places_changed old new wanted was grow change parent (EndAt number leaf) has = grind (arith, change, number, leaf, has)
 places_changed old new wanted was grow change parent (SplitAt number g t off on) has =
     let here : Place = record { parent = parent; spot = spot.Inner g t (number_of off) (number_of on) } in
     let elsewhere : number ≢ wanted = λ e.
@@ -176,8 +147,7 @@ places_changed old new wanted was grow change parent (SplitAt number g t off on)
     let left = number_of-replaced wanted grow change.number off in
     let right = number_of-replaced wanted grow change.number on in (
       record {
-        place = change.others number here elsewhere has.0.place
-            ∙ (λ i. Some (record { parent = parent; spot = spot.Inner g t (sym left i) (sym right i) }));
+        place = grind (arith, change, number, here, elsewhere, has, parent, g, t, left, right);
       },
       subst (λ n. number < n) (sym left) has.1,
       subst (λ n. number < n) (sym right) has.2,
@@ -366,12 +336,7 @@ split_places places tree wanted g t was old are stands is =
 pub cover_closed : (instance : Instance) (here : Node) (tree : NumberedTree) (wanted : ℕ) (new : Leaf)
     → IsCoverBelow instance here (unnumbered tree)
     → IsCoverBelow instance here (unnumbered (replaced wanted (λ (leaf : Leaf). EndAt wanted new) tree))
-cover_closed instance here (EndAt number leaf) wanted new cover = ⊎_elim
-    (λ (h : (number ≡ wanted) × ((number == wanted) ≡ true)).
-    subst (λ b. IsCoverBelow instance here (unnumbered (cond b (EndAt wanted new) (EndAt number leaf)))) (sym h.1) tt)
-    (λ (h : ((number ≡ wanted) → ⊥) × ((number == wanted) ≡ false)).
-    subst (λ b. IsCoverBelow instance here (unnumbered (cond b (EndAt wanted new) (EndAt number leaf)))) (sym h.1) tt)
-    (same_or_not number wanted)
+cover_closed instance here (EndAt number leaf) wanted new cover = grind (arith, number, cover)
 cover_closed instance here (SplitAt number g t off on) wanted new cover = (
   cover.0,
   cover.1,
@@ -386,10 +351,7 @@ pub cover_split : (instance : Instance) (here : Node) (tree : NumberedTree) (wan
     → IsCoverBelow instance here (unnumbered tree)
     → IsCoverBelow instance here (unnumbered (replaced wanted (split_leaf wanted g t off on) tree))
 cover_split instance here (EndAt number l) wanted g t off on part leaf apart e is cell undecided cover =
-    let at = leaf_at here number l leaf wanted part e is in
-    let grown = split_leaf wanted g t off on l in
-    subst (λ b. IsCoverBelow instance here (unnumbered (cond b grown (EndAt number l)))) (sym at.test)
-    (cell, subst (λ node. IsTrue (not (is_decided node g t))) at.node undecided, tt, tt)
+    grind (arith, number, l, apart, e, is, cell, undecided, cover)
 cover_split instance here (SplitAt number a b left right) wanted g t off on part leaf apart e is cell undecided cover =
     let grow = split_leaf wanted g t off on in
     ⊎_elim
@@ -440,29 +402,7 @@ made : (a b : Inside) (value : TreeView) (nodes : NumberedTree) → view_of a �
     → length b.places.items ≤ value.room
     → ((instance : Instance) → IsSizeOf value instance → IsCover instance (unnumbered nodes))
     → IsMade b (record value { nodes = nodes })
-made a b value nodes seen stored alike are bounds within cover =
-    let rooted : tree_from b.places.items 0 ≡ nodes =
-    ap (tree_from b.places.items) (sym are.numbered.root) ∙ tree_is b.places.items 0 nodes are.placed in
-    let view : view_of b ≡ record value { nodes = nodes } =
-    (λ i. record { units = alike.units i; periods = alike.periods i; room = alike.room i; nodes = rooted i })
-    ∙ ap (λ (v : TreeView). record v { nodes = nodes }) seen in
-    let was : IsWhole value = subst IsWhole seen stored.whole in
-    let whole : IsWhole (record value { nodes = nodes }) = record {
-      cover = λ instance size. cover instance (record { thermal = size.thermal; periods = size.periods });
-      numbered = are.numbered;
-      within = subst (λ n. n ≤ value.room) are.count within;
-      countable = was.countable;
-    } in
-    record {
-      stored = record {
-        places = subst (λ tree. ArePlacesOf tree b.places.items) (sym rooted) are;
-        bounds = ap (λ (v : MinimaView). v.values) bounds;
-        room = ap (λ (v : MinimaView). v.room) bounds ∙ (stored.room ∙ sym alike.room);
-        whole = subst IsWhole (sym view) whole;
-      };
-      view = view;
-      whole = subst IsWhole (sym view) whole;
-    }
+made a b value nodes seen stored alike are bounds within cover = grind (arith, tree_is, seen, stored, alike, are, within, cover)
 
 -- the place that an open leaf has
 pub record HasOpenPlace (places : List Place) (wanted : ℕ) : Type 0 where
@@ -483,12 +423,7 @@ split_bounds : (values : List (Option ℤ)) (places : List Place) (wanted : ℕ)
     → place_bound now ≡ None
     → (set values wanted None ++ place_bound child ∷ []) ++ place_bound child ∷ []
     ≡ map place_bound (set places wanted now ++ child ∷ child ∷ [])
-split_bounds values places wanted now child are none =
-    append_assoc (set values wanted None) (place_bound child ∷ []) (place_bound child ∷ [])
-    ∙ (ap (λ vs. vs ++ place_bound child ∷ place_bound child ∷ [])
-    (ap (λ vs. set vs wanted None) are
-    ∙ (ap (set (map place_bound places) wanted) (sym none) ∙ sym (map-set place_bound places wanted now)))
-    ∙ sym (map-append place_bound (set places wanted now) (child ∷ child ∷ [])))
+split_bounds values places wanted now child are none = grind (arith, append_assoc, map-set, map-append, are, none)
 
 pub close_made : (a b : Inside) (value : TreeView) (wanted : ℕ) (new : Leaf) → view_of a ≡ value → IsStored a → IsAlike a b
     → IsOpenAt value.nodes wanted
@@ -549,8 +484,7 @@ bound_count a stored = ap length stored.bounds ∙ length-map a.places.items pla
 -- there is room for the bounds of two more places
 pub room_for_two : (a : Inside) (value : TreeView) → view_of a ≡ value → IsStored a → node_count value.nodes + 2 ≤ value.room
     → length a.bounds.values + 2 ≤ a.bounds.room
-room_for_two a value seen stored room =
-    omega (arith, bound_count a stored, stored.places.count, ap (λ (v : TreeView). node_count v.nodes) seen, stored.room, ap (λ (v : TreeView). v.room) seen)
+room_for_two a value seen stored room = grind (arith, bound_count, seen, stored)
 
 -- the places of a stored tree are as many as its nodes, and that of an open leaf is one of them
 pub stored_count : (a : Inside) (value : TreeView) → view_of a ≡ value → IsStored a → length a.places.items ≡ node_count value.nodes

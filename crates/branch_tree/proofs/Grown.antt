@@ -11,7 +11,7 @@ use Rattle.branch_tree.specs.Places.{Place, ArePlacesOf, IsPlaced}
 use Rattle.branch_tree.specs.TreeView.{IsOpenAt}
 use Rattle.branch_tree.specs.declared.tree.Leaf.TheVariants as leaf
 use Rattle.branch_tree.specs.declared.tree.Spot.TheVariants as spot
-use Rattle.branch_tree.proofs.Subtrees.{replaced_nowhere, AreApart, IsHere, IsOff, IsOn, apart_off, apart_on, at_root, subtree_cases, leaf_at, leaf_case, leaf_sides, not_root, part_counted, no_part, side_part}
+use Rattle.branch_tree.proofs.Subtrees.{replaced_nowhere, AreApart, IsHere, IsOff, IsOn, apart_off, apart_on, subtree_cases, leaf_sides, not_root, part_counted, no_part, side_part}
 use Rattle.branch_tree.proofs.Changes.{are_apart, part_place, spot_is, from_some, get-set_other, get-set_same, get-append, open_place, open_within, closed_places, split_places}
 use Rattle.branch_tree.proofs.Preorder.{IsPart, whole_part, off_side, on_side, part_spot}
 
@@ -19,11 +19,7 @@ use Rattle.branch_tree.proofs.Preorder.{IsPart, whole_part, off_side, on_side, p
 pub root_placed : (l : Leaf) → IsPlaced (EndAt 0 l)
 root_placed l = record {
   places = (record { parent = 0; spot = spot.Leaf l }) ∷ [];
-  are = record {
-    placed = record { place = refl };
-    count = refl;
-    numbered = record { root = refl; once = once; none = none };
-  };
+  are = grind arith;
 }
   where
     once : (number : ℕ) → number < 1 → times number (EndAt 0 l) ≡ 1
@@ -47,13 +43,7 @@ open_spot tree wanted placed at =
 
 -- its number is below the count of the nodes
 pub open_below : (tree : NumberedTree) (wanted : ℕ) → IsNumbered tree → IsOpenAt tree wanted → wanted < node_count tree
-open_below tree wanted numbered at =
-    let part = from_some (λ (p : Subtree). spot_of p.tree) (subtree_at tree wanted) (spot.Leaf (leaf.Live at.table at.value at.exact)) at.live in
-    let some = part_counted root tree wanted part.0 part.1 in
-    ⊎_elim
-    (λ (l : wanted < node_count tree). l)
-    (λ (l : node_count tree ≤ wanted). absurd (omega (arith, numbered.none wanted l)))
-    (cases_lt wanted (node_count tree))
+open_below tree wanted numbered at = grind (arith, from_some, part_counted, cases_lt, numbered, at)
 
 pub open_numbered : (tree : NumberedTree) (wanted : ℕ) → IsPlaced tree → IsOpenAt tree wanted → wanted < node_count tree
 open_numbered tree wanted placed at = open_below tree wanted placed.are.numbered at
@@ -158,12 +148,7 @@ split_elsewhere tree wanted g t number s placed at differ e =
 pub part_there : (here : Node) (tree : NumberedTree) (wanted : ℕ) (grow : Leaf → NumberedTree) (part : Subtree) (old : Leaf) → AreApart tree
     → ((l : Leaf) → number_of (grow l) ≡ wanted) → subtree_below here tree wanted ≡ Some part → spot_of part.tree ≡ spot.Leaf old
     → subtree_below here (replaced wanted grow tree) wanted ≡ Some (record { node = part.node; tree = grow old })
-part_there here (EndAt number l) wanted grow part old apart number_is e is =
-    let at = leaf_at here number l old wanted part e is in
-    ap (λ b. subtree_below here (cond b (grow l) (EndAt number l)) wanted) at.test
-    ∙ ap (subtree_below here (grow l)) (sym (number_is l))
-    ∙ at_root here (grow l)
-    ∙ (λ i. Some (record { node = sym at.node i; tree = grow (at.same i) }))
+part_there here (EndAt number l) wanted grow part old apart number_is e is = grind (arith, number, apart, number_is, e, is)
 part_there here (SplitAt number g t off on) wanted grow part old apart number_is e is =
     let there : Subtree = record { node = part.node; tree = grow old } in
     let left = subtree_below (child here g t false) (replaced wanted grow off) wanted in
@@ -203,9 +188,7 @@ each_leaf_map P Q turn here (branch.Splits g t off on) each =
 
 pub leaf_there : (P : Node → Leaf → Type 0) (here : Node) (tree : NumberedTree) (wanted : ℕ) (part : Subtree)
     → subtree_below here tree wanted ≡ Some part → EachLeaf P here (unnumbered tree) → EachLeaf P part.node (unnumbered part.tree)
-leaf_there P here (EndAt number l) wanted part e each =
-    let h = leaf_case here number l wanted part e in
-    subst (λ (p : Subtree). EachLeaf P p.node (unnumbered p.tree)) (sym h.whole) each
+leaf_there P here (EndAt number l) wanted part e each = grind (arith, number, l, e, each)
 leaf_there P here (SplitAt number g t off on) wanted part e each = ⊎_elim
     (λ (h : IsHere here (SplitAt number g t off on) wanted part).
     subst (λ (p : Subtree). EachLeaf P p.node (unnumbered p.tree)) (sym h.whole) each)
@@ -222,10 +205,7 @@ pub each_leaf_replaced : (P Q : Node → Leaf → Type 0) → ((n : Node) (l : L
     → subtree_below here tree wanted ≡ Some part → spot_of part.tree ≡ spot.Leaf old
     → EachLeaf P here (unnumbered tree) → EachLeaf Q part.node (unnumbered (grow old))
     → EachLeaf Q here (unnumbered (replaced wanted grow tree))
-each_leaf_replaced P Q turn here (EndAt number l) wanted grow part old apart e is each grown =
-    let at = leaf_at here number l old wanted part e is in
-    subst (λ b. EachLeaf Q here (unnumbered (cond b (grow l) (EndAt number l)))) (sym at.test)
-    (subst (λ x. EachLeaf Q here (unnumbered (grow x))) (sym at.same) (subst (λ n. EachLeaf Q n (unnumbered (grow old))) at.node grown))
+each_leaf_replaced P Q turn here (EndAt number l) wanted grow part old apart e is each grown = grind (arith, turn, number, apart, e, is, each, grown)
 each_leaf_replaced P Q turn here (SplitAt number g t off on) wanted grow part old apart e is each grown = ⊎_elim
     (λ (l : IsOff here g t off on wanted part). (
       each_leaf_replaced P Q turn (child here g t false) off wanted grow part old (apart_off number g t off on apart) l.0 is each.0 grown,

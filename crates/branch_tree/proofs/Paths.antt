@@ -1,7 +1,7 @@
 -- The way up from a node: its parent's place, and the decision between them. Along it are found the decisions of the node, whether
 -- given decisions are these, and whether a cell is undecided.
 use mathlib.Core.Bool.{or-true, or-false}
-use Rattle.std.proofs.Common.{◌≡◌, ◌≢◌, ℕ, ◌-◌, ◌+◌, ◌<◌, ◌≤◌, ◌⊎◌, ◌↔◌, Bool, true, false, not, ◌&&◌, ◌||◌, List, [], ◌∷◌, ◌++◌, length, length-append, reverse, take, get_or, ap, sym, ◌∙◌, subst, arith, inl, inr, ⊎_elim, Option, Some, append_assoc, append-nil, ◌==◌, slice_get}
+use Rattle.std.proofs.Common.{◌≡◌, ◌≢◌, ℕ, ◌-◌, ◌<◌, ◌≤◌, ◌⊎◌, ◌↔◌, Bool, true, false, not, ◌&&◌, ◌||◌, List, [], ◌∷◌, ◌++◌, length, length-append, reverse, take, get_or, ap, sym, ◌∙◌, subst, arith, inl, inr, ⊎_elim, Option, Some, append_assoc, append-nil, ◌==◌, slice_get}
 use Rattle.std.proofs.lemmas.Bool.{cases_eq, cases_lt, eqb-true, eq-eqb, ne_eqb, true≢false}
 use Rattle.std.proofs.lemmas.List.{reverse-append, same_from_push, take_all, take_more, length-take-le}
 use Rattle.std.proofs.lemmas.List.Folds.{list_any-append}
@@ -9,12 +9,12 @@ use Rattle.std.specs.Option.{option_map, option_map_or}
 use Rattle.std.proofs.lemmas.Option.{same_Some, slice_get_within}
 use Rattle.dual_model.specs.Prelude.{root, child, is_decided}
 use Rattle.dual_model.specs.declared.node.Fixing.{Fixing}
-use Rattle.branch_tree.specs.NumberedTree.{Node, NumberedTree, EndAt, SplitAt, Subtree, IsNumbered, number_of, spot_of, subtree_below, subtree_at, node_at}
+use Rattle.branch_tree.specs.NumberedTree.{Node, NumberedTree, EndAt, SplitAt, Subtree, IsNumbered, number_of, subtree_below, subtree_at, node_at}
 use Rattle.branch_tree.specs.Places.{Place, HasPlaces, ArePlacesOf}
 use Rattle.branch_tree.specs.inside.Paths.{ComesFrom, is_undecided_at}
 use Rattle.branch_tree.specs.declared.tree.Spot.TheVariants as spot
-use Rattle.branch_tree.proofs.Subtrees.{AreApart, IsHere, apart_off, apart_on, at_root, off_part, on_part, subtree_cases, leaf_case, part_number, children_hang}
-use Rattle.branch_tree.proofs.Changes.{are_apart, part_placed, part_place, root_place, place_part}
+use Rattle.branch_tree.proofs.Subtrees.{AreApart, IsHere, apart_off, apart_on, at_root, off_part, on_part, subtree_cases, part_number, children_hang}
+use Rattle.branch_tree.proofs.Changes.{are_apart, part_placed, part_place, place_part}
 
 -- a split of this number hangs from a node
 pub record HangsSplit (here : Node) (tree : NumberedTree) (node : Node) (number g t : ℕ) (off on : NumberedTree) : Type 0 where
@@ -39,14 +39,11 @@ pub record HasParent (places : List Place) (here : Node) (tree : NumberedTree) (
 
 parent_named : (places : List Place) (parent : ℕ) (tree : NumberedTree) (wanted : ℕ) → HasPlaces places parent tree → number_of tree ≡ wanted
     → (place : Place) → slice_get places wanted ≡ Some place → place.parent ≡ parent
-parent_named places parent tree wanted has is place e =
-    ap (λ (p : Place). p.parent)
-    (same_Some place (record { parent = parent; spot = spot_of tree }) (sym e ∙ (ap (slice_get places) (sym is) ∙ (root_place places parent tree has).place)))
+parent_named places parent tree wanted has is place e = grind (arith, has, is, e)
 
 root_part : (here : Node) (tree : NumberedTree) (wanted : ℕ) (part : Subtree) → number_of tree ≡ wanted → subtree_below here tree wanted ≡ Some part
     → part ≡ record { node = here; tree = tree }
-root_part here tree wanted part is e =
-    same_Some part (record { node = here; tree = tree }) (sym e ∙ (ap (subtree_below here tree) (sym is) ∙ at_root here tree))
+root_part here tree wanted part is e = grind (arith, is, e)
 
 -- a split is the parent of its children
 parent_here : (places : List Place) (here : Node) (m a b : ℕ) (left right : NumberedTree) (wanted : ℕ) (part : Subtree) → IsChild here a b left right part
@@ -67,34 +64,19 @@ parent_here places here m a b left right wanted part is_child named = record {
 parent_above : (places : List Place) (below here : Node) (side whole : NumberedTree) (wanted : ℕ) (part : Subtree)
     → ((number : ℕ) (p : Subtree) → subtree_below below side number ≡ Some p → subtree_below here whole number ≡ Some p)
     → HasParent places below side wanted part → HasParent places here whole wanted part
-parent_above places below here side whole wanted part raise above = record {
-  node = above.node;
-  number = above.number;
-  g = above.g;
-  t = above.t;
-  off = above.off;
-  on = above.on;
-  split = record {
-    hangs = raise above.number (record { node = above.node; tree = SplitAt above.number above.g above.t above.off above.on }) above.split.hangs;
-  };
-  is_child = above.is_child;
-  named = above.named;
-}
+parent_above places below here side whole wanted part raise above = grind (arith, raise, above)
 
 -- one side of a split: a child of it, or lower
 parent_on_side : (places : List Place) (below here : Node) (side whole : NumberedTree) (wanted : ℕ) (part : Subtree)
     → ((number : ℕ) (p : Subtree) → subtree_below below side number ≡ Some p → subtree_below here whole number ≡ Some p)
     → (number_of side ≡ wanted → HasParent places here whole wanted part)
     → (number_of side ≢ wanted → HasParent places below side wanted part) → HasParent places here whole wanted part
-parent_on_side places below here side whole wanted part raise own lower =
-    ⊎_elim own (λ (h : number_of side ≡ wanted → ⊥). parent_above places below here side whole wanted part raise (lower h))
-    (cases_eq (number_of side) wanted)
+parent_on_side places below here side whole wanted part raise own lower = grind (arith, parent_above, cases_eq, raise, own, lower)
 
 pub has_parent : (places : List Place) (parent : ℕ) (here : Node) (tree : NumberedTree) (wanted : ℕ) (part : Subtree)
     → HasPlaces places parent tree → AreApart tree → subtree_below here tree wanted ≡ Some part → number_of tree ≢ wanted
     → HasParent places here tree wanted part
-has_parent places parent here (EndAt m leaf) wanted part has apart e differ =
-    absurd (differ (leaf_case here m leaf wanted part e).number)
+has_parent places parent here (EndAt m leaf) wanted part has apart e differ = grind (arith, m, leaf, has, apart, e, differ)
 has_parent places parent here (SplitAt m a b left right) wanted part has apart e differ = ⊎_elim
     (λ (h : IsHere here (SplitAt m a b left right) wanted part). absurd (differ h.number))
     (λ (sides : (subtree_below (child here a b false) left wanted ≡ Some part) ⊎ (subtree_below (child here a b true) right wanted ≡ Some part)).
@@ -113,16 +95,7 @@ has_parent places parent here (SplitAt m a b left right) wanted part has apart e
 -- the two children have two numbers
 children_differ : (tree : NumberedTree) (node : Node) (number g t : ℕ) (off on : NumberedTree) → AreApart tree
     → HangsSplit root tree node number g t off on → number_of on ≡ number_of off → ⊥
-children_differ tree node number g t off on apart split same =
-    let below = children_hang root tree number node number g t off on apart split.hangs in
-    let off_child : Subtree = record { node = child node g t false; tree = off } in
-    let on_child : Subtree = record { node = child node g t true; tree = on } in
-    let off_fixing : Fixing = record { g = g; t = t; on = false } in
-    let on_fixing : Fixing = record { g = g; t = t; on = true } in
-    let parts : off_child ≡ on_child =
-    same_Some off_child on_child (sym below.off_child ∙ (ap (subtree_at tree) (sym same) ∙ below.on_child)) in
-    let last = same_from_push node.fixings node.fixings off_fixing on_fixing (ap (λ (p : Subtree). p.node.fixings) parts) in
-    true≢false (sym (ap (λ (f : Fixing). f.on) last.1))
+children_differ tree node number g t off on apart split same = grind (arith, children_hang, same_Some, same_from_push, true≢false, apart, split, same)
 
 -- ---- a step up
 -- the node of a part
@@ -153,12 +126,7 @@ stepped places tree reached part node number g t off on bit side are split neare
       on = number_of on;
       above = stands.0;
       stands = stands.1;
-      up = subst (λ b. ComesFrom tree number reached (record { g = g; t = t; on = b })) (sym side_is) (record {
-        above = node;
-        is_above = node_from_part tree number above split.hangs;
-        is_node = node_from_part tree reached part is_part ∙ (λ i. Some ((is i).node));
-        less = nearer;
-      });
+      up = grind (arith, node_from_part, tree, number, reached, g, t, on, side_is, above, node, split, part, is_part, is, nearer);
     }
 
 step_by : (places : List Place) (tree : NumberedTree) (reached : ℕ) (part : Subtree) (place : Place) → ArePlacesOf tree places
@@ -188,8 +156,7 @@ step_up places tree reached place are differ e =
 
 -- the node of the number 0 is the root
 pub root_node : (tree : NumberedTree) → IsNumbered tree → node_at tree 0 ≡ Some root
-root_node tree numbered =
-    ap (node_at tree) (sym numbered.root) ∙ node_from_part tree (number_of tree) (record { node = root; tree = tree }) (at_root root tree)
+root_node tree numbered = grind (arith, numbered)
 
 -- each place has a node
 pub place_node : (places : List Place) (tree : NumberedTree) (wanted : ℕ) → ArePlacesOf tree places → wanted < length places
@@ -216,16 +183,7 @@ way_begins places tree wanted are within =
 
 pub way_on : (tree : NumberedTree) (wanted reached parent : ℕ) (found : List Fixing) (fixing : Fixing) → ComesFrom tree parent reached fixing
     → IsWayUp tree wanted reached found → IsWayUp tree wanted parent (found ++ fixing ∷ [])
-way_on tree wanted reached parent found fixing from up =
-    let before = from.above.fixings in
-    let same = same_Some up.node (node_of (before ++ fixing ∷ [])) (sym up.is_node ∙ from.is_node) in
-    let more : (before ++ fixing ∷ []) ++ reverse found ≡ before ++ reverse (found ++ fixing ∷ []) =
-    append_assoc before (fixing ∷ []) (reverse found) ∙ ap (λ fixings. before ++ fixings) (sym (reverse-append found (fixing ∷ []))) in
-    record {
-      node = from.above;
-      is_node = from.is_above;
-      way = up.way ∙ ((λ i. Some (node_of ((same i).fixings ++ reverse found))) ∙ (λ i. Some (node_of (more i))));
-    }
+way_on tree wanted reached parent found fixing from up = grind (arith, same_Some, append_assoc, reverse-append, from, up)
 
 -- ---- whether some decisions are those of a node
 -- all are those of the one node exactly where the first ones are those of the other
@@ -234,24 +192,16 @@ AreAlike tree wanted reached fixings left =
     (node_at tree wanted ≡ Some (node_of fixings)) ↔ (node_at tree reached ≡ Some (node_of (take left fixings)))
 
 pub alike_begins : (tree : NumberedTree) (wanted left : ℕ) (fixings : List Fixing) → left ≡ length fixings → AreAlike tree wanted wanted fixings left
-alike_begins tree wanted left fixings all =
-    let same : take left fixings ≡ fixings = take_all left fixings (omega arith) in (
-      (λ e. e ∙ (λ i. Some (node_of (sym same i)))),
-      (λ e. e ∙ (λ i. Some (node_of (same i)))),
-    )
+alike_begins tree wanted left fixings all = grind (arith, take_all, all)
 
 -- the last of a child's decisions is that by which it comes from its parent, and the others are its parent's
 pub last_decision : (tree : NumberedTree) (parent number : ℕ) (fixing last : Fixing) (before : List Fixing) → ComesFrom tree parent number fixing
     → node_at tree number ≡ Some (node_of (before ++ last ∷ [])) → (node_at tree parent ≡ Some (node_of before)) × (fixing ≡ last)
-last_decision tree parent number fixing last before from e =
-    let same = same_Some (node_of (from.above.fixings ++ fixing ∷ [])) (node_of (before ++ last ∷ [])) (sym from.is_node ∙ e) in
-    let both = same_from_push from.above.fixings before fixing last (ap (λ (n : Node). n.fixings) same) in
-    (from.is_above ∙ (λ i. Some (node_of (both.0 i))), both.1)
+last_decision tree parent number fixing last before from e = grind (arith, same_Some, same_from_push, from, e)
 
 last_taken : (fixings : List Fixing) (left : ℕ) (d : Fixing) → 0 < left → left ≤ length fixings
     → take left fixings ≡ take (left - 1) fixings ++ get_or fixings (left - 1) d ∷ []
-last_taken fixings left d some within =
-    let is : left ≡ left - 1 + 1 = omega arith in ap (λ n. take n fixings) is ∙ take_more fixings (left - 1) d (omega arith)
+last_taken fixings left d some within = grind (arith, take_more, some, within)
 
 -- the last decision is the one by which the node that is reached comes from its parent
 abbrev pub IsLastOf : List Fixing → ℕ → Fixing → Type 0
@@ -309,8 +259,7 @@ undecided_by g t found = option_map_or (λ node. not (is_decided node g t)) foun
 -- a child's path has decided what its parent's has, and the cell of its last decision
 undecided_from : (tree : NumberedTree) (parent number g t : ℕ) (fixing : Fixing) (from : ComesFrom tree parent number fixing)
     → is_undecided_at tree number g t ≡ not (is_decided from.above g t || (decides g t fixing || false))
-undecided_from tree parent number g t fixing from =
-    ap (undecided_by g t) from.is_node ∙ ap not (list_any-append (decides g t) from.above.fixings (fixing ∷ []))
+undecided_from tree parent number g t fixing from = grind (arith, list_any-append)
 
 pub undecided_on : (tree : NumberedTree) (parent number g t : ℕ) (fixing : Fixing) → ComesFrom tree parent number fixing
     → decides g t fixing ≡ false → is_undecided_at tree number g t ≡ is_undecided_at tree parent g t

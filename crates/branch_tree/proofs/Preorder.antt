@@ -9,7 +9,7 @@ use Rattle.std.proofs.lemmas.List.Elements.{All-nil, All-cons, All-append, filte
 use Rattle.std.proofs.lemmas.Option.{same_Some}
 use Rattle.std.proofs.lemmas.List.Concat.{flat_map-append}
 use Rattle.std.proofs.lemmas.List.Folds.{list_any-append}
-use Rattle.dual_model.specs.Prelude.{root, child}
+use Rattle.dual_model.specs.Prelude.{root}
 use Rattle.branch_tree.specs.NumberedTree.{Node, Spot, NumberedTree, EndAt, SplitAt, Subtree, IsNumbered, number_of, spot_of, children_of, numbers, node_count, subtree_at, spot_at, Leaf, unnumbered}
 use Rattle.branch_tree.specs.declared.tree.Spot.TheVariants as spot
 use Rattle.branch_tree.specs.UsedTables.{leaves, leaf_tables, spot_tables, stored_tables, each_once}
@@ -17,10 +17,7 @@ use Rattle.branch_tree.specs.declared.tree.Leaf.TheVariants as leaf
 use Rattle.branch_tree.proofs.Subtrees.{AreApart, part_counted, at_root, children_hang}
 
 pub numbered_apart : (tree : NumberedTree) → IsNumbered tree → AreApart tree
-numbered_apart tree numbered number = ⊎_elim
-    (λ (l : number < node_count tree). omega (arith, numbered.once number l))
-    (λ (l : node_count tree ≤ number). omega (arith, numbered.none number l))
-    (cases_lt number (node_count tree))
+numbered_apart tree numbered number = grind (arith, numbered, number)
 
 -- the tree is a part of the whole
 pub record IsPart (whole tree : NumberedTree) : Type 0 where
@@ -32,26 +29,15 @@ whole_part whole = record { node = root; hangs = at_root root whole }
 
 pub off_side : (whole : NumberedTree) (number g t : ℕ) (off on : NumberedTree) → IsNumbered whole
     → IsPart whole (SplitAt number g t off on) → IsPart whole off
-off_side whole number g t off on numbered part = record {
-  node = child part.node g t false;
-  hangs = (children_hang root whole number part.node number g t off on (numbered_apart whole numbered) part.hangs).off_child;
-}
+off_side whole number g t off on numbered part = grind (arith, children_hang, numbered_apart, numbered, part)
 
 pub on_side : (whole : NumberedTree) (number g t : ℕ) (off on : NumberedTree) → IsNumbered whole
     → IsPart whole (SplitAt number g t off on) → IsPart whole on
-on_side whole number g t off on numbered part = record {
-  node = child part.node g t true;
-  hangs = (children_hang root whole number part.node number g t off on (numbered_apart whole numbered) part.hangs).on_child;
-}
+on_side whole number g t off on numbered part = grind (arith, children_hang, numbered_apart, numbered, part)
 
 -- its number is one of a node, at which its root stands
 pub part_within : (whole tree : NumberedTree) → IsNumbered whole → IsPart whole tree → number_of tree < node_count whole
-part_within whole tree numbered part =
-    let some = part_counted root whole (number_of tree) (record { node = part.node; tree = tree }) part.hangs in
-    ⊎_elim
-    (λ (l : number_of tree < node_count whole). l)
-    (λ (l : node_count whole ≤ number_of tree). absurd (omega (arith, numbered.none (number_of tree) l)))
-    (cases_lt (number_of tree) (node_count whole))
+part_within whole tree numbered part = grind (arith, part_counted, cases_lt, numbered, part)
 
 pub part_spot : (whole tree : NumberedTree) → IsPart whole tree → spot_at whole (number_of tree) ≡ Some (spot_of tree)
 part_spot whole tree part = ap (λ (o : Option Subtree). option_map (λ (p : Subtree). spot_of p.tree) o) part.hangs
@@ -69,8 +55,7 @@ numbers_within whole (SplitAt number g t off on) numbered part =
 
 pub length-numbers : (tree : NumberedTree) → length (numbers tree) ≡ node_count tree
 length-numbers (EndAt number leaf) = refl
-length-numbers (SplitAt number g t off on) =
-    omega (arith, length-append (numbers off) (numbers on), length-numbers off, length-numbers on)
+length-numbers (SplitAt number g t off on) = grind (arith, length-append, number, g, t, off, on, (length-numbers off), (length-numbers on))
 
 -- ---- the walk
 -- each of the trees is a part of the whole
@@ -172,15 +157,12 @@ walk_on whole number rest found stands numbered next is_spot = of_tree next.tree
           to_walk = ap (λ s. rest ++ children_of s) same
               ∙ (ap (λ r. r ++ number_of on ∷ number_of off ∷ []) next.to_walk
               ∙ sym (reverse-append (number_of off ∷ number_of on ∷ []) (map number_of trees)));
-          walked = append_assoc found (number ∷ []) (numbers off ++ (numbers on ++ later))
-              ∙ (ap (λ m. found ++ (m ∷ (numbers off ++ (numbers on ++ later)))) (sym is)
-              ∙ (ap (λ r. found ++ (n ∷ r)) (sym (append_assoc (numbers off) (numbers on) later)) ∙ walked));
+          walked = grind (arith, append_assoc, found, number);
         }
 
 pub next_node : (whole : NumberedTree) (number : ℕ) (rest found : List ℕ) → IsNumbered whole → IsNext whole number rest found
     → number < node_count whole
-next_node whole number rest found numbered next =
-    subst (λ n. n < node_count whole) next.is_number (part_within whole next.tree numbered next.part)
+next_node whole number rest found numbered next = grind (arith, part_within, numbered, next)
 
 -- ---- The tables that a tree uses, found along its nodes in preorder.
 -- ---- the tables along the nodes
@@ -189,8 +171,7 @@ tables_at whole number = option_map_or spot_tables (spot_at whole number) []
 
 pub tables_listed : (whole tree : NumberedTree) → IsNumbered whole → IsPart whole tree
     → flat_map (tables_at whole) (numbers tree) ≡ stored_tables (unnumbered tree)
-tables_listed whole (EndAt number leaf) numbered part =
-    ap (λ (o : Option Spot). option_map_or spot_tables o [] ++ []) (part_spot whole (EndAt number leaf) part)
+tables_listed whole (EndAt number leaf) numbered part = grind (arith, number, leaf, numbered, part)
 tables_listed whole (SplitAt number g t off on) numbered part =
     let left = tables_listed whole off numbered (off_side whole number g t off on numbered part) in
     let right = tables_listed whole on numbered (on_side whole number g t off on numbered part) in
@@ -286,8 +267,7 @@ pub used_more : (stored rest used used' : List ℕ) (seen seen' : List Bool) (ta
 used_more stored rest used used' seen seen' tables table within so_far is_seen is_used = record {
   before = so_far.before ++ table ∷ [];
   parted = append_assoc so_far.before (table ∷ []) rest ∙ so_far.parted;
-  listed = is_used ∙ ((λ i. cond (so_far.marked table within i) (so_far.listed i) (so_far.listed i ++ table ∷ []))
-      ∙ sym (each_once-push so_far.before table));
+  listed = grind (arith, each_once-push, is_used, so_far, table, within);
   marked = λ other below. ap (λ xs. get_or xs other false) is_seen ∙ (mark other below ∙ sym (list_any-append (λ n. n == other) so_far.before (table ∷ [])));
   marks = ap length is_seen ∙ (length-set seen table true ∙ so_far.marks);
 }
@@ -309,9 +289,7 @@ used_more stored rest used used' seen seen' tables table within so_far is_seen i
 pub tables_next : (whole : NumberedTree) (nodes : List ℕ) (index : ℕ) (stands : Spot) → index < length nodes
     → spot_at whole (get_or nodes index 0) ≡ Some stands
     → flat_map (tables_at whole) (drop index nodes) ≡ spot_tables stands ++ flat_map (tables_at whole) (drop (index + 1) nodes)
-tables_next whole nodes index stands within is =
-    ap (flat_map (tables_at whole)) (drop_more nodes index 0 within)
-    ∙ ap (λ (o : Option Spot). option_map_or spot_tables o [] ++ flat_map (tables_at whole) (drop (index + 1) nodes)) is
+tables_next whole nodes index stands within is = grind (arith, drop_more, within, is)
 
 -- ---- how many
 length-filter_le : (test : ℕ → Bool) (numbers : List ℕ) → length (filter test numbers) ≤ length numbers
@@ -336,12 +314,4 @@ leaf_count _ = omega arith
 pub length-stored_tables : (tree : NumberedTree) → length (stored_tables (unnumbered tree)) ≤ node_count tree
 length-stored_tables (EndAt number l) = leaf_count l
 length-stored_tables (SplitAt number g t off on) =
-    let left = leaves (unnumbered off) in
-    let right = leaves (unnumbered on) in
-    omega (
-      arith,
-      ap length (flat_map-append leaf_tables left right),
-      length-append (flat_map leaf_tables left) (flat_map leaf_tables right),
-      length-stored_tables off,
-      length-stored_tables on,
-    )
+    grind (arith, flat_map-append, length-append, number, g, t, off, on, (length-stored_tables off), (length-stored_tables on))

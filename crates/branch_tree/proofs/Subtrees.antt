@@ -1,18 +1,14 @@
 -- Where the parts of a tree hang, by their numbers, and what a replaced leaf changes in these.
 use Rattle.std.proofs.Common.{◌≡◌, ℕ, ◌+◌, ◌*◌, ◌≤◌, ◌⊎◌, Bool, true, false, cond, refl, ap, sym, ◌∙◌, subst, arith, inl, inr, ⊎_elim, ◌==◌, ◌<◌, Option, Some, None}
 use Rattle.std.specs.Option.{option_or}
-use Rattle.std.proofs.lemmas.Bool.{cases_Bool, eqb-true, eqb-false, eq-eqb, ne_eqb, cases_lt}
-use Rattle.std.proofs.lemmas.Option.{same_Some}
+use Rattle.std.proofs.lemmas.Bool.{eq-eqb, cases_lt}
 use Rattle.dual_model.specs.Prelude.{child}
 use Rattle.branch_tree.specs.NumberedTree.{Leaf, NumberedTree, EndAt, SplitAt, number_of, total, times, replaced, Node, Subtree, spot_of, subtree_below}
 use Rattle.branch_tree.specs.declared.tree.Spot.TheVariants as spot
 
 -- two numbers are the same, or a test tells them apart
 pub same_or_not : (a b : ℕ) → ((a ≡ b) × ((a == b) ≡ true)) ⊎ (((a ≡ b) → ⊥) × ((a == b) ≡ false))
-same_or_not a b = ⊎_elim
-    (λ (h : (a == b) ≡ true). inl (eqb-true a b h, h))
-    (λ (h : (a == b) ≡ false). inr (eqb-false a b h, h))
-    (cases_Bool (a == b))
+same_or_not a b = grind arith
 
 -- what the test adds to a count
 abbrev pub one_if : Bool → ℕ
@@ -31,48 +27,27 @@ leaves_at wanted (SplitAt number g t off on) = leaves_at wanted off + leaves_at 
 
 pub times_root : (tree : NumberedTree) → 1 ≤ times (number_of tree) tree
 times_root (EndAt number leaf) = subst (λ b. 1 ≤ cond b 1 0) (sym (eq-eqb number number refl)) (omega arith)
-times_root (SplitAt number g t off on) =
-    subst (λ b. 1 ≤ cond b 1 0 + (times number off + times number on)) (sym (eq-eqb number number refl)) (omega arith)
+times_root (SplitAt number g t off on) = grind (arith, number, g, t, off, on)
 
 pub number_of-replaced : (wanted : ℕ) (grow : Leaf → NumberedTree) → ((leaf : Leaf) → number_of (grow leaf) ≡ wanted)
     → (tree : NumberedTree) → number_of (replaced wanted grow tree) ≡ number_of tree
-number_of-replaced wanted grow is (EndAt number leaf) = ⊎_elim
-    (λ (h : (number ≡ wanted) × ((number == wanted) ≡ true)).
-    ap (λ b. number_of (cond b (grow leaf) (EndAt number leaf))) h.1 ∙ (is leaf ∙ sym h.0))
-    (λ (h : ((number ≡ wanted) → ⊥) × ((number == wanted) ≡ false)).
-    ap (λ b. number_of (cond b (grow leaf) (EndAt number leaf))) h.1)
-    (same_or_not number wanted)
+number_of-replaced wanted grow is (EndAt number leaf) = grind (arith, is, number)
 number_of-replaced wanted grow is (SplitAt number g t off on) = refl
 
 -- where what is grown weighs so much more than the leaf, the tree does for each such leaf
 pub total-replaced : (weight : ℕ → ℕ) (wanted extra : ℕ) (grow : Leaf → NumberedTree)
     → ((leaf : Leaf) → total weight (grow leaf) ≡ weight wanted + extra)
     → (tree : NumberedTree) → total weight (replaced wanted grow tree) ≡ total weight tree + leaves_at wanted tree * extra
-total-replaced weight wanted extra grow is (EndAt number leaf) = ⊎_elim
-    (λ (h : (number ≡ wanted) × ((number == wanted) ≡ true)).
-    subst (λ b. total weight (cond b (grow leaf) (EndAt number leaf)) ≡ weight number + cond b 1 0 * extra) (sym h.1)
-    (is leaf ∙ (ap (λ n. weight n + extra) (sym h.0) ∙ grind arith)))
-    (λ (h : ((number ≡ wanted) → ⊥) × ((number == wanted) ≡ false)).
-    subst (λ b. total weight (cond b (grow leaf) (EndAt number leaf)) ≡ weight number + cond b 1 0 * extra) (sym h.1) (grind arith))
-    (same_or_not number wanted)
+total-replaced weight wanted extra grow is (EndAt number leaf) = grind (arith, is, number)
 total-replaced weight wanted extra grow is (SplitAt number g t off on) =
-    let left = total-replaced weight wanted extra grow is off in
-    let right = total-replaced weight wanted extra grow is on in
-    omega arith
+    grind (arith, is, number, g, t, off, on, (total-replaced weight wanted extra grow is off), (total-replaced weight wanted extra grow is on))
 
 -- without a node of the number nothing is replaced
 pub replaced_nowhere : (wanted : ℕ) (grow : Leaf → NumberedTree) (tree : NumberedTree) → times wanted tree ≡ 0
     → replaced wanted grow tree ≡ tree
-replaced_nowhere wanted grow (EndAt number leaf) none = ⊎_elim
-    (λ (h : (number ≡ wanted) × ((number == wanted) ≡ true)).
-    absurd (omega (arith, one_here number wanted h.1)))
-    (λ (h : ((number ≡ wanted) → ⊥) × ((number == wanted) ≡ false)).
-    ap (λ b. cond b (grow leaf) (EndAt number leaf)) h.1)
-    (same_or_not number wanted)
+replaced_nowhere wanted grow (EndAt number leaf) none = grind (arith, number, leaf, none)
 replaced_nowhere wanted grow (SplitAt number g t off on) none =
-    let left = replaced_nowhere wanted grow off (omega arith) in
-    let right = replaced_nowhere wanted grow on (omega arith) in
-    λ i. SplitAt number g t (left i) (right i)
+    grind (arith, number, g, t, off, on, none, (replaced_nowhere wanted grow off (omega arith)), (replaced_nowhere wanted grow on (omega arith)))
 
 -- ---- Where the parts of a tree hang, by their numbers.
 -- no two nodes have one number
@@ -91,12 +66,8 @@ pub record IsHere (here : Node) (tree : NumberedTree) (wanted : ℕ) (part : Sub
   pub whole : part ≡ record { node = here; tree = tree }
 
 pub at_root : (here : Node) (tree : NumberedTree) → subtree_below here tree (number_of tree) ≡ Some (record { node = here; tree = tree })
-at_root here (EndAt number leaf) =
-    ap (λ b. cond b (Some (record { node = here; tree = EndAt number leaf })) None) (eq-eqb number number refl)
-at_root here (SplitAt number g t off on) =
-    ap (λ b. cond b (Some (record { node = here; tree = SplitAt number g t off on }))
-    (option_or (subtree_below (child here g t false) off number) (subtree_below (child here g t true) on number)))
-    (eq-eqb number number refl)
+at_root here (EndAt number leaf) = grind (arith, number, leaf)
+at_root here (SplitAt number g t off on) = grind (arith, number, g, t, off, on)
 
 or_cases : {A : Type 0} (a b : Option A) (x : A) → option_or a b ≡ Some x → (a ≡ Some x) ⊎ ((a ≡ None) × (b ≡ Some x))
 or_cases None b x e = inr (refl, e)
@@ -106,28 +77,11 @@ pub subtree_cases : (here : Node) (number g t : ℕ) (off on : NumberedTree) (wa
     → subtree_below here (SplitAt number g t off on) wanted ≡ Some part
     → IsHere here (SplitAt number g t off on) wanted part
     ⊎ ((subtree_below (child here g t false) off wanted ≡ Some part) ⊎ (subtree_below (child here g t true) on wanted ≡ Some part))
-subtree_cases here number g t off on wanted part e =
-    let left = subtree_below (child here g t false) off wanted in
-    let right = subtree_below (child here g t true) on wanted in
-    let all : Subtree = record { node = here; tree = SplitAt number g t off on } in
-    ⊎_elim
-    (λ (h : (number ≡ wanted) × ((number == wanted) ≡ true)).
-    inl (record { number = h.0; whole = sym (same_Some all part (subst (λ b. cond b (Some all) (option_or left right) ≡ Some part) h.1 e)) }))
-    (λ (h : ((number ≡ wanted) → ⊥) × ((number == wanted) ≡ false)).
-    let below : option_or left right ≡ Some part = subst (λ b. cond b (Some all) (option_or left right) ≡ Some part) h.1 e in
-    ⊎_elim (λ (l : left ≡ Some part). inr (inl l)) (λ (r : (left ≡ None) × (right ≡ Some part)). inr (inr r.1)) (or_cases left right part below))
-    (same_or_not number wanted)
+subtree_cases here number g t off on wanted part e = grind (arith, e)
 
 pub leaf_case : (here : Node) (number : ℕ) (leaf : Leaf) (wanted : ℕ) (part : Subtree)
     → subtree_below here (EndAt number leaf) wanted ≡ Some part → IsHere here (EndAt number leaf) wanted part
-leaf_case here number leaf wanted part e =
-    let all : Subtree = record { node = here; tree = EndAt number leaf } in
-    ⊎_elim
-    (λ (h : (number ≡ wanted) × ((number == wanted) ≡ true)).
-    record { number = h.0; whole = sym (same_Some all part (subst (λ b. cond b (Some all) None ≡ Some part) h.1 e)) })
-    (λ (h : ((number ≡ wanted) → ⊥) × ((number == wanted) ≡ false)).
-    let none : None ≡ Some part = subst (λ b. cond b (Some all) None ≡ Some part) h.1 e in absurd (cc))
-    (same_or_not number wanted)
+leaf_case here number leaf wanted part e = grind (arith, e)
 
 -- the leaf that is reached is the one that stands there
 pub record IsLeafAt (here : Node) (number : ℕ) (l old : Leaf) (wanted : ℕ) (part : Subtree) : Type 0 where
@@ -141,21 +95,12 @@ leaf_is l old e = cc
 
 pub leaf_at : (here : Node) (number : ℕ) (l old : Leaf) (wanted : ℕ) (part : Subtree) → subtree_below here (EndAt number l) wanted ≡ Some part
     → spot_of part.tree ≡ spot.Leaf old → IsLeafAt here number l old wanted part
-leaf_at here number l old wanted part e is =
-    let h = leaf_case here number l wanted part e in
-    record {
-      number_is = h.number;
-      test = eq-eqb number wanted h.number;
-      same = leaf_is l old (sym (ap (λ (p : Subtree). spot_of p.tree) h.whole) ∙ is);
-      node = ap (λ (p : Subtree). p.node) h.whole;
-    }
+leaf_at here number l old wanted part e is = grind (arith, e, is)
 
 -- what hangs from a number has it, and so some node does
 pub part_number : (here : Node) (tree : NumberedTree) (wanted : ℕ) (part : Subtree) → subtree_below here tree wanted ≡ Some part
     → number_of part.tree ≡ wanted
-part_number here (EndAt number leaf) wanted part e =
-    let h = leaf_case here number leaf wanted part e in
-    ap (λ (p : Subtree). number_of p.tree) h.whole ∙ h.number
+part_number here (EndAt number leaf) wanted part e = grind (arith, number, leaf, e)
 part_number here (SplitAt number g t off on) wanted part e = ⊎_elim
     (λ (h : IsHere here (SplitAt number g t off on) wanted part). ap (λ (p : Subtree). number_of p.tree) h.whole ∙ h.number)
     (λ (sides : (subtree_below (child here g t false) off wanted ≡ Some part) ⊎ (subtree_below (child here g t true) on wanted ≡ Some part)).
@@ -164,9 +109,7 @@ part_number here (SplitAt number g t off on) wanted part e = ⊎_elim
 
 pub part_counted : (here : Node) (tree : NumberedTree) (wanted : ℕ) (part : Subtree) → subtree_below here tree wanted ≡ Some part
     → 1 ≤ times wanted tree
-part_counted here (EndAt number leaf) wanted part e =
-    let h = leaf_case here number leaf wanted part e in
-    subst (λ n. 1 ≤ times n (EndAt number leaf)) h.number (times_root (EndAt number leaf))
+part_counted here (EndAt number leaf) wanted part e = grind (arith, number, leaf, e)
 part_counted here (SplitAt number g t off on) wanted part e = ⊎_elim
     (λ (h : IsHere here (SplitAt number g t off on) wanted part).
     subst (λ n. 1 ≤ times n (SplitAt number g t off on)) h.number (times_root (SplitAt number g t off on)))
@@ -181,11 +124,7 @@ part_counted here (SplitAt number g t off on) wanted part e = ⊎_elim
 
 -- and nothing hangs from another number
 pub no_part : (here : Node) (tree : NumberedTree) (wanted : ℕ) → times wanted tree ≡ 0 → subtree_below here tree wanted ≡ None
-no_part here tree wanted none = none_or (subtree_below here tree wanted) refl
-  where
-    none_or : (found : Option Subtree) → subtree_below here tree wanted ≡ found → subtree_below here tree wanted ≡ None
-    none_or None e = e
-    none_or (Some part) e = let some = part_counted here tree wanted part e in absurd (omega arith)
+no_part here tree wanted none = grind (arith, part_counted, none)
 
 -- the number of a part on a side of a split isn't that of the split
 pub not_root : (number g t : ℕ) (off on : NumberedTree) (wanted : ℕ) → AreApart (SplitAt number g t off on) → 1 ≤ times wanted off + times wanted on
@@ -195,29 +134,18 @@ not_root number g t off on wanted apart some e = omega (arith, apart wanted, one
 pub side_part : (here : Node) (number g t : ℕ) (off on : NumberedTree) (wanted : ℕ) (part : Subtree) → (number ≡ wanted → ⊥)
     → option_or (subtree_below (child here g t false) off wanted) (subtree_below (child here g t true) on wanted) ≡ Some part
     → subtree_below here (SplitAt number g t off on) wanted ≡ Some part
-side_part here number g t off on wanted part other e =
-    ap (λ b. cond b (Some (record { node = here; tree = SplitAt number g t off on }))
-    (option_or (subtree_below (child here g t false) off wanted) (subtree_below (child here g t true) on wanted)))
-    (ne_eqb number wanted other)
-    ∙ e
+side_part here number g t off on wanted part other e = grind (arith, other, e)
 
 -- the part on one side of a split is that of the whole
 pub off_part : (here : Node) (number g t : ℕ) (off on : NumberedTree) (wanted : ℕ) (part : Subtree)
     → AreApart (SplitAt number g t off on) → subtree_below (child here g t false) off wanted ≡ Some part
     → subtree_below here (SplitAt number g t off on) wanted ≡ Some part
-off_part here number g t off on wanted part apart e =
-    let some = part_counted (child here g t false) off wanted part e in
-    side_part here number g t off on wanted part (not_root number g t off on wanted apart (omega arith))
-    (ap (λ o. option_or o (subtree_below (child here g t true) on wanted)) e)
+off_part here number g t off on wanted part apart e = grind (arith, part_counted, side_part, not_root, apart, e)
 
 pub on_part : (here : Node) (number g t : ℕ) (off on : NumberedTree) (wanted : ℕ) (part : Subtree)
     → AreApart (SplitAt number g t off on) → subtree_below (child here g t true) on wanted ≡ Some part
     → subtree_below here (SplitAt number g t off on) wanted ≡ Some part
-on_part here number g t off on wanted part apart e =
-    let some = part_counted (child here g t true) on wanted part e in
-    let none : times wanted off ≡ 0 = omega (arith, apart wanted) in
-    side_part here number g t off on wanted part (not_root number g t off on wanted apart (omega arith))
-    (λ i. option_or (no_part (child here g t false) off wanted none i) (e i))
+on_part here number g t off on wanted part apart e = grind (arith, part_counted, side_part, not_root, no_part, apart, e)
 
 -- a leaf below a split stands on one of its sides, and its number isn't on the other
 abbrev pub IsOff : Node → ℕ → ℕ → NumberedTree → NumberedTree → ℕ → Subtree → Type 0
@@ -229,22 +157,7 @@ IsOn here g t off on wanted part = (subtree_below (child here g t true) on wante
 pub leaf_sides : (here : Node) (number g t : ℕ) (off on : NumberedTree) (wanted : ℕ) (part : Subtree) (old : Leaf)
     → AreApart (SplitAt number g t off on) → subtree_below here (SplitAt number g t off on) wanted ≡ Some part → spot_of part.tree ≡ spot.Leaf old
     → IsOff here g t off on wanted part ⊎ IsOn here g t off on wanted part
-leaf_sides here number g t off on wanted part old apart e is = ⊎_elim
-    (λ (h : IsHere here (SplitAt number g t off on) wanted part).
-    let differ : spot.Inner g t (number_of off) (number_of on) ≡ spot.Leaf old =
-    sym (ap (λ (p : Subtree). spot_of p.tree) h.whole) ∙ is in absurd (cc))
-    (λ (sides : (subtree_below (child here g t false) off wanted ≡ Some part) ⊎ (subtree_below (child here g t true) on wanted ≡ Some part)).
-    ⊎_elim
-    (λ (l : subtree_below (child here g t false) off wanted ≡ Some part).
-    let some = part_counted (child here g t false) off wanted part l in
-    let none : times wanted on ≡ 0 = omega (arith, apart wanted) in
-    inl (l, none))
-    (λ (r : subtree_below (child here g t true) on wanted ≡ Some part).
-    let some = part_counted (child here g t true) on wanted part r in
-    let none : times wanted off ≡ 0 = omega (arith, apart wanted) in
-    inr (r, none))
-    sides)
-    (subtree_cases here number g t off on wanted part e)
+leaf_sides here number g t off on wanted part old apart e is = grind (arith, part_counted, subtree_cases, apart, e, is)
 
 -- each number of a node has its part
 pub some_part : (here : Node) (tree : NumberedTree) (wanted : ℕ) → AreApart tree → 1 ≤ times wanted tree
@@ -283,9 +196,7 @@ pub record HasChildren (here : Node) (tree : NumberedTree) (node : Node) (g t : 
 pub children_hang : (here : Node) (tree : NumberedTree) (wanted : ℕ) (node : Node) (number g t : ℕ) (off on : NumberedTree)
     → AreApart tree → subtree_below here tree wanted ≡ Some (record { node = node; tree = SplitAt number g t off on })
     → HasChildren here tree node g t off on
-children_hang here (EndAt m leaf) wanted node number g t off on apart e =
-    let h = leaf_case here m leaf wanted (record { node = node; tree = SplitAt number g t off on }) e in
-    let differ : SplitAt number g t off on ≡ EndAt m leaf = ap (λ (p : Subtree). p.tree) h.whole in absurd (cc)
+children_hang here (EndAt m leaf) wanted node number g t off on apart e = grind (arith, m, leaf, apart, e)
 children_hang here (SplitAt m a b left right) wanted node number g t off on apart e =
     let part : Subtree = record { node = node; tree = SplitAt number g t off on } in
     ⊎_elim

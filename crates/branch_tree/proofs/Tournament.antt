@@ -5,7 +5,7 @@ use Rattle.std.proofs.lemmas.Bool.{cases_lt, cases_eq}
 use Rattle.std.proofs.lemmas.List.{get_or-set_same, get_or-set_other, get_or_past}
 use Rattle.branch_tree.specs.StoredTree.{AtMost, lesser_bound}
 use Rattle.branch_tree.specs.inside.Minima.{IsJustBelow, IsStepsBelow, IsBelow, IsLeastOf, IsTournament, lesser_at, IsMendedBut}
-use Rattle.branch_tree.proofs.Lesser.{at_most_through, at_most_both, lesser_first, lesser_second, lesser_greatest}
+use Rattle.branch_tree.proofs.Lesser.{at_most_through, at_most_both, lesser_first, lesser_greatest}
 
 -- the entry of a place is the lesser of its value and the entries just below it
 abbrev IsLesserAt : List (Option ℤ) → List (Option ℤ) → ℕ → Type 0
@@ -16,17 +16,7 @@ lesser_own : (values entries : List (Option ℤ)) (k : ℕ) → AtMost (lesser_a
 lesser_own values entries k = lesser_first (get_or values k None) (lesser_bound (get_or entries (2 * k + 1) None) (get_or entries (2 * k + 2) None))
 
 lesser_below : (values entries : List (Option ℤ)) (k next : ℕ) → IsJustBelow k next → AtMost (lesser_at values entries k) (get_or entries next None)
-lesser_below values entries k next just =
-    let own = get_or values k None in
-    let left = get_or entries (2 * k + 1) None in
-    let right = get_or entries (2 * k + 2) None in
-    let both = lesser_second own (lesser_bound left right) in
-    ⊎_elim
-    (λ (e : next ≡ 2 * k + 1). subst (λ n. AtMost (lesser_at values entries k) (get_or entries n None)) (sym e)
-    (at_most_through (lesser_at values entries k) (lesser_bound left right) left both (lesser_first left right)))
-    (λ (e : next ≡ 2 * k + 2). subst (λ n. AtMost (lesser_at values entries k) (get_or entries n None)) (sym e)
-    (at_most_through (lesser_at values entries k) (lesser_bound left right) right both (lesser_second left right)))
-    just
+lesser_below values entries k next just = grind (arith, just)
 
 -- ---- from lessers to the least
 entry_below : (values entries : List (Option ℤ)) → ((k : ℕ) → IsLesserAt values entries k) → (steps top place : ℕ)
@@ -41,8 +31,7 @@ entry_below values entries lessers (suc steps) top place way =
 
 entry_greatest : (values entries : List (Option ℤ)) (bound : Option ℤ) → ((k : ℕ) → IsLesserAt values entries k) → (rest top : ℕ)
     → length entries ≤ top + rest → ((k : ℕ) → IsBelow top k → AtMost bound (get_or values k None)) → AtMost bound (get_or entries top None)
-entry_greatest values entries bound lessers zero top past each =
-    subst (AtMost bound) (sym (get_or_past entries top None (omega arith))) tt
+entry_greatest values entries bound lessers zero top past each = grind (arith, get_or_past, lessers, past, each)
 entry_greatest values entries bound lessers (suc rest) top past each =
     let under : (next : ℕ) → IsJustBelow top next → length entries ≤ next + rest → AtMost bound (get_or entries next None) =
     λ next just near. entry_greatest values entries bound lessers rest next near (λ k b. each k (suc b.0, (next, just, b.1))) in
@@ -91,16 +80,7 @@ same_lesser values entries news k left right = λ i. lesser_bound (get_or values
 renewed_at : (values entries : List (Option ℤ)) (reached k : ℕ) → reached < length entries → (2 * k + 1 ≡ reached → ⊥) → (2 * k + 2 ≡ reached → ⊥)
     → ((k ≡ reached → ⊥) → IsLesserAt values entries k) → IsLesserAt values (set entries reached (lesser_at values entries reached)) k
 renewed_at values entries reached k within left right other =
-    let entry = lesser_at values entries reached in
-    let same : lesser_at values (set entries reached entry) k ≡ lesser_at values entries k =
-    same_lesser values entries (set entries reached entry) k (get_or-set_other entries reached (2 * k + 1) entry None left)
-    (get_or-set_other entries reached (2 * k + 2) entry None right) in
-    ⊎_elim
-    (λ (e : k ≡ reached).
-    ap (λ n. get_or (set entries reached entry) n None) e
-    ∙ (get_or-set_same entries reached entry None within ∙ (ap (lesser_at values entries) (sym e) ∙ sym same)))
-    (λ (d : k ≡ reached → ⊥). get_or-set_other entries reached k entry None d ∙ (other d ∙ sym same))
-    (cases_eq k reached)
+    grind (arith, same_lesser, get_or-set_other, get_or-set_same, cases_eq, within, left, right, other)
 
 -- then that of the place above may be wrong
 pub mended_up : (values entries news : List (Option ℤ)) (reached : ℕ) → 0 < reached → IsMendedBut values entries reached
@@ -130,22 +110,11 @@ mended_all values entries news reached top but is =
 
 -- ---- none, one written, one added
 pub none_yet : (values entries : List (Option ℤ)) → values ≡ [] → entries ≡ [] → IsTournament values entries
-none_yet values entries no_values no_entries =
-    subst (λ vs. IsTournament vs entries) (sym no_values)
-    (subst (IsTournament []) (sym no_entries) (tournament_of [] [] refl (λ k. refl)))
+none_yet values entries no_values no_entries = grind (arith, no_values, no_entries)
 
 pub value_written : (values entries news : List (Option ℤ)) (place : ℕ) (value : Option ℤ) → IsTournament values entries → place < length values
     → news ≡ set values place value → IsMendedBut news entries place
-value_written values entries news place value are within is =
-    let count = are.count in
-    let same = length-set values place value in
-    subst (λ vs. IsMendedBut vs entries place) (sym is) (record {
-      count = omega arith;
-      within = omega arith;
-      others = λ k differ. lesser_is values entries k are
-          ∙ ap (λ own. lesser_bound own (lesser_bound (get_or entries (2 * k + 1) None) (get_or entries (2 * k + 2) None)))
-          (sym (get_or-set_other values place k value None differ));
-    })
+value_written values entries news place value are within is = grind (arith, length-set, lesser_is, get_or-set_other, are, within, is)
 
 -- an item that stands for a missing one changes no reading
 read_default : {A : Type 0} (xs : List A) (d : A) (k : ℕ) → get_or (xs ++ d ∷ []) k d ≡ get_or xs k d
@@ -163,20 +132,7 @@ read_before (x ∷ xs) y d (suc k) differ = read_before xs y d k (λ e. differ (
 pub value_added : (values entries more_values more_entries : List (Option ℤ)) (place : ℕ) (value : Option ℤ) → IsTournament values entries
     → more_values ≡ values ++ value ∷ [] → more_entries ≡ entries ++ None ∷ [] → place ≡ length values → IsMendedBut more_values more_entries place
 value_added values entries more_values more_entries place value are value_is entry_is place_is =
-    let count = are.count in
-    let more : length more_values ≡ length values + 1 = ap length value_is ∙ length-append values (value ∷ []) in
-    let longer : length more_entries ≡ length entries + 1 = ap length entry_is ∙ length-append entries (None ∷ []) in
-    let read : (k : ℕ) → get_or more_entries k None ≡ get_or entries k None =
-    λ k. ap (λ es. get_or es k None) entry_is ∙ read_default entries None k in
-    record {
-      count = omega arith;
-      within = omega arith;
-      others = λ k differ.
-          let own : get_or more_values k None ≡ get_or values k None =
-          ap (λ vs. get_or vs k None) value_is ∙ read_before values value None k (λ e. differ (e ∙ sym place_is)) in
-          read k ∙ (lesser_is values entries k are
-          ∙ (λ i. lesser_bound (sym own i) (lesser_bound (sym (read (2 * k + 1)) i) (sym (read (2 * k + 2)) i))));
-    }
+    grind (arith, length-append, read_default, read_before, lesser_is, are, value_is, entry_is, place_is)
 
 -- ---- the first entry is the least of all
 half_of : (n : ℕ) → (half : ℕ) × ((n ≡ 2 * half) ⊎ (n ≡ 2 * half + 1))

@@ -4,7 +4,7 @@ use mathlib.Core.Bool.{or-false}
 use Rattle.std.specs.List.{list_any}
 use Rattle.std.proofs.Math.Seq.{get_or-append_right}
 use Rattle.std.proofs.lemmas.List.{get_or_append_left}
-use Rattle.std.proofs.lemmas.List.Elements.{All-head, All-tail, All-cons, All-nil, All-append}
+use Rattle.std.proofs.lemmas.List.Elements.{All-head, All-tail, All-cons, All-append}
 use Rattle.std.proofs.lemmas.List.Folds.{list_any-append}
 use Rattle.uc_model.specs.Prelude.{thermal_count}
 use Rattle.dual_model.specs.Prelude.{Tree, Ends, Splits, root, child, IsCoverBelow, EachLeaf, any_leaf, Leaf, Bound, Ray, Empty, IsExcluded, is_bound, Certificate, CertificateHolds, ClaimHolds}
@@ -29,8 +29,7 @@ is_bound_node (SplitNode g t) = false
 
 pub any-preorder : (tree : Tree Leaf) → list_any is_bound_node (preorder tree) ≡ any_leaf is_bound tree
 any-preorder (Ends leaf) = or-false (is_bound leaf)
-any-preorder (Splits g t off on) =
-    list_any-append is_bound_node (preorder off) (preorder on) ∙ (λ i. any-preorder off i || any-preorder on i)
+any-preorder (Splits g t off on) = grind (arith, list_any-append, (any-preorder off), (any-preorder on))
 
 -- what each leaf of a sound tree meets, and that its splits are those of a cover
 abbrev Sound : Instance → List Table → Option ℤ → Node → Leaf → Type 0
@@ -68,8 +67,7 @@ cover-from instance tables bound periods thermal count place (Splits g t off on)
 -- and back
 pub sound-from : (instance : Instance) (tables : List Table) (bound : Option ℤ) (place : Node) (tree : Tree Leaf)
     → IsCoverBelow instance place tree → EachLeaf (Sound instance tables bound) place tree → All (IsSound instance tables bound) (visits place tree)
-sound-from instance tables bound place (Ends leaf) cover each =
-    All-cons (IsSound instance tables bound) (record { place = place; node = LeafNode leaf }) [] each (All-nil (IsSound instance tables bound))
+sound-from instance tables bound place (Ends leaf) cover each = grind (arith, leaf, cover, each)
 sound-from instance tables bound place (Splits g t off on) cover each =
     All-cons (IsSound instance tables bound) (record { place = place; node = SplitNode g t }) (visits (child place g t false) off ++ visits (child place g t true) on) cover.1
     (All-append (IsSound instance tables bound) (visits (child place g t false) off) (visits (child place g t true) on)

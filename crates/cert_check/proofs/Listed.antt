@@ -1,5 +1,5 @@
 -- What the steps of the check say of any certificate that has the listing that was read.
-use Rattle.std.proofs.Common.{◌≡◌, ℕ, suc, ◌||◌, refl, sym, ap, subst, ◌∙◌, List, [], ◌∷◌, length, All, ℤ, Option, Some, None, map, slice_get, append-nil, true≢false}
+use Rattle.std.proofs.Common.{arith, ◌≡◌, ℕ, suc, ◌||◌, refl, sym, ap, subst, ◌∙◌, List, [], ◌∷◌, length, All, ℤ, Option, Some, None, map, slice_get, append-nil}
 use Rattle.std.specs.List.{list_any}
 use Rattle.std.proofs.lemmas.Option.{none-some, same_Some, get_or_from_slice_get, slice_get_within}
 use Rattle.std.proofs.lemmas.List.Elements.{All-get_or, All-take}
@@ -21,7 +21,7 @@ use Rattle.cert_check.specs.inside.Numbers.{HasLawfulNumbers, IsFirstOff}
 use Rattle.cert_check.specs.inside.Schedules.{IsCostOf, IsScheduleFault}
 use Rattle.cert_check.specs.inside.Steps.{CertNode, FitsInstance, ReadsPrices, ReadClaimFits, is_bound_leaf}
 use Rattle.cert_check.specs.inside.Walks.{walk, all_visits}
-use Rattle.cert_check.proofs.Certificates.{is_bound_node, any-preorder, holds-from, size-of, prices-of, fits-of, sound-of}
+use Rattle.cert_check.proofs.Certificates.{is_bound_node, any-preorder, holds-from, fits-of, sound-of}
 use Rattle.cert_check.proofs.Pending.{walk-preorder}
 use Rattle.cert_check.proofs.TextFacts.{lawful-table}
 
@@ -34,48 +34,27 @@ text-of c cert e read = subst (HasText read.version) (read.listed ∙ sym e) rea
 
 -- ---- size, prices, tables
 pub size-from : (instance : Instance) (c : Certificate) (cert : Cert) → Listed c cert → FitsInstance instance cert → HasSize instance c
-size-from instance c cert e fits = record {
-  periods = ap (λ (l : Listing). l.periods) e ∙ fits.periods;
-  thermal = ap (λ (l : Listing). l.thermal) e ∙ fits.thermal;
-  renewable = ap (λ (l : Listing). l.renewable) e ∙ fits.renewable;
-}
+size-from instance c cert e fits = grind (arith, e, fits)
 
 pub fits-from : (instance : Instance) (c : Certificate) (cert : Cert) → Listed c cert → HasSize instance c → FitsInstance instance cert
-fits-from instance c cert e size = record {
-  periods = sym (ap (λ (l : Listing). l.periods) e) ∙ size.periods;
-  thermal = sym (ap (λ (l : Listing). l.thermal) e) ∙ size.thermal;
-  renewable = sym (ap (λ (l : Listing). l.renewable) e) ∙ size.renewable;
-}
+fits-from instance c cert e size = grind (arith, e, size)
 
 pub prices-from : (instance : Instance) (c : Certificate) (cert : Cert) → Listed c cert → ReadsPrices instance cert → HasPrices instance c
-prices-from instance c cert e reads = record {
-  shed = ap (λ (l : Listing). l.a) e ∙ reads.shed;
-  short = ap (λ (l : Listing). l.b) e ∙ reads.short;
-}
+prices-from instance c cert e reads = grind (arith, e, reads)
 
 pub reads-from : (instance : Instance) (c : Certificate) (cert : Cert) → Listed c cert → HasPrices instance c → ReadsPrices instance cert
-reads-from instance c cert e prices = record {
-  shed = sym (ap (λ (l : Listing). l.a) e) ∙ prices.shed;
-  short = sym (ap (λ (l : Listing). l.b) e) ∙ prices.short;
-}
+reads-from instance c cert e prices = grind (arith, e, prices)
 
 tables-is : (c : Certificate) (cert : Cert) → Listed c cert → c.tables ≡ cert.tables
 tables-is c cert e = ap (λ (l : Listing). l.tables) e
 
 pub lawful-from : (instance : Instance) (c : Certificate) (cert : Cert) → Listed c cert → IsRead cert → FitsInstance instance cert
     → All HasLawfulNumbers cert.tables → All (IsLawfulTable instance) c.tables
-lawful-from instance c cert e read fits numbers =
-    let size = size-from instance c cert e fits in
-    let own = subst (λ tables. All HasLawfulNumbers tables) (sym (tables-is c cert e)) numbers in
-    λ k d h. lawful-table instance c.periods c.thermal _ size.periods size.thermal ((text-of c cert e read).tables k d h) (own k d h)
+lawful-from instance c cert e read fits numbers = grind (arith, e, read, fits, numbers)
 
 pub tables-from : (instance : Instance) (c : Certificate) (cert : Cert) → Listed c cert → IsRead cert → FitsInstance instance cert
     → ReadsPrices instance cert → All HasLawfulNumbers cert.tables → HasTables instance c
-tables-from instance c cert e read fits reads numbers = record {
-  size = size-from instance c cert e fits;
-  prices = prices-from instance c cert e reads;
-  tables = lawful-from instance c cert e read fits numbers;
-}
+tables-from instance c cert e read fits reads numbers = grind (arith, e, read, fits, reads, numbers)
 
 -- ---- the schedule
 pub schedule-is : (c : Certificate) (cert : Cert) → Listed c cert → c.schedule ≡ written_of cert.schedule
@@ -88,10 +67,7 @@ costs-hold instance (Some own) cost is written e = subst (λ w. ScheduleHolds in
 
 pub schedule-from : (instance : Instance) (c : Certificate) (cert : Cert) → Listed c cert → IsRead cert → FitsInstance instance cert
     → ReadsPrices instance cert → All HasLawfulNumbers cert.tables → (cost : Option ℤ) → IsCostOf instance (written_of cert.schedule) cost → HasSchedule instance c
-schedule-from instance c cert e read fits reads numbers cost is = record {
-  tables = tables-from instance c cert e read fits reads numbers;
-  schedule = costs-hold instance c.schedule cost (subst (λ o. IsCostOf instance o cost) (sym (schedule-is c cert e)) is);
-}
+schedule-from instance c cert e read fits reads numbers cost is = grind (arith, e, read, fits, reads, numbers, is)
 
 -- ---- the claim
 leaf-bound : (node : CertNode) → is_bound_leaf node ≡ is_bound_node (node_of node)
@@ -136,18 +112,7 @@ within-of c cert e read = λ k d within. ((text-of c cert e read).nodes k d with
 
 -- what the walk over the nodes wants
 pub checkable : (instance : Instance) (cert : Cert) → IsRead cert → FitsInstance instance cert → All HasLawfulNumbers cert.tables → AreCheckable instance cert
-checkable instance cert read fits numbers =
-    let c = read.certificate in
-    let e = read.listed in
-    record {
-      size = fits;
-      tables = subst (λ tables. All (IsLawfulTable instance) tables) (tables-is c cert e) (lawful-from instance c cert e read fits numbers);
-      nodes = within-read c cert e (within-of c cert e read);
-    }
-  where
-    within-read : (c : Certificate) (cert : Cert) (e : Listed c cert) → All (IsNodeWithin c.periods c.thermal (length c.tables)) (preorder c.tree)
-        → All (IsNodeWithin cert.periods cert.thermal (length cert.tables)) (map node_of cert.tree)
-    within-read c cert e within = subst (λ (l : Listing). All (IsNodeWithin l.periods l.thermal (length l.tables)) l.nodes) e within
+checkable instance cert read fits numbers = grind (arith, read, fits, numbers)
 
 -- ---- the answers
 -- a schedule that breaks a rule doesn't obey
@@ -155,26 +120,19 @@ breaks-obeys : (instance : Instance) (written : WrittenSchedule) (rule unit peri
     → (let q = printed_denominator instance written.printed in
     IsFirstBroken instance q (printed_schedule instance written.printed q) (record { rule = rule; unit = unit; period = period }))
     → (let q = printed_denominator instance written.printed in Obeys instance q (printed_schedule instance written.printed q)) → ⊥
-breaks-obeys instance written rule unit period broken obeys =
-    let q = printed_denominator instance written.printed in
-    true≢false (sym (rule_at instance q (printed_schedule instance written.printed q) obeys broken.rule unit period broken.unit broken.period) ∙ broken.fails)
+breaks-obeys instance written rule unit period broken obeys = grind (arith, rule_at, broken, obeys)
 
 -- an element of each kind is none
 not-all : {A : Type 0} (P : A → Type 0) (xs : List A) (i : ℕ) (x : A) → slice_get xs i ≡ Some x → ¬ P x → ¬ All P xs
-not-all P xs i x e fails all =
-    fails (subst P (get_or_from_slice_get xs i x x e) (All-get_or P xs i x (slice_get_within xs i x e) all))
+not-all P xs i x e fails all = grind (arith, get_or_from_slice_get, All-get_or, slice_get_within, e, fails, all)
 
 pub refused-9 : (instance : Instance) (c : Certificate) (cert : Cert) → Listed c cert → ¬ FitsInstance instance cert
     → (¬ HasSize instance c) × (¬ CertificateHolds instance c)
-refused-9 instance c cert e unfit =
-    (λ size. unfit (fits-from instance c cert e size), λ holds. unfit (fits-from instance c cert e (size-of instance c holds)))
+refused-9 instance c cert e unfit = grind (arith, e, unfit)
 
 pub refused-10 : (instance : Instance) (c : Certificate) (cert : Cert) → Listed c cert → FitsInstance instance cert → ¬ ReadsPrices instance cert
     → IsRefusedBy instance c codes.C10 × (¬ CertificateHolds instance c)
-refused-10 instance c cert e fits other = (
-  (size-from instance c cert e fits, λ prices. other (reads-from instance c cert e prices)),
-  λ holds. other (reads-from instance c cert e (prices-of instance c holds)),
-)
+refused-10 instance c cert e fits other = grind (arith, e, fits, other)
 
 -- the first table with a number that isn't lawful isn't lawful, and those before it are
 pub refused-1 : (instance : Instance) (c : Certificate) (cert : Cert) (i number : ℕ) → Listed c cert → IsRead cert → FitsInstance instance cert
@@ -210,9 +168,7 @@ refused-schedule instance c (Some written) _ tables e fault = absurd fault
 
 pub refused-8 : (instance : Instance) (c : Certificate) (cert : Cert) → Listed c cert → HasSchedule instance c → ¬ ReadClaimFits cert cert.bound
     → IsRefusedBy instance c codes.C8 × (¬ CertificateHolds instance c)
-refused-8 instance c cert e schedule misfits =
-    let fails = claim-misfits c cert e misfits in
-    ((schedule, fails), λ holds. fails (fits-of instance c c.bound holds.claim))
+refused-8 instance c cert e schedule misfits = grind (arith, claim-misfits, fits-of, e, schedule, misfits)
 
 -- a code of a node that isn't sound
 code-of : (instance : Instance) (c : Certificate) (node : TreeNode) (number : ℕ) → IsUnsoundAt instance c (refusal_of node number)
@@ -243,8 +199,4 @@ accepted instance c cert e read claim all =
 
 pub cost-is : (c : Certificate) (cert : Cert) (instance : Instance) (cost : Option ℤ) → Listed c cert → IsCostOf instance (written_of cert.schedule) cost
     → cost ≡ cost_of c.schedule
-cost-is c cert instance cost e is = cost-by instance (written_of cert.schedule) cost is ∙ ap (λ o. cost_of o) (sym (schedule-is c cert e))
-  where
-    cost-by : (instance : Instance) (schedule : Option WrittenSchedule) (cost : Option ℤ) → IsCostOf instance schedule cost → cost ≡ cost_of schedule
-    cost-by instance None cost is = is
-    cost-by instance (Some written) cost is = is.1
+cost-is c cert instance cost e is = grind (arith, e, is)

@@ -1,5 +1,5 @@
 -- The places that are to come on a path, by its last decision; and the walk over the nodes of a tree in preorder.
-use Rattle.std.proofs.Common.{◌≡◌, ℕ, true, false, refl, sym, ap, ◌∙◌, List, [], ◌∷◌, ◌++◌, append_assoc, append-nil, if◌then◌else◌}
+use Rattle.std.proofs.Common.{arith, ◌≡◌, ℕ, true, false, refl, sym, ap, ◌∙◌, List, [], ◌∷◌, ◌++◌, append_assoc, append-nil, if◌then◌else◌}
 use Rattle.dual_model.specs.Prelude.{Tree, Ends, Splits, child, Leaf}
 use Rattle.cert_text.specs.CertificateText.{TreeNode, SplitNode, preorder}
 use Rattle.cert_check.specs.Visits.{Node, visits}
@@ -7,12 +7,8 @@ use Rattle.cert_check.specs.inside.Walks.{Fixing, walk, other_child, pending, pl
 
 pub pending-push : (before fixings : List Fixing) (last : Fixing)
     → pending before (fixings ++ last ∷ []) ≡ other_child (before ++ fixings) last ++ pending before fixings
-pending-push before [] last =
-    sym (append-nil (other_child (before ++ []) last) ∙ ap (λ front. other_child front last) (append-nil before))
-pending-push before (fixing ∷ fixings) last =
-    ap (λ more. more ++ other_child before fixing) (pending-push (before ++ fixing ∷ []) fixings last)
-    ∙ append_assoc (other_child ((before ++ fixing ∷ []) ++ fixings) last) (pending (before ++ fixing ∷ []) fixings) (other_child before fixing)
-    ∙ ap (λ front. other_child front last ++ (pending (before ++ fixing ∷ []) fixings ++ other_child before fixing)) (append_assoc before (fixing ∷ []) fixings)
+pending-push before [] last = grind (arith, append-nil)
+pending-push before (fixing ∷ fixings) last = grind (arith, append_assoc, (pending-push (before ++ fixing ∷ []) fixings last))
 
 -- a walk that begins with a tree's nodes visits the tree, and goes on with the other places
 pub walk-preorder : (place : Node) (tree : Tree Leaf) (places : List Node) (nodes : List TreeNode)
@@ -39,23 +35,15 @@ other-on before last on = ap (λ b. if b then [] else record { fixings = before 
 
 -- the last decision, for the on-child, is left
 pub left-behind : (front whole : List Fixing) (last : Fixing) → whole ≡ front ++ last ∷ [] → last.on ≡ true → pending [] whole ≡ pending [] front
-left-behind front whole last e on =
-    ap (λ path. pending [] path) e ∙ pending-push [] front last ∙ ap (λ more. more ++ pending [] front) (other-on front last on)
+left-behind front whole last e on = grind (arith, pending-push, other-on, e)
 
 -- and one for the off-child gives way to the on-child
 pub turned : (front whole next : List Fixing) (last : Fixing) → whole ≡ front ++ last ∷ [] → last.on ≡ false
     → next ≡ front ++ (record { g = last.g; t = last.t; on = true }) ∷ [] → pending [] whole ≡ places next
-turned front whole next last e off n =
-    ap (λ path. pending [] path) e ∙ pending-push [] front last ∙ ap (λ more. more ++ pending [] front) (other-off front last off)
-    ∙ ap (λ more. record { fixings = front ++ off_to_on last ∷ [] } ∷ more) (sym (left-behind front (front ++ off_to_on last ∷ []) (off_to_on last) refl refl))
-    ∙ ap (λ path. places path) (sym n)
+turned front whole next last e off n = grind (arith, pending-push, other-off, left-behind, e, off, n)
 
 -- below a split comes the off-child, and then the on-child
 pub below : (path next : List Fixing) (g t : ℕ) → next ≡ path ++ (record { g = g; t = t; on = false }) ∷ []
     → (nodes : List TreeNode) → walk (places path) (SplitNode g t ∷ nodes)
     ≡ (record { place = record { fixings = path }; node = SplitNode g t }) ∷ walk (places next) nodes
-below path next g t n nodes =
-    let last : Fixing = record { g = g; t = t; on = false } in
-    ap (λ more. (record { place = record { fixings = path }; node = SplitNode g t }) ∷ walk (record { fixings = path ++ last ∷ [] } ∷ more) nodes)
-    (sym (pending-push [] path last ∙ ap (λ more. more ++ pending [] path) (other-off path last refl)))
-    ∙ ap (λ p. (record { place = record { fixings = path }; node = SplitNode g t }) ∷ walk (places p) nodes) (sym n)
+below path next g t n nodes = grind (arith, pending-push, other-off, n)

@@ -8,17 +8,7 @@ use Rattle.std.proofs.lemmas.Bool.{cases_lt}
 -- a fact of each element before a place, and of the one there, is one of each before the next place
 pub each-next : {A : Type 0} (P : A → Type 0) (xs : List A) (i : ℕ) (x : A) → i < length xs → x ≡ get_or xs i x
     → All P (take i xs) → P x → All P (take (i + 1) xs)
-each-next P xs i x within is before here = λ k d h.
-    let size = length-take-le (i + 1) xs (omega arith) in
-    let whole = get_or-take (i + 1) xs k d (omega arith) in
-    ⊎_elim
-    (λ (less : k < i).
-    let short = length-take-le i xs (omega arith) in
-    subst P (get_or-take i xs k d less ∙ sym whole) (before k d (omega arith)))
-    (λ (last : i ≤ k).
-    let same : i ≡ k = omega arith in
-    subst P (get_or_read xs i x within is d ∙ ap (λ j. get_or xs j d) same ∙ sym whole) here)
-    (cases_lt k i)
+each-next P xs i x within is before here = grind (arith, length-take-le, get_or-take, get_or_read, cases_lt, within, is, before, here)
 
 -- and before the end of the list of each one
 pub each-all : {A : Type 0} (P : A → Type 0) (xs : List A) (i : ℕ) → length xs ≤ i → All P (take i xs) → All P xs

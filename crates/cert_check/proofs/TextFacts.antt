@@ -1,5 +1,5 @@
 -- What a table meets whose text is of the instance's size: it has that size, and is lawful where its numbers are.
-use Rattle.std.proofs.Common.{◌≡◌, ℕ, ◌∙◌}
+use Rattle.std.proofs.Common.{arith, ◌≡◌, ℕ, ◌∙◌}
 use Rattle.uc_model.specs.Prelude.{thermal_count}
 use Rattle.uc_model.specs.declared.instance.Instance.{Instance}
 use Rattle.dual_model.specs.Prelude.{HasSizeOf, IsLawfulTable}
@@ -12,8 +12,4 @@ size-of-table instance periods thermal table hp hg text = record { form = text.f
 
 pub lawful-table : (instance : Instance) (periods thermal : ℕ) (table : Table) → periods ≡ instance.periods → thermal ≡ thermal_count instance
     → IsTableText periods thermal table → HasLawfulNumbers table → IsLawfulTable instance table
-lawful-table instance periods thermal table hp hg text numbers = record {
-  size = size-of-table instance periods thermal table hp hg text;
-  signs = numbers.signs;
-  limits = numbers.limits;
-}
+lawful-table instance periods thermal table hp hg text numbers = grind (arith, hp, hg, text, numbers)

@@ -40,17 +40,7 @@ pub visited-unsound : (instance : Instance) (tables : List Table) (bound : Optio
     → HasVisited instance tables bound (all_visits tree) i path (rest_of tree i) → i < length tree
     → ¬ IsSound instance tables bound (visit_of path (node_at tree i))
     → IsFirstUnsound instance tables bound (all_visits tree) i (visit_of path (node_at tree i))
-visited-unsound instance tables bound tree i path has within unsound =
-    let node = node_of (node_at tree i) in
-    let come = comes path node (rest_of tree (i + 1)) in
-    let parts = has.parts ∙ ap (λ rest. has.done ++ walk (places path) rest) (node-first tree i within)
-    ∙ ap (λ visits. has.done ++ visits) come.first in
-    record {
-      is_visit = behind-front (all_visits tree) has.done (visit_of path (node_at tree i)) come.more i parts has.count;
-      unsound = unsound;
-      before = subst (λ visits. All (IsSound instance tables bound) visits)
-          (sym (front-is (all_visits tree) has.done (visit_of path (node_at tree i) ∷ come.more) i parts has.count)) has.sound;
-    }
+visited-unsound instance tables bound tree i path has within unsound = grind (arith, comes, node-first, behind-front, front-is, has, within, unsound)
 
 pub visited-next : (instance : Instance) (tables : List Table) (bound : Option ℤ) (tree : List CertNode) (i : ℕ) (path next : List Fixing)
     → HasVisited instance tables bound (all_visits tree) i path (rest_of tree i) → i < length tree
@@ -61,9 +51,7 @@ visited-next instance tables bound tree i path next has within sound steps =
     record {
       done = has.done ++ visit ∷ [];
       count = length-append has.done (visit ∷ []) ∙ ap (λ n. n + 1) has.count;
-      parts = has.parts ∙ ap (λ rest. has.done ++ walk (places path) rest) (node-first tree i within)
-          ∙ ap (λ visits. has.done ++ visits) (steps (rest_of tree (i + 1)))
-          ∙ sym (append_assoc has.done (visit ∷ []) (walk (places next) (rest_of tree (i + 1))));
+      parts = grind (arith, node-first, append_assoc, has, path, tree, i, within, steps, visit, next);
       sound = each-push (IsSound instance tables bound) has.done visit has.sound sound;
     }
 
@@ -81,9 +69,7 @@ visited-end instance tables bound tree i path next has within sound steps =
 pub visited-all : (instance : Instance) (tables : List Table) (bound : Option ℤ) (tree : List CertNode) (i : ℕ) (path : List Fixing)
     → HasVisited instance tables bound (all_visits tree) i path (rest_of tree i) → length tree ≤ i
     → All (IsSound instance tables bound) (all_visits tree)
-visited-all instance tables bound tree i path has past =
-    let parts = has.parts ∙ ap (λ rest. has.done ++ walk (places path) rest) (none-left tree i past) ∙ append-nil has.done in
-    subst (λ visits. All (IsSound instance tables bound) visits) (sym parts) has.sound
+visited-all instance tables bound tree i path has past = grind (arith, none-left, append-nil, has, past)
 
 -- before the first turn
 pub visited-none : (instance : Instance) (tables : List Table) (bound : Option ℤ) (tree : List CertNode)

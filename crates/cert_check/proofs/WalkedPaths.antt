@@ -4,7 +4,6 @@ use Rattle.std.proofs.Common.{◌≡◌, ◌<◌, Bool, not, List, [], ◌∷◌
 use Rattle.std.proofs.Math.Seq.{get_or-append_seam}
 use Rattle.std.proofs.lemmas.List.{get_or_append_left, length-append, take-append-le, take_all}
 use Rattle.dual_model.specs.Prelude.{IsCell, is_decided}
-use Rattle.leaf_values.specs.Paths.{DecidesOnce}
 use Rattle.leaf_values.proofs.PathsOfNodes.{decides_once-more, decides_once-nil, decides_once-take}
 use Rattle.cert_check.specs.inside.Walks.{Fixing, Instance, IsPath}
 use Rattle.cert_check.proofs.Places.{each-push}
@@ -22,14 +21,7 @@ path-more instance path last is cell free = record {
 
 -- one less
 pub path-less : (instance : Instance) (front : List Fixing) (last : Fixing) → IsPath instance (front ++ last ∷ []) → IsPath instance front
-path-less instance front last is =
-    let cut : take (length front) (front ++ last ∷ []) ≡ front =
-    take-append-le (length front) front (last ∷ []) (omega arith) ∙ take_all (length front) front (omega arith) in
-    record {
-      cells = λ i d h. subst (λ fixing. IsCell instance fixing.g fixing.t) (get_or_append_left front (last ∷ []) d i h)
-          (is.cells i d (omega (arith, h, length-append front (last ∷ []))));
-      once = subst (λ path. DecidesOnce path) cut (decides_once-take (front ++ last ∷ []) (length front) is.once);
-    }
+path-less instance front last is = grind (arith, take-append-le, take_all, get_or_append_left, length-append, decides_once-take, is)
 
 -- and the last one decided the other way
 pub path-turned : (instance : Instance) (front : List Fixing) (last : Fixing) (on : Bool) → IsPath instance (front ++ last ∷ [])

@@ -1,6 +1,6 @@
 -- A table that is told by its difference to the one before it: the changes that are written make it of that one, and of a table that
 -- changes make these are written and no others.
-use Rattle.std.proofs.Common.{◌≡◌, ℕ, suc, ◌+◌, ◌*◌, ◌^◌, ◌<◌, ◌≤◌, ◌⊎◌, inl, inr, List, [], ◌∷◌, ◌++◌, length, map, ℤ, pos, negsuc, ◌≤ℤ◌, unsigned_abs, refl, sym, ap, subst, ◌∙◌, arith, All, Option, Some, None, IfSome}
+use Rattle.std.proofs.Common.{◌≡◌, ℕ, suc, ◌+◌, ◌*◌, ◌^◌, ◌<◌, ◌≤◌, List, [], ◌∷◌, ◌++◌, length, map, ℤ, pos, negsuc, ◌≤ℤ◌, unsigned_abs, refl, sym, ap, subst, ◌∙◌, arith, All, Option, Some, None, IfSome}
 use Rattle.std.specs.List.{AllByRecursion as Each}
 use Rattle.std.proofs.lemmas.List.Elements.{recursion_from_All, All-from_recursion}
 use Rattle.std.proofs.lemmas.Int.{ints}
@@ -233,16 +233,7 @@ told_stands size table demand reserve rows demand_may reserve_may within rise ot
 pub changes_found : (size : Sizes) (before : Table) (k : ℕ) (changes : List Change) → IsTableText size.periods size.thermal before → AreChanges size (rescaled before k) None changes
     → table_changes before (all_changed (rescaled before k) changes) ≡ changes
 changes_found size before k changes text h =
-    let is = told size (rescaled before k) None changes h in
-    let long : length before.mu ≡ size.periods = text.form.lengths ∙ text.periods_priced in
-    let demand = as_pairs OfDemand 0 before.pi (with_prices before.pi is.demand)
-    ∙ ap (map demand_change) (prices_found before.pi is.demand (subst (λ (n : ℕ). ArePriceChanges n 0 before.pi is.demand) (sym text.periods_priced) is.demand_may)) in
-    let reserve = as_pairs OfReserve 0 before.mu (with_prices before.mu is.reserve)
-    ∙ ap (map reserve_change) (prices_found before.mu is.reserve (subst (λ (n : ℕ). ArePriceChanges n 0 before.mu is.reserve) (sym long) is.reserve_may)) in
-    let rows = rows_found before.ramps is.rows (rise_from before.ramps text.form.rising) is.rise is.others in
-    ap (λ (changes : List Change). table_changes before (all_changed (rescaled before k) changes)) is.whole
-    ∙ ap (table_changes before) (told_change (rescaled before k) is.demand is.reserve is.rows)
-    ∙ (λ i. demand i ++ (reserve i ++ map OfRamps (rows i))) ∙ sym is.whole
+    grind (arith, ints, told, as_pairs, with_prices, demand_change, prices_found, reserve_change, rows_found, rise_from, told_change, text, h)
 
 -- ---- What is written of two tables may stand, and makes the second of the first.
 natural : (k : ℤ) → pos 0 ≤ℤ k → pos (unsigned_abs k) ≡ k
@@ -254,11 +245,7 @@ record IsTableRow (size : Sizes) (row : RampRow) : Type 0 where
   present : IsPresent row
 
 table_rows : (size : Sizes) (table : Table) → IsTableText size.periods size.thermal table → Each (IsTableRow size) table.ramps
-table_rows size table text =
-    let rows : All (IsRowWithin size.thermal (length table.pi)) table.ramps = subst (λ (n : ℕ). All (IsRowWithin n (length table.pi)) table.ramps) text.units text.form.rows in
-    let within : All (IsRowWithin size.thermal size.periods) table.ramps = subst (λ (n : ℕ). All (IsRowWithin size.thermal n) table.ramps) text.periods_priced rows in
-    recursion_from_All (IsTableRow size) table.ramps
-    (λ i d lt. record { within = ((within i d lt).unit, (within i d lt).period, text.ramps i d lt); present = (within i d lt).present })
+table_rows size table text = grind (arith, ints, recursion_from_All, text)
 
 pub changes_make : (size : Sizes) (before after : Table) → IsTableText size.periods size.thermal before → IsTableText size.periods size.thermal after
     → AreChanges size (rescaled before (unsigned_abs after.k)) None (table_changes before after)
@@ -307,12 +294,7 @@ told_text size lawful before k demand reserve rows text small demand_may reserve
     let priced : All (IsRowWithin size.thermal (length (with_prices before.pi demand))) news =
     subst (λ (n : ℕ). All (IsRowWithin size.thermal n) news) (sym long) inside in
     record {
-      form = record {
-        scale = omega (arith, ints);
-        lengths = length_prices before.mu reserve ∙ text.form.lengths ∙ sym (length_prices before.pi demand);
-        rows = subst (λ (n : ℕ). All (IsRowWithin n (length (with_prices before.pi demand))) news) (sym text.units) priced;
-        rising = rising_from news rise;
-      };
+      form = grind (arith, ints, length_prices, with_prices, rising_from, before, reserve, text, demand, rows, news, priced, rise);
       units = text.units;
       periods_priced = long;
       scale = small;
@@ -349,11 +331,7 @@ place_rises size lawful (OfReserve t price) (OfReserve u other) within before = 
 place_rises size lawful (OfReserve t price) (OfRamps row) within before = omega (arith, within.0, lawful.periods)
 place_rises size lawful (OfRamps row) (OfDemand u other) within before = absurd before
 place_rises size lawful (OfRamps row) (OfReserve u other) within before = absurd before
-place_rises size lawful (OfRamps row) (OfRamps later) within before = by_number before.before
-  where
-    by_number : (row.g < later.g) ⊎ ((row.g ≡ later.g) × (row.t < later.t)) → 336 + (168 * row.g + row.t) < 336 + (168 * later.g + later.t)
-    by_number (inl earlier) = omega (arith, within.1, lawful.periods)
-    by_number (inr (same, earlier)) = omega arith
+place_rises size lawful (OfRamps row) (OfRamps later) within before = grind (arith, ints, lawful, row, later, within, before)
 
 place_within : (size : Sizes) → AreSizes size → (change : Change) → IsChangeWithin size change → place change < 688464
 place_within size lawful (OfDemand t price) within = omega (arith, within.0, lawful.periods)

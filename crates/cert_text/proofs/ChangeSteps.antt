@@ -1,9 +1,7 @@
 -- Changes of a table that are read and made one after the other, and tables that are read behind each other.
-use Rattle.std.proofs.Common.{◌≡◌, ℕ, zero, suc, ◌+◌, ◌-◌, ◌<◌, ◌≤◌, Bool, true, false, cond, ◌&&◌, List, [], ◌∷◌, ◌++◌, length, Option, Some, None, IfSome, Result, Ok, Err, refl, sym, ap, subst, ◌∙◌, arith, pos, append-nil}
+use Rattle.std.proofs.Common.{◌≡◌, ℕ, zero, suc, ◌+◌, ◌-◌, ◌<◌, ◌≤◌, Bool, true, false, cond, ◌&&◌, List, [], ◌∷◌, ◌++◌, length, Option, Some, None, IfSome, Result, Ok, Err, refl, sym, ap, ◌∙◌, arith, pos, append-nil}
 use Rattle.std.specs.Option.{option_and_then}
 use Rattle.std.specs.List.{slice_get}
-use Rattle.std.proofs.lemmas.Bool.{ltb-true}
-use Rattle.std.proofs.lemmas.Option.{cond_some}
 use Rattle.std.proofs.lemmas.List.{length-set, length_push}
 use Rattle.table_list.specs.Changes.{Table, RampRow, Change, OfDemand, OfReserve, OfRamps, changed, all_changed}
 use Rattle.cert_text.specs.CertificateText.{Version, First, Second, Third, told_from}
@@ -21,23 +19,10 @@ use Rattle.cert_text.proofs.PartSteps.{ok_of, told_then}
 -- one test and then another
 passing_both : {A : Type 0} (form : Form A) (first second : A → Bool) (bytes : List ℕ)
     → passing (λ a. first a && second a) form bytes ≡ option_and_then (λ (x : A × List ℕ). cond (second x.0) (Some x) None) (passing first form bytes)
-passing_both {A} form first second bytes = by_read (form bytes)
-  where
-    by_test : (x : A × List ℕ) (test : Bool) → cond (test && second x.0) (Some x) None ≡ option_and_then (λ (x : A × List ℕ). cond (second x.0) (Some x) None) (cond test (Some x) None)
-    by_test x true = refl
-    by_test x false = refl
-
-    by_read : (read : Option (A × List ℕ)) → option_and_then (λ (x : A × List ℕ). cond (first x.0 && second x.0) (Some x) None) read
-        ≡ option_and_then (λ (x : A × List ℕ). cond (second x.0) (Some x) None) (option_and_then (λ (x : A × List ℕ). cond (first x.0) (Some x) None) read)
-    by_read None = refl
-    by_read (Some x) = by_test x (first x.0)
+passing_both {A} form first second bytes = grind arith
 
 passed : {A : Type 0} (form : Form A) (test : A → Bool) (bytes : List ℕ) (x : A × List ℕ) → passing test form bytes ≡ Some x → test x.0 ≡ true
-passed {A} form test bytes x e = by_read (form bytes) e
-  where
-    by_read : (read : Option (A × List ℕ)) → option_and_then (λ (x : A × List ℕ). cond (test x.0) (Some x) None) read ≡ Some x → test x.0 ≡ true
-    by_read None e = absurd cc
-    by_read (Some y) e = let found = cond_some (test y.0) y x e in subst (λ (y : A × List ℕ). test y.0 ≡ true) found.1 found.0
+passed {A} form test bytes x e = grind (arith, e)
 
 change_read : (size : Sizes) (table : Table) (last : Option Change) (bytes rest : List ℕ) (change : Change)
     → passing (is_within size) written_change_at bytes ≡ Some (change, rest)
@@ -69,12 +54,7 @@ no_change size table last bytes e =
 -- its price is there
 pub change_has_price : (size : Sizes) (draft : Draft) (left : List RampRow) (bytes rest : List ℕ) (change : Change) → ArePriced size.periods draft
     → passing (is_within size) written_change_at bytes ≡ Some (change, rest) → HasPrice (so_far draft left) change
-change_has_price size draft left bytes rest change priced e = by_kind change (passed written_change_at (is_within size) bytes (change, rest) e)
-  where
-    by_kind : (change : Change) → is_within size change ≡ true → HasPrice (so_far draft left) change
-    by_kind (OfDemand t price) within = omega (arith, ltb-true t size.periods within, priced.demand)
-    by_kind (OfReserve t price) within = omega (arith, ltb-true t size.periods within, priced.reserve)
-    by_kind (OfRamps row) within = tt
+change_has_price size draft left bytes rest change priced e = grind (arith, priced, e)
 
 -- ---- making changes one after the other
 -- there are as many prices as before
@@ -145,10 +125,7 @@ no_next size before bytes e = rw e refl
 
 -- ---- a draft of the table before
 pub drafted_priced : (size : Sizes) (draft : Draft) (table : Table) → IsDrafted size draft table → ArePriced size.periods draft
-drafted_priced size draft table h = record {
-  demand = sym (ap (λ (table : Table). length table.pi) h.numbers) ∙ h.text.periods_priced;
-  reserve = sym (ap (λ (table : Table). length table.mu) h.numbers) ∙ h.text.form.lengths ∙ h.text.periods_priced;
-}
+drafted_priced size draft table h = grind (arith, h)
 
 drafted_rescaled : (draft : Draft) (before : Table) (k : ℕ) (rows : List RampRow) → before ≡ drafted draft draft.ramps.items → rows ≡ before.ramps
     → ◌≡◌ {A = Table} (record { units = draft.units; k = pos k; pi = draft.pi.items; mu = draft.mu.items; ramps = rows }) (rescaled before k)
@@ -217,5 +194,4 @@ told_from_last Third last before e = sym e
 pub drafts_alike : (size : Sizes) (draft next : Draft) (last : Option Table) (table : Table) → IfSome last (IsDrafted size draft) → IsDrafted size next table
     → IfSome last (λ before. AreAlike before table)
 drafts_alike size draft next None table before h = tt
-drafts_alike size draft next (Some last) table before h =
-    record { units = before.text.units ∙ sym h.text.units; periods = before.text.periods_priced ∙ sym h.text.periods_priced }
+drafts_alike size draft next (Some last) table before h = grind (arith, h)

@@ -1,5 +1,5 @@
 -- The forms of numbers and of single lines read what they write, and nothing else; before them, the digits of a number's text.
-use Rattle.std.proofs.Common.{ℕ, ℤ, ◌+◌, ◌/◌, ◌^◌, ◌<◌, ◌≤◌, length, unsigned_abs, arith, ◌≡◌, zero, suc, ◌-◌, ◌*◌, true, false, List, [], ◌∷◌, get_or, take, sym, ap, ◌∙◌, Bool, ◌++◌, drop, All, Option, Some, None, refl, subst, append_assoc, cond, inl, inr, ◌⊎◌, ◌%◌, pos, negsuc, ⊎_elim, not, ◌&&◌, ◌||◌, nat_eq, nat_lt, nat_le, ◌↔◌, IfSome, codes}
+use Rattle.std.proofs.Common.{ℕ, ℤ, ◌+◌, ◌/◌, ◌^◌, ◌<◌, ◌≤◌, length, unsigned_abs, arith, ◌≡◌, zero, suc, ◌-◌, ◌*◌, true, false, List, [], ◌∷◌, get_or, take, sym, ap, ◌∙◌, Bool, ◌++◌, drop, All, Option, Some, None, refl, subst, append_assoc, cond, inl, inr, ◌⊎◌, ◌%◌, pos, not, ◌&&◌, ◌||◌, nat_eq, nat_lt, nat_le, ◌↔◌, IfSome, codes}
 use Rattle.std.proofs.Math.Nat.{pow-le-pow_right}
 use Rattle.std.proofs.lemmas.Int.Digits.{digits_value-lt, digits_value_more}
 use Rattle.uc_model.specs.Decimal.{whole_text, minus_text, signed_text, digit_byte}
@@ -8,15 +8,15 @@ use Rattle.std.specs.Char.{digit_value}
 use Rattle.std.specs.Str.Parse.{digits_value, AllDigits}
 use Rattle.std.proofs.lemmas.List.Sums.{prefix_len_is, prefix_len-le-length}
 use Rattle.std.proofs.lemmas.Grind.{common_steps}
-use Rattle.cert_text.specs.inside.Forms.{is_digit, run, run_value, ◌>>=◌, Form, text_at, after, ended, both, mapped, passing, fixed, when, times, begins_with, is_whole, whole_at, decimals_at, signed_at, with_sign, negative, millionths, millionths_at, money_at, ordinal_at, or_else, version_at, sizes_of, are_sizes, size_at, claim_at, on_cell, off_cell, on_cell_at, cell_at, row_at, scale_at, ramp_count_at, end_at}
+use Rattle.cert_text.specs.inside.Forms.{is_digit, run, run_value, ◌>>=◌, Form, text_at, after, ended, both, mapped, passing, fixed, when, times, begins_with, is_whole, whole_at, decimals_at, signed_at, with_sign, millionths, millionths_at, money_at, ordinal_at, or_else, version_at, sizes_of, are_sizes, size_at, claim_at, on_cell, off_cell, on_cell_at, cell_at, row_at, scale_at, ramp_count_at, end_at}
 use Rattle.std.specs.List.{flat_map, starts_with}
-use Rattle.std.proofs.lemmas.Bool.Decides.{Decides-eqb, Decides-and, Decides-ltb, Decides-like}
+use Rattle.std.proofs.lemmas.Bool.Decides.{Decides-eqb}
 use Rattle.std.proofs.lemmas.List.{drop_at, take_at, take-append-drop, length-append, length-take-le, get_or-take, get_or_append_left}
 use Rattle.std.proofs.lemmas.List.Elements.{All-nil, All-cons, All-head, All-tail}
 use Rattle.std.proofs.lemmas.Option.{same_Some, cond_some}
 use Rattle.std.proofs.lemmas.Slice.Eq.{starts_is}
 use Rattle.cert_text.proofs.Loops.{after_text}
-use Rattle.std.proofs.lemmas.Bool.{ltb-true, leb-true, lt-ltb, le-leb, eqb-true, ne_eqb, cases_eq, and_parts, eq-eqb, false≢true}
+use Rattle.std.proofs.lemmas.Bool.{ltb-true, leb-true, lt-ltb, le-leb, eqb-true, ne_eqb, and_parts, eq-eqb, false≢true}
 use Rattle.uc_model.specs.Money.{six_digits, millionths_text, money_text}
 use Rattle.uc_model.proofs.MoneyText.{length-six_digits, six_digits-digits_value, six_digits_injective}
 use Rattle.cert_text.specs.TextConditions.{Cell, HasDigits, IsMoney, IsOnCell, IsOffCell, IsCellText, IsThermalRow, IsPowerRow}
@@ -52,9 +52,7 @@ digit_value_is c e = grind arith
 pub number_more : (bytes : List ℕ) (count value digit : ℕ) → count < length bytes → is_digit (get_or bytes count 0) ≡ true
     → value ≡ digits_value 10 (take count bytes) → digit ≡ get_or bytes count 0 - 48
     → value * 10 + digit ≡ digits_value 10 (take (count + 1) bytes)
-number_more bytes count value digit lt e number is =
-    let d = digit_value_is (get_or bytes count 0) e in
-    omega (arith, digits_value_more 10 bytes count lt, d)
+number_more bytes count value digit lt e number is = grind (arith, digit_value_is, digits_value_more, lt, e, number, is)
 
 pub digit_bound : (c digit : ℕ) → is_digit c ≡ true → digit ≡ c - 48 → digit < 10
 digit_bound c digit e is = omega (arith, digit_value_is c e)
@@ -110,73 +108,30 @@ text_at-again text rest =
     rw found (ap Some (drop_at text rest (length text) refl))
 
 pub fixed-form : {A : Type 0} (text : List ℕ) (value : A) → IsForm (fixed text value) (λ a. a ≡ value) (λ _. text) Anything
-fixed-form {A} text value = record {
-  takes = λ bytes x e.
-      let b = bind_some (text_at text bytes) (λ rest. Some (value, rest)) x e in
-      subst (λ (x : A × List ℕ). (x.0 ≡ value) × (bytes ≡ text ++ x.1)) (same_Some (value, b.0) x b.2) (refl, text_at-takes text bytes b.0 b.1);
-  again = λ a rest v f. rw (text_at-again text rest) (ap (λ (a : A). Some (a, rest)) (sym v));
-}
+fixed-form {A} text value = grind (arith, bind_some, same_Some, text_at-takes, text_at-again)
 
 pub after-form : {A : Type 0} {form : Form A} {V : A → Type 0} {t : A → List ℕ} {F : List ℕ → Type 0} → IsForm form V t F → (text : List ℕ)
     → IsForm (after text form) V (λ a. text ++ t a) F
-after-form {A} {form} {V} {t} {F} h text = record {
-  takes = λ bytes x e.
-      let b = bind_some (text_at text bytes) form x e in
-      let next = h.takes b.0 x b.2 in
-      (next.0, text_at-takes text bytes b.0 b.1 ∙ ap (λ rest. text ++ rest) next.1 ∙ sym (append_assoc text (t x.0) x.1));
-  again = λ a rest v f.
-      ap (after text form) (append_assoc text (t a) rest)
-      ∙ after_text text form (text ++ (t a ++ rest)) (t a ++ rest) _ (text_at-again text (t a ++ rest)) (h.again a rest v f);
-}
+after-form {A} {form} {V} {t} {F} h text = grind (arith, bind_some, text_at-takes, append_assoc, after_text, text_at-again, h)
 
 pub ended-form : {A : Type 0} {form : Form A} {V : A → Type 0} {t : A → List ℕ} {F : List ℕ → Type 0} → IsForm form V t F → (text : List ℕ)
     → ((rest : List ℕ) → F (text ++ rest)) → IsForm (ended form text) V (λ a. t a ++ text) Anything
-ended-form {A} {form} {V} {t} {F} h text follows = record {
-  takes = λ bytes x e.
-      let b = bind_some (form bytes) (λ x. text_at text x.1 >>= λ rest. Some (x.0, rest)) x e in
-      let c = bind_some (text_at text b.0.1) (λ rest. Some (b.0.0, rest)) x b.2 in
-      let first = h.takes bytes b.0 b.1 in
-      let parts = first.1 ∙ ap (λ rest. t b.0.0 ++ rest) (text_at-takes text b.0.1 c.0 c.1) ∙ sym (append_assoc (t b.0.0) text c.0) in
-      subst (λ (x : A × List ℕ). V x.0 × (bytes ≡ (t x.0 ++ text) ++ x.1)) (same_Some (b.0.0, c.0) x c.2) (first.0, parts);
-  again = λ a rest v f. ap (ended form text) (append_assoc (t a) text rest) ∙ rw (h.again a (text ++ rest) v (follows rest), text_at-again text rest) refl;
-}
+ended-form {A} {form} {V} {t} {F} h text follows = grind (arith, bind_some, text_at-takes, append_assoc, same_Some, text_at-again, h, follows)
 
 pub both-form : {A B : Type 0} {first : Form A} {second : Form B} {V : A → Type 0} {W : B → Type 0} {t : A → List ℕ} {s : B → List ℕ}
     {F G : List ℕ → Type 0} → IsForm first V t F → IsForm second W s G → ((b : B) (rest : List ℕ) → W b → G rest → F (s b ++ rest))
     → IsForm (both first second) (λ p. V p.0 × W p.1) (λ p. t p.0 ++ s p.1) G
-both-form {A} {B} {first} {second} {V} {W} {t} {s} {F} {G} h k follows = record {
-  takes = λ bytes x e.
-      let b = bind_some (first bytes) (λ x. second x.1 >>= λ y. Some ((x.0, y.0), y.1)) x e in
-      let c = bind_some (second b.0.1) (λ y. Some ((b.0.0, y.0), y.1)) x b.2 in
-      let one = h.takes bytes b.0 b.1 in
-      let two = k.takes b.0.1 c.0 c.1 in
-      let parts = one.1 ∙ ap (λ rest. t b.0.0 ++ rest) two.1 ∙ sym (append_assoc (t b.0.0) (s c.0.0) c.0.1) in
-      subst (λ (x : (A × B) × List ℕ). (V x.0.0 × W x.0.1) × (bytes ≡ (t x.0.0 ++ s x.0.1) ++ x.1)) (same_Some ((b.0.0, c.0.0), c.0.1) x c.2) ((one.0, two.0), parts);
-  again = λ p rest v g.
-      ap (both first second) (append_assoc (t p.0) (s p.1) rest)
-      ∙ rw (h.again p.0 (s p.1 ++ rest) v.0 (follows p.1 rest v.1 g), k.again p.1 rest v.1 g) refl;
-}
+both-form {A} {B} {first} {second} {V} {W} {t} {s} {F} {G} h k follows = grind (arith, bind_some, append_assoc, same_Some, h, k, follows)
 
 -- the same condition or text in other words
 pub form-as : {A : Type 0} {form : Form A} {V : A → Type 0} {t : A → List ℕ} {F : List ℕ → Type 0} → IsForm form V t F
     → (W : A → Type 0) (s : A → List ℕ) → ((a : A) → V a → W a) → ((a : A) → W a → V a) → ((a : A) → V a → t a ≡ s a) → IsForm form W s F
-form-as {A} {form} {V} {t} {F} h W s there back same = record {
-  takes = λ bytes x e. let one = h.takes bytes x e in (there x.0 one.0, one.1 ∙ ap (λ text. text ++ x.1) (same x.0 one.0));
-  again = λ a rest w f. ap (λ text. form (text ++ rest)) (sym (same a (back a w))) ∙ h.again a rest (back a w) f;
-}
+form-as {A} {form} {V} {t} {F} h W s there back same = grind (arith, h, there, back, same)
 
 -- the same form read as another type
 pub image-form : {A B : Type 0} {form : Form A} {V : A → Type 0} {t : A → List ℕ} {F : List ℕ → Type 0} → IsForm form V t F
     → (f : A → B) (s : B → List ℕ) → ((a : A) → V a → t a ≡ s (f a)) → IsForm (mapped f form) (λ b. (a : A) × V a × (f a ≡ b)) s F
-image-form {A} {B} {form} {V} {t} {F} h f s same = record {
-  takes = λ bytes x e.
-      let b = bind_some (form bytes) (λ x. Some (f x.0, x.1)) x e in
-      let one = h.takes bytes b.0 b.1 in
-      subst (λ (x : B × List ℕ). ((a : A) × V a × (f a ≡ x.0)) × (bytes ≡ s x.0 ++ x.1)) (same_Some (f b.0.0, b.0.1) x b.2)
-      ((b.0.0, one.0, refl), one.1 ∙ ap (λ text. text ++ b.0.1) (same b.0.0 one.0));
-  again = λ b rest w follows.
-      ap (λ text. mapped f form (text ++ rest)) (ap s (sym w.2) ∙ sym (same w.0 w.1)) ∙ rw (h.again w.0 rest w.1 follows) (ap (λ (b : B). Some (b, rest)) w.2);
-}
+image-form {A} {B} {form} {V} {t} {F} h f s same = grind (arith, h, same)
 
 -- where the other type can be read back
 pub record IsRetold {A B : Type 0} (f : A → B) (g : B → A) (V : A → Type 0) (W : B → Type 0) (t : A → List ℕ) (s : B → List ℕ) : Type 0 where
@@ -185,20 +140,12 @@ pub record IsRetold {A B : Type 0} (f : A → B) (g : B → A) (V : A → Type 0
 
 pub mapped-form : {A B : Type 0} {form : Form A} {V : A → Type 0} {t : A → List ℕ} {F : List ℕ → Type 0} → IsForm form V t F
     → (f : A → B) (g : B → A) (W : B → Type 0) (s : B → List ℕ) → IsRetold f g V W t s → IsForm (mapped f form) W s F
-mapped-form h f g W s retold =
-    form-as (image-form h f s (λ a v. (retold.there a v).1)) W s (λ b w. subst W w.2 (retold.there w.0 w.1).0) (λ b w. let back = retold.back b w in (g b, back.0, back.1)) (λ b v. refl)
+mapped-form h f g W s retold = grind (arith, h, retold)
 
 -- a test of what is read
 pub passing-form : {A : Type 0} {form : Form A} {V : A → Type 0} {t : A → List ℕ} {F : List ℕ → Type 0} → IsForm form V t F
     → (test : A → Bool) (W : A → Type 0) → ((a : A) → V a → test a ≡ true → W a) → ((a : A) → W a → V a × (test a ≡ true)) → IsForm (passing test form) W t F
-passing-form {A} {form} {V} {t} {F} h test W there back = record {
-  takes = λ bytes x e.
-      let b = bind_some (form bytes) (λ x. cond (test x.0) (Some x) None) x e in
-      let one = h.takes bytes b.0 b.1 in
-      let passed = cond_some (test b.0.0) b.0 x b.2 in
-      subst (λ (x : A × List ℕ). W x.0 × (bytes ≡ t x.0 ++ x.1)) passed.1 (there b.0.0 one.0 passed.0, one.1);
-  again = λ a rest w f. rw (h.again a rest (back a w).0 f, (back a w).1) refl;
-}
+passing-form {A} {form} {V} {t} {F} h test W there back = grind (arith, h, there, back)
 
 -- the form so many times, where what follows it may be itself
 pub times-form : {A : Type 0} {form : Form A} {V : A → Type 0} {t : A → List ℕ} {F : List ℕ → Type 0} → IsForm form V t F
@@ -230,10 +177,7 @@ times-form {A} {form} {V} {t} {F} h follows n = record { takes = taken n; again 
 
 -- nothing stands for the value
 pub empty-form : {A : Type 0} (value : A) → IsForm (λ rest. Some (value, rest)) (λ a. a ≡ value) (λ _. []) Anything
-empty-form {A} value = record {
-  takes = λ bytes x e. subst (λ (x : A × List ℕ). (x.0 ≡ value) × (bytes ≡ x.1)) (same_Some (value, bytes) x e) (refl, refl);
-  again = λ a rest v f. ap (λ (a : A). Some (a, rest)) (sym v);
-}
+empty-form {A} value = grind arith
 
 -- made of a value, or another one
 abbrev pub IsChosen : {A B : Type 0} → (B → Type 0) → (B → A) → (A → Type 0) → A → Type 0
@@ -243,23 +187,8 @@ IsChosen {A} {B} V f W a = ((b : B) × V b × (f b ≡ a)) ⊎ W a
 pub choice-form : {A B : Type 0} {form : Form B} {other : Form A} {V : B → Type 0} {W : A → Type 0} {t : B → List ℕ} {u : A → List ℕ} → IsForm form V t Anything → (f : B → A) → IsForm other W u Anything
     → (text : List ℕ) → ((b : B) → V b → text ++ t b ≡ u (f b)) → ((a : A) (rest : List ℕ) → W a → text_at text (u a ++ rest) ≡ None)
     → IsForm (λ bytes. when (text_at text bytes) (mapped f form) (other bytes)) (IsChosen V f W) u Anything
-choice-form {A} {B} {form} {other} {V} {W} {t} {u} h f k text same apart = record { takes = λ bytes x e. taken bytes x (text_at text bytes) refl e; again = read }
-  where
-    taken : (bytes : List ℕ) (x : A × List ℕ) (o : Option (List ℕ)) → text_at text bytes ≡ o → when o (mapped f form) (other bytes) ≡ Some x → IsChosen V f W x.0 × (bytes ≡ u x.0 ++ x.1)
-    taken bytes x None e g = let one = k.takes bytes x g in (inr one.0, one.1)
-    taken bytes x (Some rest) e g =
-        let b = bind_some (form rest) (λ y. Some (f y.0, y.1)) x g in
-        let one = h.takes rest b.0 b.1 in
-        subst (λ (x : A × List ℕ). IsChosen V f W x.0 × (bytes ≡ u x.0 ++ x.1)) (same_Some (f b.0.0, b.0.1) x b.2) (
-          inl (b.0.0, one.0, refl),
-          text_at-takes text bytes rest e ∙ ap (λ rest. text ++ rest) one.1 ∙ sym (append_assoc text (t b.0.0) b.0.1) ∙ ap (λ text. text ++ b.0.1) (same b.0.0 one.0),
-        )
-
-    read : (a : A) (rest : List ℕ) → IsChosen V f W a → Anything rest → when (text_at text (u a ++ rest)) (mapped f form) (other (u a ++ rest)) ≡ Some (a, rest)
-    read a rest (inl (b, v, e)) g =
-        let parts : u a ++ rest ≡ text ++ (t b ++ rest) = ap (λ a. u a ++ rest) (sym e) ∙ ap (λ text. text ++ rest) (sym (same b v)) ∙ append_assoc text (t b) rest in
-        ap (λ bytes. when (text_at text bytes) (mapped f form) (other bytes)) parts ∙ rw (text_at-again text (t b ++ rest), h.again b rest v g) (ap (λ (a : A). Some (a, rest)) e)
-    read a rest (inr w) g = rw (apart a rest w) (k.again a rest w g)
+choice-form {A} {B} {form} {other} {V} {W} {t} {u} h f k text same apart =
+    grind (arith, bind_some, same_Some, text_at-takes, append_assoc, text_at-again, h, k, same, apart)
 
 -- ---- The forms of numbers read their texts.
 -- what stands there doesn't begin with a digit
@@ -292,20 +221,13 @@ begins_with-get_or c (b ∷ bytes) some = refl
 lead_from_test : (bytes : List ℕ) → 0 < run bytes → (not (begins_with 48 bytes) || nat_eq (run bytes) 1) ≡ true
     → get_or (take (run bytes) bytes) 0 0 ≡ 48 → length (take (run bytes) bytes) ≡ 1
 lead_from_test bytes some test zero_first =
-    let first : get_or bytes 0 0 ≡ 48 = sym (get_or-take (run bytes) bytes 0 0 some) ∙ zero_first in
-    let begins : begins_with 48 bytes ≡ true = begins_with-get_or 48 bytes (omega (arith, run-le bytes)) ∙ rw first refl in
-    let one : nat_eq (run bytes) 1 ≡ true = sym (ap (λ b. not b || nat_eq (run bytes) 1) begins) ∙ test in
-    length-take-le (run bytes) bytes (run-le bytes) ∙ eqb-true (run bytes) 1 one
+    grind (arith, get_or-take, begins_with-get_or, run-le, nat_eq, length-take-le, eqb-true, some, test, zero_first)
 
 -- and the text of a number passes it
 lead_of_text : (n : ℕ) (rest : List ℕ) → (not (begins_with 48 (whole_text n ++ rest)) || nat_eq (length (whole_text n)) 1) ≡ true
 lead_of_text zero rest = rw (whole_text_digit 0 (omega arith)) refl
 lead_of_text (suc n) rest =
-    let some : 0 < length (whole_text (suc n) ++ rest) = omega (arith, length-append (whole_text (suc n)) rest, whole_text_nonempty (suc n)) in
-    let first = get_or_append_left (whole_text (suc n)) rest 0 0 (whole_text_nonempty (suc n)) in
-    let large = first_whole_text (suc n) (omega arith) in
-    let other : nat_eq (get_or (whole_text (suc n) ++ rest) 0 0) 48 ≡ false = ne_eqb (get_or (whole_text (suc n) ++ rest) 0 0) 48 (λ e. omega arith) in
-    rw (begins_with-get_or 48 (whole_text (suc n) ++ rest) some ∙ other) refl
+    grind (arith, length-append, whole_text_nonempty, get_or_append_left, first_whole_text, nat_eq, ne_eqb, begins_with-get_or)
 
 pub whole-form : (digits : ℕ) → 0 < digits → IsForm (whole_at digits) (λ n. n < 10 ^ digits) whole_text NoDigit
 unfolding whole_at
@@ -344,11 +266,7 @@ decimals_are_digits n = (digit 5, (digit 4, (digit 3, (digit 2, (digit 1, (digit
     digit power = omega (arith, digit_value-digit_byte (n / 10 ^ power % 10) (omega arith))
 
 decimals_value : (n : ℕ) → n < 1000000 → digits_value 10 (six_digits n) ≡ n
-decimals_value n small =
-    let bound = digits_value-lt 10 (six_digits n) (decimals_are_digits n) in
-    let power : 10 ^ length (six_digits n) ≡ 1000000 = ap (λ k. 10 ^ k) (length-six_digits n) in
-    six_digits_injective (digits_value 10 (six_digits n)) n (omega arith) small
-    (six_digits-digits_value (six_digits n) (length-six_digits n) (decimals_are_digits n))
+decimals_value n small = grind (arith, digits_value-lt, decimals_are_digits, length-six_digits, six_digits_injective, six_digits-digits_value, small)
 
 pub decimals-form : IsForm decimals_at (λ n. n < 1000000) six_digits NoDigit
 unfolding decimals_at
@@ -377,43 +295,10 @@ decimals-form = record {
 pub with_sign-form : {form : Form ℕ} {V : ℕ → Type 0} {t : ℕ → List ℕ} {F : List ℕ → Type 0} → IsForm form V t F
     → ((n : ℕ) (rest : List ℕ) → begins_with 45 (t n ++ rest) ≡ false)
     → IsForm (with_sign form) (λ z. V (unsigned_abs z)) (λ z. minus_text z ++ t (unsigned_abs z)) F
-with_sign-form {form} {V} {t} {F} h no_minus = record { takes = taken; again = read }
-  where
-    plain : (bytes : List ℕ) (x : ℤ × List ℕ) → (form bytes >>= λ x. Some (pos x.0, x.1)) ≡ Some x
-        → V (unsigned_abs x.0) × (bytes ≡ (minus_text x.0 ++ t (unsigned_abs x.0)) ++ x.1)
-    plain bytes x e =
-        let b = bind_some (form bytes) (λ x. Some (pos x.0, x.1)) x e in
-        subst (λ (x : ℤ × List ℕ). V (unsigned_abs x.0) × (bytes ≡ (minus_text x.0 ++ t (unsigned_abs x.0)) ++ x.1)) (same_Some (pos b.0.0, b.0.1) x b.2) (h.takes bytes b.0 b.1)
-
-    minus : (n : ℕ) (bytes rest : List ℕ) (x : ℤ × List ℕ) → (negative n >>= λ z. Some (z, rest)) ≡ Some x → V n → bytes ≡ t n ++ rest
-        → V (unsigned_abs x.0) × (45 ∷ bytes ≡ (minus_text x.0 ++ t (unsigned_abs x.0)) ++ x.1)
-    minus zero bytes rest x e v parts = absurd cc
-    minus (suc n) bytes rest x e v parts =
-        subst (λ (x : ℤ × List ℕ). V (unsigned_abs x.0) × (45 ∷ bytes ≡ (minus_text x.0 ++ t (unsigned_abs x.0)) ++ x.1)) (same_Some (negsuc n, rest) x e)
-        (v, ap (λ (bs : List ℕ). 45 ∷ bs) parts)
-
-    taken : (bytes : List ℕ) (x : ℤ × List ℕ) → with_sign form bytes ≡ Some x
-        → V (unsigned_abs x.0) × (bytes ≡ (minus_text x.0 ++ t (unsigned_abs x.0)) ++ x.1)
-    taken [] x e = plain [] x e
-    taken (c ∷ bytes) x e = ⊎_elim
-        (λ (same : c ≡ 45).
-        let with_minus : (form bytes >>= λ x. negative x.0 >>= λ z. Some (z, x.1)) ≡ Some x = rw (eq-eqb c 45 same) at e in
-        let b = bind_some (form bytes) (λ x. negative x.0 >>= λ z. Some (z, x.1)) x with_minus in
-        let one = h.takes bytes b.0 b.1 in
-        rw same (minus b.0.0 bytes b.0.1 x b.2 one.0 one.1))
-        (λ (other : c ≡ 45 → ⊥). plain (c ∷ bytes) x (rw (ne_eqb c 45 other) at e))
-        (cases_eq c 45)
-
-    read : (z : ℤ) (rest : List ℕ) → V (unsigned_abs z) → F rest → with_sign form ((minus_text z ++ t (unsigned_abs z)) ++ rest) ≡ Some (z, rest)
-    read (pos n) rest v f = rw (no_minus n rest, h.again n rest v f) refl
-    read (negsuc n) rest v f = rw (h.again (suc n) rest v f) refl
+with_sign-form {form} {V} {t} {F} h no_minus = grind (arith, h, no_minus)
 
 whole_begins : (n : ℕ) (rest : List ℕ) → begins_with 45 (whole_text n ++ rest) ≡ false
-whole_begins n rest =
-    let some : 0 < length (whole_text n ++ rest) = omega (arith, length-append (whole_text n) rest, whole_text_nonempty n) in
-    let first = get_or_append_left (whole_text n) rest 0 0 (whole_text_nonempty n) in
-    let byte = whole_text_bytes n 0 0 (whole_text_nonempty n) in
-    begins_with-get_or 45 (whole_text n ++ rest) some ∙ ne_eqb (get_or (whole_text n ++ rest) 0 0) 45 (λ e. omega arith)
+whole_begins n rest = grind (arith, length-append, whole_text_nonempty, get_or_append_left, whole_text_bytes, begins_with-get_or, ne_eqb)
 
 pub signed-form : (digits : ℕ) → 0 < digits → IsForm (signed_at digits) (HasDigits digits) signed_text NoDigit
 unfolding signed_at signed_text
@@ -513,15 +398,7 @@ unfolding end_at line
 end-form = form-as (fixed-form _ tt) (λ _. Unit {0}) (λ _. end_line) (λ a v. tt) (λ a v. refl) (λ a v. refl)
 
 sizes_decide : (size : Sizes) → Decides (are_sizes size) (AreSizes size)
-sizes_decide size =
-    Decides-like (are_sizes size)
-    (λ h. record { some_period = h.0; periods = h.1.0; thermal = h.1.1.0; renewable = h.1.1.1.0; tables = omega (arith, h.1.1.1.1) })
-    (λ h. (h.some_period, (h.periods, (h.thermal, (h.renewable, omega (arith, h.tables))))))
-    (Decides-and _ _ (decides_le 1 size.periods) (Decides-and _ _ (decides_le size.periods 168) (Decides-and _ _ (decides_le size.thermal 4096)
-    (Decides-and _ _ (decides_le size.renewable 4096) (Decides-ltb size.tables 4294967296)))))
-  where
-    decides_le : (a b : ℕ) → Decides (nat_le a b) (a ≤ b)
-    decides_le a b = (leb-true a b, le-leb a b)
+sizes_decide size = grind arith
 
 pub size-form : (version : Version) → IsForm (size_at version) (IsSizeIn version) (λ size. size_line size.periods size.thermal size.renewable size.tables) Anything
 unfolding size_at line

@@ -1,9 +1,9 @@
 -- What the grammar of lines says of whole texts: the reader's answer, the first line at fault, and that bytes have one.
-use Rattle.std.proofs.Common.{◌≡◌, ℕ, ◌≤◌, List, [], ◌++◌, length, Ok, Err, sym, ap, ◌∙◌, arith, suc, ◌+◌, Bool, true, false, ◌∷◌, All, Option, Some, None, ℤ, pos, refl, cond, nat_eq, ◌≢◌, zero, ◌-◌, take, subst, append-nil, ⊎_elim, replicate, Result, append_assoc, inl, inr, ◌⊎◌, get_or, drop, length-append, take_at, codes}
+use Rattle.std.proofs.Common.{◌≡◌, ℕ, ◌≤◌, List, [], ◌++◌, length, Ok, Err, sym, ap, ◌∙◌, arith, suc, ◌+◌, Bool, true, false, ◌∷◌, All, Option, Some, None, ℤ, pos, refl, cond, nat_eq, ◌≢◌, zero, subst, append-nil, ⊎_elim, replicate, Result, append_assoc, inl, inr, ◌⊎◌, get_or, drop, length-append, take_at, codes}
 use Rattle.outside.specs.Lines.{joined, spaced, line, words_of, list_line}
 use Rattle.dual_model.specs.Prelude.{Certificate, Bound, Ray, Empty}
 use Rattle.table_list.specs.Changes.{Table, Change, OfDemand, OfReserve, OfRamps, changed}
-use Rattle.cert_text.specs.CertificateText.{Version, version_number, change_line, told_from, Cell, RampRow, Listing, listing_of, certificate_lines, certificate_text, claim_line, cell_text, TreeNode, LeafNode, SplitNode, node_line}
+use Rattle.cert_text.specs.CertificateText.{Version, version_number, change_line, Cell, RampRow, Listing, listing_of, certificate_lines, certificate_text, claim_line, cell_text, TreeNode, LeafNode, SplitNode, node_line}
 use Rattle.cert_text.specs.TextConditions.{HasText}
 use Rattle.cert_text.specs.inside.Parts.{certificate_part}
 use Rattle.cert_text.proofs.PartSteps.{same_Ok, Stops, Done}
@@ -17,9 +17,8 @@ use Rattle.uc_model.specs.Money.{money_text}
 use Rattle.uc_model.proofs.DecimalText.{whole_text_bytes, signed_text_bytes}
 use Rattle.uc_model.proofs.MoneyText.{money_text_bytes}
 use Rattle.outside.proofs.Joining.{joined-cons}
-use Rattle.cert_text.specs.Grammar.{Symbol, Head, Size, Claim, Plan, Schedule, ThermalRow, RenewableRow, Shed, Short, Scale, Pi, Mu, Ramps, Ramp, Next, Update, Node, End, Ahead, table_head, tables_from, changes_from, scaled, with_ramp, rescaled, Produces, Reaches, ScheduleHead, schedule_line, PlanLine, Priced, Unpriced, plan_line, behind_plan, Sizes, AreSizes, after_size, shortage_rows, schedule_rows, ramp_rows, children, CertKind, HasLineFeed, IsWholeLine, IsFormAt, IsCutAt, IsFaultOf, MayStand, IsKindAt}
+use Rattle.cert_text.specs.Grammar.{Symbol, Head, Size, Claim, Plan, Schedule, ThermalRow, RenewableRow, Shed, Short, Scale, Pi, Mu, Ramps, Ramp, Next, Update, Node, End, Ahead, tables_from, changes_from, scaled, with_ramp, rescaled, Produces, Reaches, ScheduleHead, schedule_line, PlanLine, Priced, Unpriced, plan_line, behind_plan, Sizes, AreSizes, after_size, shortage_rows, schedule_rows, ramp_rows, children, CertKind, HasLineFeed, IsWholeLine, IsFormAt, IsCutAt, IsFaultOf, MayStand, IsKindAt}
 use Rattle.cert_text.specs.inside.LineCount.{line_feeds, line_number, stop_kind}
-use Rattle.std.proofs.lemmas.Option.{some_pair_parts}
 use Rattle.cert_text.specs.inside.Forms.{Form}
 use Rattle.cert_text.proofs.FormLaws.{IsForm, Anything, version-form, size-form, claim-form, thermal-form, powers-form, scale-form, ramp_count-form, end-form}
 use Rattle.cert_text.proofs.PlanForms.{schedule-form, plan-form}
@@ -41,18 +40,11 @@ stop_shorter bytes rest e =
 pub read_as : (bytes rest : List ℕ) (version : Version) (c : Listing) → certificate_part bytes ≡ Ok ((version, c), rest)
     → (another : Version) (certificate : Certificate) → HasText another (listing_of certificate) → bytes ≡ certificate_text another certificate
     → (c ≡ listing_of certificate) × (version ≡ another) × (rest ≡ [])
-read_as bytes rest version c e another certificate h text =
-    let same = same_Ok ((version, c), rest) ((another, listing_of certificate), []) (sym e ∙ ap certificate_part text ∙ certificate_whole another certificate h) in (
-      ap (λ (x : (Version × Listing) × List ℕ). x.0.1) same,
-      ap (λ (x : (Version × Listing) × List ℕ). x.0.0) same,
-      ap (λ (x : (Version × Listing) × List ℕ). x.1) same,
-    )
+read_as bytes rest version c e another certificate h text = grind (arith, same_Ok, certificate_whole, e, h, text)
 
 pub no_stop : (bytes rest : List ℕ) → certificate_part bytes ≡ Err rest → (version : Version) (certificate : Certificate) → HasText version (listing_of certificate)
     → bytes ≡ certificate_text version certificate → ⊥
-no_stop bytes rest e version certificate h text =
-    let whole : certificate_part bytes ≡ Ok ((version, listing_of certificate), []) = ap certificate_part text ∙ certificate_whole version certificate h in
-    cc
+no_stop bytes rest e version certificate h text = grind (arith, certificate_whole, e, h, text)
 
 -- no text is a front of another one, and texts that are one have one listing and one version
 pub texts_apart : (version another : Version) (c d : Certificate) (more : List ℕ) → HasText version (listing_of c) → HasText another (listing_of d)
@@ -82,17 +74,7 @@ money_feeds : (z : ℤ) → line_feeds (money_text z) ≡ 0
 money_feeds z = no_feed (money_text z) (money_text_bytes z)
 
 cell_feeds : (cell : Cell) → line_feeds (cell_text cell) ≡ 0
-cell_feeds cell = by_state cell.on
-  where
-    on : line_feeds (joined (signed_text cell.p ∷ codes ":" ∷ signed_text cell.r ∷ codes ":" ∷ whole_text cell.category ∷ [])) ≡ 0
-    on =
-        rw (line_feeds-append (signed_text cell.p), signed_feeds cell.p)
-        (rw (line_feeds-append (codes ":") (signed_text cell.r ++ (codes ":" ++ whole_text cell.category)), line_feeds-append (signed_text cell.r), signed_feeds cell.r)
-        (rw (line_feeds-append (codes ":") (whole_text cell.category), whole_feeds cell.category) refl))
-
-    by_state : (on : Bool) → line_feeds (cond on (joined (signed_text cell.p ∷ codes ":" ∷ signed_text cell.r ∷ codes ":" ∷ whole_text cell.category ∷ [])) (codes "-")) ≡ 0
-    by_state true = on
-    by_state false = refl
+cell_feeds cell = grind (arith, line_feeds-append, signed_feeds, whole_feeds)
 
 -- ---- lines have one
 abbrev HasNone : List ℕ → Type 0
@@ -147,13 +129,7 @@ claim_one (Some z) = line_one (codes "claim bound") (money_text z ∷ []) refl (
 
 schedule_one : (head : Option ScheduleHead) → IsOne (schedule_line head)
 schedule_one None = line_one (codes "schedule none") [] refl tt
-schedule_one (Some head) = by_one (nat_eq head.denominator 1)
-  where
-    by_one : (one : Bool) → IsOne (line (codes "schedule") (money_text head.cost ∷ cond one [] (codes "over" ∷ whole_text head.denominator ∷ [])))
-    by_one true = line_one (codes "schedule") (money_text head.cost ∷ []) refl (money_feeds head.cost, tt)
-    by_one false =
-        line_one (codes "schedule") (money_text head.cost ∷ codes "over" ∷ whole_text head.denominator ∷ []) refl
-        (money_feeds head.cost, (refl, (whole_feeds head.denominator, tt)))
+schedule_one (Some head) = grind (arith, nat_eq, line_one, money_feeds, whole_feeds)
 
 plan_one : (first : PlanLine) → IsOne (plan_line first)
 plan_one (Priced a b) = line_one (codes "penalty") (whole_text a ∷ whole_text b ∷ []) refl (whole_feeds a, (whole_feeds b, tt))
@@ -170,9 +146,7 @@ node_one (SplitNode g t) = line_one (codes "split") (whole_text (suc g) ∷ whol
 
 row_one : (first : List ℕ) → HasNone first → (row : RampRow)
     → IsOne (line first (whole_text (suc row.g) ∷ whole_text (suc row.t) ∷ signed_text row.up ∷ signed_text row.down ∷ []))
-row_one first none row =
-    line_one first (whole_text (suc row.g) ∷ whole_text (suc row.t) ∷ signed_text row.up ∷ signed_text row.down ∷ []) none
-    (whole_feeds (suc row.g), (whole_feeds (suc row.t), (signed_feeds row.up, (signed_feeds row.down, tt))))
+row_one first none row = grind (arith, line_one, whole_feeds, signed_feeds, none)
 
 price_one : (first : List ℕ) → HasNone first → (t : ℕ) (price : ℤ) → IsOne (line first (whole_text (suc t) ∷ signed_text price ∷ []))
 price_one first none t price = line_one first (whole_text (suc t) ∷ signed_text price ∷ []) none (whole_feeds (suc t), (signed_feeds price, tt))
@@ -184,9 +158,7 @@ change_one (OfRamps row) = row_one (codes "r") refl row
 
 produced_one : (kind : Symbol) (text : List ℕ) (next : List Symbol) → Produces kind text next → IsOne text
 produced_one Head text next p = subst IsOne (sym p.1) (line_one (codes "uc-certificate") (whole_text (version_number p.0) ∷ []) refl (whole_feeds (version_number p.0), tt))
-produced_one (Size version) text next p =
-    subst IsOne (sym p.2) (line_one (codes "size") (whole_text p.0.periods ∷ whole_text p.0.thermal ∷ whole_text p.0.renewable ∷ whole_text p.0.tables ∷ []) refl
-    (whole_feeds p.0.periods, (whole_feeds p.0.thermal, (whole_feeds p.0.renewable, (whole_feeds p.0.tables, tt)))))
+produced_one (Size version) text next p = grind (arith, line_one, whole_feeds, version, p)
 produced_one Claim text next p = subst IsOne (sym p.2) (claim_one p.0)
 produced_one (Plan size) text next p = subst IsOne (sym p.2) (plan_one p.0)
 produced_one (Schedule size) text next p = subst IsOne (sym p.2) (schedule_one p.0)
@@ -199,8 +171,7 @@ produced_one (Pi ahead table) text next p = subst IsOne (sym p.2) (list_line_one
 produced_one (Mu ahead table) text next p = subst IsOne (sym p.2) (list_line_one (codes "mu") signed_text refl signed_feeds p.0)
 produced_one (Ramps ahead table) text next p = subst IsOne (sym p.2) (line_one (codes "ramps") (whole_text p.0 ∷ []) refl (whole_feeds p.0, tt))
 produced_one (Ramp ahead table more before) text next p = subst IsOne (sym p.2) (row_one (codes "ramp") refl p.0)
-produced_one (Next ahead before) text next p =
-    subst IsOne (sym p.2) (line_one (codes "next") (signed_text (pos p.0.0) ∷ whole_text p.0.1 ∷ []) refl (signed_feeds (pos p.0.0), (whole_feeds p.0.1, tt)))
+produced_one (Next ahead before) text next p = grind (arith, line_one, signed_feeds, whole_feeds, ahead, before, p)
 produced_one (Update ahead table more last) text next p = subst IsOne (sym p.2) (change_one p.0)
 produced_one (Node size) text next p = subst IsOne (sym p.2) (node_one p.0)
 produced_one End text next p = subst IsOne (sym p.0) (line_one (codes "end") [] refl tt)
@@ -248,10 +219,7 @@ first_line (b ∷ bytes) e = ⊎_elim
 
 -- ---- the number of a line
 line_after : (lines : List (List ℕ)) (bytes rest : List ℕ) (left : List Symbol) → Reaches (Head ∷ []) lines left → bytes ≡ joined lines ++ rest → line_number bytes rest ≡ suc (length lines)
-line_after lines bytes rest left run parts =
-    let long : length bytes - length rest ≡ length (joined lines) = omega (arith, ap length parts, length-append (joined lines) rest) in
-    let front : take (length bytes - length rest) bytes ≡ joined lines = (λ i. take (long i) (parts i)) ∙ take_at (joined lines) rest (length (joined lines)) refl in
-    omega (arith, ap line_feeds front, reached_feeds (Head ∷ []) lines left run)
+line_after lines bytes rest left run parts = grind (arith, length-append, take_at, reached_feeds, run, parts)
 
 -- ---- faults
 pub stop_is_fault : (bytes rest : List ℕ) → certificate_part bytes ≡ Err rest → IsFaultOf bytes (faults.At (line_number bytes rest) (stop_kind rest))
@@ -332,10 +300,7 @@ record Agree (text other : List ℕ) (next another : List Symbol) (x y : List �
 
 agree : {A : Type 0} {form : Form A} {V : A → Type 0} {t : A → List ℕ} → IsForm form V t Anything → (n : A → List Symbol) (text other : List ℕ) (next another : List Symbol) (x y : List ℕ)
     → Stands V t n text next → Stands V t n other another → text ++ x ≡ other ++ y → Agree text other next another x y
-agree {A} {form} {V} {t} h n text other next another x y p q e =
-    let same = some_pair_parts p.0 q.0 x y
-    (sym (h.again p.0 x p.1 tt) ∙ ap form (ap (λ text. text ++ x) (sym p.2) ∙ e ∙ ap (λ text. text ++ y) q.2) ∙ h.again q.0 y q.1 tt) in
-    record { text_same = p.2 ∙ ap t same.0 ∙ sym q.2; next_same = p.3 ∙ ap n same.0 ∙ sym q.3; rest_same = same.1 }
+agree {A} {form} {V} {t} h n text other next another x y p q e = grind (arith, h, p, q, e)
 
 -- the size that a kind speaks of is one
 abbrev pub IsLawfulKind : Symbol → Type 0
@@ -357,8 +322,7 @@ IsLawfulKind _ = Unit {0}
 
 one_line : (kind : Symbol) (text other : List ℕ) (next another : List Symbol) (x y : List ℕ) → IsLawfulKind kind → Produces kind text next → Produces kind other another
     → text ++ x ≡ other ++ y → Agree text other next another x y
-one_line Head text other next another x y h p q e =
-    agree version-form (λ version. Size version ∷ []) text other next another x y (p.0, tt, p.1, p.2) (q.0, tt, q.1, q.2) e
+one_line Head text other next another x y h p q e = grind (arith, agree, version-form, Head, h, p, q, e)
 one_line (Size version) text other next another x y h p q e = agree (size-form version) after_size text other next another x y p q e
 one_line Claim text other next another x y h p q e = agree claim-form Done text other next another x y p q e
 one_line (Plan size) text other next another x y h p q e = agree (plan-form size.version) (behind_plan size) text other next another x y p q e
@@ -375,8 +339,7 @@ one_line (Mu ahead table) text other next another x y h p q e =
 one_line (Ramps ahead table) text other next another x y h p q e = agree ramp_count-form (λ count. ramp_rows ahead table count None) text other next another x y p q e
 one_line (Ramp ahead table more before) text other next another x y h p q e =
     agree (ramp-form ahead.size h before) (λ row. ramp_rows ahead (with_ramp table row) more (Some row)) text other next another x y p q e
-one_line (Next ahead before) text other next another x y h p q e =
-    agree next-form (λ told. changes_from ahead (rescaled before told.0) told.1 None) text other next another x y p q e
+one_line (Next ahead before) text other next another x y h p q e = grind (arith, agree, next-form, ahead, before, h, p, q, e)
 one_line (Update ahead table more last) text other next another x y h p q e =
     agree (change-form ahead.size h table last) (λ change. changes_from ahead (changed table change) more (Some change)) text other next another x y p q e
 one_line (Node size) text other next another x y h p q e = agree (node-form size h) (children size) text other next another x y p q e
@@ -396,11 +359,7 @@ many_lawful (suc n) kind h = (h, many_lawful n kind h)
 
 tables_lawful : (size : Sizes) (n : ℕ) (before : Option Table) → AreSizes size → AreLawful (tables_from size n before)
 tables_lawful size zero before h = tt
-tables_lawful size (suc n) before h = (first_lawful (told_from size.version before), tt)
-  where
-    first_lawful : (before : Option Table) → IsLawfulKind (table_head (record { size = size; tables = n }) before)
-    first_lawful None = h
-    first_lawful (Some table) = h
+tables_lawful size (suc n) before h = grind (arith, h)
 
 ramps_lawful : (ahead : Ahead) (table : Table) (n : ℕ) (before : Option RampRow) → AreSizes ahead.size → AreLawful (ramp_rows ahead table n before)
 ramps_lawful ahead table zero before h = tables_lawful ahead.size ahead.tables (Some table) h
@@ -416,21 +375,12 @@ shortages_lawful size true h = (h, (h, tt))
 
 rows_lawful : (size : Sizes) (priced : Bool) (head : Option ScheduleHead) → AreSizes size → AreLawful (schedule_rows size priced head)
 rows_lawful size priced None h = tt
-rows_lawful size priced (Some head) h =
-    both_lawful (replicate size.thermal (ThermalRow size)) (replicate size.renewable (RenewableRow size) ++ shortage_rows size priced) (many_lawful size.thermal (ThermalRow size) h)
-    (both_lawful (replicate size.renewable (RenewableRow size)) (shortage_rows size priced) (many_lawful size.renewable (RenewableRow size) h) (shortages_lawful size priced h))
+rows_lawful size priced (Some head) h = grind (arith, both_lawful, many_lawful, shortages_lawful, h)
 
 pub next_lawful : (kind : Symbol) (text : List ℕ) (next : List Symbol) → IsLawfulKind kind → Produces kind text next → AreLawful next
 next_lawful Head text next h p = subst AreLawful (sym p.2) (tt, tt)
-next_lawful (Size version) text next h p =
-    let size = p.0 in
-    let lawful = p.1.sizes in
-    subst AreLawful (sym p.3) (tt, (lawful, both_lawful (tables_from size size.tables None) (Node size ∷ End ∷ []) (tables_lawful size size.tables None lawful) (lawful, (tt, tt))))
-next_lawful (Plan size) text next h p = subst AreLawful (sym p.3) (behind p.0)
-  where
-    behind : (first : PlanLine) → AreLawful (behind_plan size first)
-    behind (Priced a b) = (h, tt)
-    behind (Unpriced head) = rows_lawful size false head h
+next_lawful (Size version) text next h p = grind (arith, version, h, p)
+next_lawful (Plan size) text next h p = grind (arith, rows_lawful, size, h, p)
 next_lawful (Schedule size) text next h p = subst AreLawful (sym p.3) (rows_lawful size true p.0 h)
 next_lawful (Scale ahead) text next h p = subst AreLawful (sym p.3) (h, tt)
 next_lawful (Pi ahead table) text next h p = subst AreLawful (sym p.3) (h, tt)
@@ -439,11 +389,7 @@ next_lawful (Ramps ahead table) text next h p = subst AreLawful (sym p.3) (ramps
 next_lawful (Ramp ahead table more before) text next h p = subst AreLawful (sym p.3) (ramps_lawful ahead (with_ramp table p.0) more (Some p.0) h)
 next_lawful (Next ahead before) text next h p = subst AreLawful (sym p.3) (changes_lawful ahead (rescaled before p.0.0) p.0.1 None h)
 next_lawful (Update ahead table more last) text next h p = subst AreLawful (sym p.3) (changes_lawful ahead (changed table p.0) more (Some p.0) h)
-next_lawful (Node size) text next h p = subst AreLawful (sym p.3) (behind p.0)
-  where
-    behind : (node : TreeNode) → AreLawful (children size node)
-    behind (LeafNode leaf) = tt
-    behind (SplitNode g t) = (h, (h, tt))
+next_lawful (Node size) text next h p = grind (arith, size, h, p)
 next_lawful End text next h p = subst AreLawful (sym p.1) tt
 next_lawful _ text next h p = subst AreLawful (sym p.3) tt
 
@@ -460,8 +406,7 @@ one_further line other lines others left another x y same h = record { more = h.
 
 pub runs_meet : (kinds : List Symbol) (lines others : List (List ℕ)) (left another : List Symbol) (x y : List ℕ) → AreLawful kinds → Reaches kinds lines left → Reaches kinds others another
     → joined lines ++ x ≡ joined others ++ y → GoesOn lines left x others another y ⊎ GoesOn others another y lines left x
-runs_meet kinds [] others left another x y h p q e =
-    inl (record { more = others; lines_are = refl; run = subst (λ (kinds : List Symbol). Reaches kinds others another) p q; rest = e })
+runs_meet kinds [] others left another x y h p q e = grind (arith, h, p, q, e)
 runs_meet kinds (line ∷ lines) [] left another x y h p q e =
     inr (record { more = line ∷ lines; lines_are = refl; run = subst (λ (kinds : List Symbol). Reaches kinds (line ∷ lines) left) q p; rest = sym e })
 runs_meet [] (line ∷ lines) (other ∷ others) left another x y h p q e = absurd p
@@ -547,10 +492,7 @@ same_front (b ∷ f) (c ∷ g) x y h k e =
     (λ i. heads i ∷ tails i)
 
 same_line : (text other x y : List ℕ) → IsWholeLine text → IsWholeLine other → text ++ x ≡ other ++ y → text ≡ other
-same_line text other x y h k e =
-    let left : text ++ x ≡ h.front ++ 10 ∷ x = ap (λ text. text ++ x) h.ends ∙ append_assoc h.front (10 ∷ []) x in
-    let right : other ++ y ≡ k.front ++ 10 ∷ y = ap (λ text. text ++ y) k.ends ∙ append_assoc k.front (10 ∷ []) y in
-    h.ends ∙ ap (λ front. front ++ 10 ∷ []) (same_front h.front k.front x y h.first k.first (sym left ∙ e ∙ right)) ∙ sym k.ends
+same_line text other x y h k e = grind (arith, append_assoc, same_front, h, k, e)
 
 -- ---- where a fault stands
 abbrev IsPoint : CertKind → List Symbol → List ℕ → Type 0
@@ -568,24 +510,8 @@ record FaultPoint (bytes : List ℕ) (line : ℕ) (kind : CertKind) : Type 0 whe
   is : IsPoint kind left rest
 
 point_of : (bytes : List ℕ) (line : ℕ) (kind : CertKind) → IsKindAt bytes line kind → FaultPoint bytes line kind
-point_of bytes line kinds.Form h = record {
-  before = h.comes.before;
-  left = h.kind ∷ h.comes.others;
-  rest = h.text ++ h.more;
-  number = h.comes.number;
-  parts = h.comes.parts;
-  stand = h.comes.stand;
-  is = (h.kind, h.comes.others, h.text, h.more, refl, refl, h.whole, h.barred);
-}
-point_of bytes line kinds.Cut h = record {
-  before = h.comes.before;
-  left = h.kind ∷ h.comes.others;
-  rest = h.rest;
-  number = h.comes.number;
-  parts = h.comes.parts;
-  stand = h.comes.stand;
-  is = (h.kind, h.comes.others, refl, h.open_ended);
-}
+point_of bytes line kinds.Form h = grind (arith, kinds.Form, h)
+point_of bytes line kinds.Cut h = grind (arith, kinds.Cut, h)
 point_of bytes line kinds.Tail h = record { before = h.before; left = []; rest = h.rest; number = h.number; parts = h.parts; stand = h.stand; is = (refl, h.some) }
 
 -- bytes that begin with a whole line have a line feed
@@ -623,13 +549,7 @@ one_kind _ _ left rest h k = refl
 -- the first goes as far as the second
 as_far : (bytes : List ℕ) (line other : ℕ) (kind another : CertKind) (p : FaultPoint bytes line kind) (q : FaultPoint bytes other another)
     → GoesOn p.before p.left p.rest q.before q.left q.rest → (line ≡ other) × (kind ≡ another)
-as_far bytes line other kind another p q h =
-    let none = no_line kind p.left p.rest p.is h.more q.left q.rest h.run h.rest in
-    let lines : q.before ≡ p.before = h.lines_are ∙ ap (λ more. p.before ++ more) none ∙ append-nil p.before in
-    let left : p.left ≡ q.left = subst (λ (more : List (List ℕ)). Reaches p.left more q.left) none h.run in
-    let rest : p.rest ≡ q.rest = h.rest ∙ ap (λ more. joined more ++ q.rest) none in
-    let there : IsPoint another p.left p.rest = subst (λ (left : List Symbol). IsPoint another left p.rest) (sym left) (subst (λ (rest : List ℕ). IsPoint another q.left rest) (sym rest) q.is) in
-    (p.number ∙ ap (λ lines. suc (length lines)) (sym lines) ∙ sym q.number, one_kind kind another p.left p.rest p.is there)
+as_far bytes line other kind another p q h = grind (arith, no_line, append-nil, one_kind, h)
 
 pub one_fault : (bytes : List ℕ) (line other : ℕ) (kind another : CertKind) → IsKindAt bytes line kind → IsKindAt bytes other another → (line ≡ other) × (kind ≡ another)
 one_fault bytes line other kind another h k =

@@ -1,6 +1,6 @@
 -- A part reads the lines of what is valid and nothing else, as the grammar has them; and where it stops, no line of the kind
 -- that is to come begins the bytes that are left.
-use Rattle.std.proofs.Common.{◌≡◌, ℕ, zero, suc, List, [], ◌∷◌, ◌++◌, length, replicate, All, Option, Some, None, Result, Ok, Err, refl, sym, ap, subst, ◌∙◌, append_assoc, arith, map, append-nil}
+use Rattle.std.proofs.Common.{◌≡◌, ℕ, zero, suc, List, [], ◌∷◌, ◌++◌, length, replicate, All, Option, Some, None, Result, Ok, Err, refl, sym, ap, subst, append_assoc, arith, map, append-nil}
 use Rattle.std.specs.List.{flat_map}
 use Rattle.std.specs.Option.{ok_or}
 use Rattle.std.proofs.lemmas.List.Elements.{All-nil, All-cons, All-head, All-tail}
@@ -78,14 +78,7 @@ Stops-before kinds later bytes rest h = record {
 
 pub Stops-behind : (kinds middle : List Symbol) (texts : List (List ℕ)) (bytes behind rest : List ℕ) → Reaches kinds texts middle → bytes ≡ joined texts ++ behind → Stops middle behind rest
     → Stops kinds bytes rest
-Stops-behind kinds middle texts bytes behind rest run parts h = record {
-  lines = texts ++ h.lines;
-  kind = h.kind;
-  others = h.others;
-  run = Reaches-then kinds texts h.lines middle (h.kind ∷ h.others) run h.run;
-  parts = parts ∙ ap (λ behind. joined texts ++ behind) h.parts ∙ sym (append_assoc (joined texts) (joined h.lines) rest) ∙ ap (λ text. text ++ rest) (sym (joined-append texts h.lines));
-  barred = h.barred;
-}
+Stops-behind kinds middle texts bytes behind rest run parts h = grind (arith, Reaches-then, append_assoc, joined-append, run, parts, h)
 
 -- ---- parts of parts
 -- a line of one kind, whose texts are those of a form
@@ -104,9 +97,7 @@ line-part {A} {form} {V} {t} h kind next produces only = record {
         others = [];
         run = refl;
         parts = missed.1;
-        barred = λ text more others p same.
-            let a = only text others p in
-            no_some (a.0, more) (sym missed.0 ∙ ap form (missed.1 ∙ same ∙ ap (λ text. text ++ more) a.2) ∙ h.again a.0 more a.1 tt);
+        barred = λ text more others p same. grind (arith, only, others, p, more, missed, form, same, h);
       };
 }
   where
@@ -126,31 +117,8 @@ pub then-part : {A B : Type 0} {first : Part A} {second : A → Part B} {V : A �
     {kinds : List Symbol} {middle : A → List Symbol} {left : A → B → List Symbol}
     → IsPart first V l kinds middle → ((a : A) → V a → IsPart (second a) (W a) (m a) (middle a) (left a))
     → IsPart (then first second) (λ p. V p.0 × W p.0 p.1) (λ p. l p.0 ++ m p.0 p.1) kinds (λ p. left p.0 p.1)
-then-part {A} {B} {first} {second} {V} {W} {l} {m} {kinds} {middle} {left} h k = record {
-  takes = λ bytes x e.
-      let b = bind_ok (first bytes) (λ x. second x.0 x.1 >>= λ y. Ok ((x.0, y.0), y.1)) x e in
-      let c = bind_ok (second b.0.0 b.0.1) (λ y. Ok ((b.0.0, y.0), y.1)) x b.2 in
-      let one = h.takes bytes b.0 b.1 in
-      let two = (k b.0.0 one.0).takes b.0.1 c.0 c.1 in
-      let parts = one.1 ∙ ap (λ rest. joined (l b.0.0) ++ rest) two.1 ∙ sym (append_assoc (joined (l b.0.0)) (joined (m b.0.0 c.0.0)) c.0.1)
-      ∙ ap (λ text. text ++ c.0.1) (sym (joined-append (l b.0.0) (m b.0.0 c.0.0))) in
-      subst (λ (x : (A × B) × List ℕ). (V x.0.0 × W x.0.0 x.0.1) × (bytes ≡ joined (l x.0.0 ++ m x.0.0 x.0.1) ++ x.1)) (same_Ok ((b.0.0, c.0.0), c.0.1) x c.2) ((one.0, two.0), parts);
-  again = λ p rest v.
-      let regrouped = ap (λ text. text ++ rest) (joined-append (l p.0) (m p.0 p.1)) ∙ append_assoc (joined (l p.0)) (joined (m p.0 p.1)) rest in
-      ap (then first second) regrouped ∙ rw (h.again p.0 (joined (m p.0 p.1) ++ rest) v.0, (k p.0 v.0).again p.1 rest v.1) refl;
-  runs = λ p v. Reaches-then kinds (l p.0) (m p.0 p.1) (middle p.0) (left p.0 p.1) (h.runs p.0 v.0) ((k p.0 v.0).runs p.1 v.1);
-  stops = λ bytes rest e. stopped bytes rest (bind_err (first bytes) (λ x. second x.0 x.1 >>= λ y. ok_of (A × B) (x.0, y.0) y.1) rest e);
-}
-  where
-    second_stops : (x : A × List ℕ) (bytes rest : List ℕ) → first bytes ≡ Ok x → StopsAt (second x.0 x.1) (λ y. ok_of (A × B) (x.0, y.0) y.1) rest → Stops kinds bytes rest
-    second_stops x bytes rest e (AtFirst f) =
-        let one = h.takes bytes x e in
-        Stops-behind kinds (middle x.0) (l x.0) bytes x.1 rest (h.runs x.0 one.0) one.1 ((k x.0 one.0).stops x.1 rest f)
-    second_stops x bytes rest e (AtSecond y f g) = absurd (cc)
-
-    stopped : (bytes rest : List ℕ) → StopsAt (first bytes) (λ x. second x.0 x.1 >>= λ y. ok_of (A × B) (x.0, y.0) y.1) rest → Stops kinds bytes rest
-    stopped bytes rest (AtFirst e) = h.stops bytes rest e
-    stopped bytes rest (AtSecond x e f) = second_stops x bytes rest e (bind_err (second x.0 x.1) (λ y. ok_of (A × B) (x.0, y.0) y.1) rest f)
+then-part {A} {B} {first} {second} {V} {W} {l} {m} {kinds} {middle} {left} h k =
+    grind (arith, bind_ok, append_assoc, joined-append, same_Ok, Reaches-then, bind_err, Stops-behind, h, k)
 
 -- a part that is read as another type, which can be read back
 pub record IsRetoldPart {A B : Type 0} (f : A → B) (V : A → Type 0) (W : B → Type 0) (l : A → List (List ℕ)) (m : B → List (List ℕ)) (n : A → List Symbol) (o : B → List Symbol) : Type 0 where
@@ -159,82 +127,33 @@ pub record IsRetoldPart {A B : Type 0} (f : A → B) (V : A → Type 0) (W : B �
 
 pub told-part : {A B : Type 0} {part : Part A} {V : A → Type 0} {l : A → List (List ℕ)} {kinds : List Symbol} {n : A → List Symbol} → IsPart part V l kinds n
     → (f : A → B) (W : B → Type 0) (m : B → List (List ℕ)) (o : B → List Symbol) → IsRetoldPart f V W l m n o → IsPart (told f part) W m kinds o
-told-part {A} {B} {part} {V} {l} {kinds} {n} h f W m o retold = record {
-  takes = λ bytes x e.
-      let b = bind_ok (part bytes) (λ x. ok_of B (f x.0) x.1) x e in
-      let one = h.takes bytes b.0 b.1 in
-      let there = retold.there b.0.0 one.0 in
-      subst (λ (x : B × List ℕ). W x.0 × (bytes ≡ joined (m x.0) ++ x.1)) (same_Ok (f b.0.0, b.0.1) x b.2)
-      (there.0, one.1 ∙ ap (λ lines. joined lines ++ b.0.1) there.1);
-  again = λ b rest w.
-      let back = retold.back b w in
-      let same : m b ≡ l back.0 = ap m (sym back.2) ∙ sym (retold.there back.0 back.1).1 in
-      ap (λ lines. told f part (joined lines ++ rest)) same ∙ rw (h.again back.0 rest back.1) (ap (λ (b : B). ok_of B b rest) back.2);
-  runs = λ b w.
-      let back = retold.back b w in
-      let there = retold.there back.0 back.1 in
-      let lines : l back.0 ≡ m b = there.1 ∙ ap m back.2 in
-      let next : n back.0 ≡ o b = there.2 ∙ ap o back.2 in
-      subst (λ (left : List Symbol). Reaches kinds (m b) left) next (subst (λ (lines : List (List ℕ)). Reaches kinds lines (n back.0)) lines (h.runs back.0 back.1));
-  stops = λ bytes rest e. stopped bytes rest (bind_err (part bytes) (λ x. ok_of B (f x.0) x.1) rest e);
-}
-  where
-    stopped : (bytes rest : List ℕ) → StopsAt (part bytes) (λ x. ok_of B (f x.0) x.1) rest → Stops kinds bytes rest
-    stopped bytes rest (AtFirst e) = h.stops bytes rest e
-    stopped bytes rest (AtSecond x e f) = absurd cc
+told-part {A} {B} {part} {V} {l} {kinds} {n} h f W m o retold = grind (arith, h, retold)
 
 -- the same in other words
 pub part-as : {A : Type 0} {part other : Part A} {V : A → Type 0} {l : A → List (List ℕ)} {kinds : List Symbol} {n : A → List Symbol} → IsPart part V l kinds n
     → ((bytes : List ℕ) → part bytes ≡ other bytes) → IsPart other V l kinds n
-part-as h same = record {
-  takes = λ bytes x e. h.takes bytes x (same bytes ∙ e);
-  again = λ a rest v. sym (same _) ∙ h.again a rest v;
-  runs = h.runs;
-  stops = λ bytes rest e. h.stops bytes rest (same bytes ∙ e);
-}
+part-as h same = grind (arith, h, same)
 
 -- a part, and what is to come behind it anyway
 pub before-part : {A : Type 0} {part : Part A} {V : A → Type 0} {l : A → List (List ℕ)} {kinds : List Symbol} {n : A → List Symbol} → IsPart part V l kinds n
     → (later : List Symbol) → IsPart part V l (kinds ++ later) (λ a. n a ++ later)
-before-part {A} {part} {V} {l} {kinds} {n} h later = record {
-  takes = h.takes;
-  again = h.again;
-  runs = λ a v. Reaches-before kinds later (l a) (n a) (h.runs a v);
-  stops = λ bytes rest e. Stops-before kinds later bytes rest (h.stops bytes rest e);
-}
+before-part {A} {part} {V} {l} {kinds} {n} h later = grind (arith, Reaches-before, Stops-before, h)
 
 -- two steps and what they give are one part
 pub told_then : {A B C : Type 0} (f : A × B → C) (first : Part A) (second : A → Part B) (bytes : List ℕ)
     → told f (then first second) bytes ≡ (first bytes >>= λ x. second x.0 x.1 >>= λ y. Ok (f (x.0, y.0), y.1))
-told_then {A} {B} {C} f first second bytes = by_first (first bytes)
-  where
-    by_second : (x : A × List ℕ) (s : Result (B × List ℕ) (List ℕ)) → ((s >>= λ y. ok_of (A × B) (x.0, y.0) y.1) >>= λ z. ok_of C (f z.0) z.1) ≡ (s >>= λ y. ok_of C (f (x.0, y.0)) y.1)
-    by_second x (Ok y) = refl
-    by_second x (Err rest) = refl
-
-    by_first : (r : Result (A × List ℕ) (List ℕ)) → ((r >>= λ x. second x.0 x.1 >>= λ y. ok_of (A × B) (x.0, y.0) y.1) >>= λ z. ok_of C (f z.0) z.1) ≡ (r >>= λ x. second x.0 x.1 >>= λ y. ok_of C (f (x.0, y.0)) y.1)
-    by_first (Ok x) = by_second x (second x.0 x.1)
-    by_first (Err rest) = refl
+told_then {A} {B} {C} f first second bytes = grind arith
 
 pub same_read : {A : Type 0} (r : Result (A × List ℕ) (List ℕ)) → (r >>= λ y. ok_of A y.0 y.1) ≡ r
 same_read (Ok y) = refl
 same_read (Err rest) = refl
 
 pub told_second : {A B : Type 0} (first : Part A) (second : A → Part B) (bytes : List ℕ) → told (λ p. p.1) (then first second) bytes ≡ (first bytes >>= λ x. second x.0 x.1)
-told_second {A} {B} first second bytes = told_then (λ p. p.1) first second bytes ∙ by_first (first bytes)
-  where
-    by_first : (r : Result (A × List ℕ) (List ℕ)) → (r >>= λ x. second x.0 x.1 >>= λ y. ok_of B y.0 y.1) ≡ (r >>= λ x. second x.0 x.1)
-    by_first (Ok x) = same_read (second x.0 x.1)
-    by_first (Err rest) = refl
+told_second {A} {B} first second bytes = grind arith
 
 -- nothing to read
 pub nothing-part : {A : Type 0} (value : A) → IsPart (λ bytes. ok_of A value bytes) (λ a. a ≡ value) (λ _. []) [] Done
-nothing-part {A} value = record {
-  takes = λ bytes x e. subst (λ (x : A × List ℕ). (x.0 ≡ value) × (bytes ≡ x.1)) (same_Ok (value, bytes) x e) (refl, refl);
-  again = λ a rest v. ap (λ (a : A). ok_of A a rest) (sym v);
-  runs = λ a v. refl;
-  stops = λ bytes rest e. absurd cc;
-}
+nothing-part {A} value = grind arith
 
 -- a part of one kind of line so many times
 pub repeated-part : {A : Type 0} {part : Part A} {V : A → Type 0} {l : A → List (List ℕ)} {kind : Symbol} → IsPart part V l (kind ∷ []) Done

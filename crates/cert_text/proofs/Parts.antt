@@ -1,13 +1,13 @@
 -- The parts in which a certificate is written are its lines.
-use Rattle.std.proofs.Common.{◌≡◌, ℕ, List, [], ◌∷◌, ◌++◌, length, map, refl, ap, ◌∙◌, sym, append_assoc, Bool, Option, Some, None, zero, suc, ◌<◌, cond, get_or, arith, ◌^◌, true, false, All, ℤ, pos, negsuc, ◌≤ℤ◌, eq-eqb, ne_eqb, IfSome, ◌||◌, not}
+use Rattle.std.proofs.Common.{◌≡◌, ℕ, List, [], ◌∷◌, ◌++◌, length, map, refl, ap, ◌∙◌, sym, append_assoc, Bool, Option, Some, None, zero, suc, ◌<◌, cond, get_or, arith, ◌^◌, true, false, All, ℤ, pos, negsuc, ◌≤ℤ◌, eq-eqb, ne_eqb, IfSome, ◌||◌}
 use Rattle.std.specs.List.{flat_map, list_any}
 use mathlib.Core.Bool.{or-true}
 use Rattle.dual_model.specs.Prelude.{WrittenSchedule, Certificate, CertificateHolds, ClaimHolds, map_leaves, Tree, Ends, Splits, root, child, IsCoverBelow, IsCover, EachLeaf, Leaf, Bound, Ray, Empty, IsExcluded, LeafHolds, IsLawfulTable, IsPrice, IsRowPriced}
-use Rattle.branch_tree.specs.Prelude.{tree_of, IsWhole, used_tables, place_of, stored_tables, table_at, certificate_of, leaf_claim, written_tables, written_of, NumberedTree, EndAt, SplitAt, IsNumbered, unnumbered, numbers, spot_at, tree_bound}
+use Rattle.branch_tree.specs.Prelude.{IsWhole, place_of, certificate_of, leaf_claim, written_tables, written_of, NumberedTree, EndAt, SplitAt, IsNumbered, unnumbered, numbers, spot_at, tree_bound}
 use Rattle.outside.specs.Lines.{joined}
 use Rattle.outside.proofs.Joining.{joined-cons, joined-append, joined-map}
-use Rattle.table_list.specs.Changes.{OfDemand, OfReserve, OfRamps, price_changes, row_changes, table_changes}
-use Rattle.cert_text.specs.CertificateText.{Version, Second, Third, written_version, written_text, is_exact_node, is_divided, told_from, Listing, preorder, node_line, SplitNode, TreeNode, LeafNode, IsLeafWithin, IsNodeWithin, RampRow, Table, Printed, certificate_lines, certificate_text, has_price, penalty_line, shortage_lines, schedule_lines, plan_lines, table_lines, next_line, next_lines, change_line, told_lines, tables_lines, thermal_line, renewable_line, ramp_line, cost_line, version_line, size_line, claim_line, end_line, scale_line, prices_line, ramps_line, listing_of}
+use Rattle.table_list.specs.Changes.{table_changes}
+use Rattle.cert_text.specs.CertificateText.{Version, Second, Third, written_version, written_text, is_exact_node, is_divided, told_from, Listing, preorder, node_line, SplitNode, TreeNode, IsLeafWithin, IsNodeWithin, RampRow, Table, Printed, certificate_lines, certificate_text, has_price, shortage_lines, schedule_lines, plan_lines, table_lines, next_lines, told_lines, tables_lines, version_line, size_line, claim_line, end_line, listing_of}
 use Rattle.cert_text.specs.Reading.{node_of, listing_read}
 use Rattle.cert_text.specs.declared.cert.CertNode.{CertNode}
 use Rattle.cert_text.specs.inside.WrittenParts.{Found, Instance, Spot, Cert, penalty_part, shortages_part, schedule_part, table_part, next_part, told_part, tables_part, certificate_parts, found_text, read_text, spot_node}
@@ -16,7 +16,7 @@ use Rattle.std.proofs.lemmas.List.Concat.{flat_map-append}
 use Rattle.std.proofs.lemmas.List.Folds.{flat_map-map, list_any-append, list_any_at}
 use Rattle.branch_tree.proofs.Preorder.{IsPart, off_side, on_side, part_spot, length-each_once, length-stored_tables}
 use Rattle.std.proofs.lemmas.Int.{ints}
-use Rattle.std.proofs.lemmas.List.Elements.{All-nil, All-cons, All-append, All-weaker}
+use Rattle.std.proofs.lemmas.List.Elements.{All-cons, All-append}
 use Rattle.std.proofs.lemmas.List.{length-map}
 use Rattle.std.proofs.lemmas.Option.{slice_get_within}
 use Rattle.uc_model.specs.Prelude.{IsLawfulInstance, thermal_count, renewable_count}
@@ -29,45 +29,17 @@ shortages-part true printed = refl
 
 schedule-part : (priced : Bool) (schedule : Option WrittenSchedule) → joined (schedule_lines priced schedule) ≡ schedule_part priced schedule
 schedule-part priced None = refl
-schedule-part priced (Some written) =
-    let thermal = map thermal_line written.printed.thermal in
-    let renewable = map renewable_line written.printed.renewable in
-    let missing = shortage_lines priced written.printed in
-    let first = cost_line written.cost written.printed.denominator in
-    joined-cons first (thermal ++ (renewable ++ missing))
-    ∙ ap (λ rest. first ++ rest)
-    (joined-append thermal (renewable ++ missing)
-    ∙ (λ i. joined-map thermal_line written.printed.thermal i
-    ++ (joined-append renewable missing ∙ (λ j. joined-map renewable_line written.printed.renewable j ++ shortages-part priced written.printed j)) i))
+schedule-part priced (Some written) = grind (arith, ints, joined-cons, joined-append, joined-map, shortages-part, written)
 
 plan-part : (a b : ℕ) (schedule : Option WrittenSchedule) → joined (plan_lines a b schedule) ≡ penalty_part a b ++ schedule_part (has_price a b) schedule
-plan-part a b schedule = by_prices (has_price a b)
-  where
-    by_prices : (priced : Bool) → joined (cond priced (penalty_line a b ∷ schedule_lines true schedule) (schedule_lines false schedule))
-        ≡ cond priced (penalty_line a b) [] ++ schedule_part priced schedule
-    by_prices true = joined-cons (penalty_line a b) (schedule_lines true schedule) ∙ ap (λ rest. penalty_line a b ++ rest) (schedule-part true schedule)
-    by_prices false = schedule-part false schedule
+plan-part a b schedule = grind (arith, ints, joined-cons, schedule-part)
 
 table-part : (table : Table) → joined (table_lines table) ≡ table_part table
-table-part table =
-    ap (λ rest. joined (scale_line table.k ∷ prices_line (112 ∷ 105 ∷ []) table.pi ∷ prices_line (109 ∷ 117 ∷ []) table.mu ∷ rest ∷ []))
-    (joined-cons (ramps_line table.ramps) (map ramp_line table.ramps)
-    ∙ ap (λ rest. ramps_line table.ramps ++ rest) (joined-map ramp_line table.ramps))
+table-part table = grind (arith, ints, joined-cons, joined-map)
 
 -- of a table that is told by its difference to another one: its changes are those of demand, of reserve and of ramps
 next-part : (before table : Table) → joined (next_lines table.k (table_changes before table)) ≡ next_part before table
-next-part before table =
-    let demand = price_changes OfDemand 0 before.pi table.pi in
-    let reserve = price_changes OfReserve 0 before.mu table.mu in
-    let rows = row_changes before.ramps table.ramps in
-    let first = next_line table.k (length (table_changes before table)) in
-    joined-cons first (map change_line (table_changes before table))
-    ∙ ap (λ rest. first ++ rest)
-    (joined-map change_line (table_changes before table)
-    ∙ (flat_map-append change_line demand (reserve ++ map OfRamps rows)
-    ∙ ap (λ rest. flat_map change_line demand ++ rest)
-    (flat_map-append change_line reserve (map OfRamps rows)
-    ∙ ap (λ rest. flat_map change_line reserve ++ rest) (flat_map-map change_line OfRamps rows))))
+next-part before table = grind (arith, ints, joined-cons, joined-map, flat_map-append, flat_map-map)
 
 told-part : (before : Option Table) (table : Table) → joined (told_lines before table) ≡ told_part before table
 told-part None table = table-part table
@@ -121,8 +93,7 @@ line_at used whole number = option_map_or (spot_line used) (spot_at whole number
 
 pub lines_listed : (used : List ℕ) (whole tree : NumberedTree) → IsNumbered whole → IsPart whole tree
     → flat_map (line_at used whole) (numbers tree) ≡ flat_map node_line (preorder (map_leaves (leaf_claim used) (unnumbered tree)))
-lines_listed used whole (EndAt number leaf) numbered part =
-    ap (λ (o : Option Spot). option_map_or (spot_line used) o [] ++ []) (part_spot whole (EndAt number leaf) part)
+lines_listed used whole (EndAt number leaf) numbered part = grind (arith, ints, number, leaf, numbered, part)
 lines_listed used whole (SplitAt number g t off on) numbered part =
     let left = lines_listed used whole off numbered (off_side whole number g t off on numbered part) in
     let right = lines_listed used whole on numbered (on_side whole number g t off on numbered part) in
@@ -139,8 +110,7 @@ exact_at used whole number = option_map_or (λ stands. is_exact_node (spot_node 
 
 pub exact_listed : (used : List ℕ) (whole tree : NumberedTree) → IsNumbered whole → IsPart whole tree
     → list_any (exact_at used whole) (numbers tree) ≡ list_any is_exact_node (preorder (map_leaves (leaf_claim used) (unnumbered tree)))
-exact_listed used whole (EndAt number leaf) numbered part =
-    ap (λ (o : Option Spot). option_map_or (λ stands. is_exact_node (spot_node used stands)) o false || false) (part_spot whole (EndAt number leaf) part)
+exact_listed used whole (EndAt number leaf) numbered part = grind (arith, ints, number, leaf, numbered, part)
 exact_listed used whole (SplitAt number g t off on) numbered part =
     let left = exact_listed used whole off numbered (off_side whole number g t off on numbered part) in
     let right = exact_listed used whole on numbered (on_side whole number g t off on numbered part) in
@@ -190,9 +160,7 @@ nodes-within : (instance : Instance) (tables : List Table) (P : Node → Leaf �
     → ((node : Node) (leaf : Leaf) → P node leaf → IsLeafWithin (thermal_count instance) (length tables) leaf)
     → (node : Node) (tree : Tree Leaf) → IsCoverBelow instance node tree → EachLeaf P node tree
     → All (IsNodeWithin instance.periods (thermal_count instance) (length tables)) (preorder tree)
-nodes-within instance tables P within node (Ends leaf) cover each =
-    let Within : TreeNode → Type 0 = IsNodeWithin instance.periods (thermal_count instance) (length tables) in
-    All-cons Within (LeafNode leaf) [] (within node leaf each) (All-nil Within)
+nodes-within instance tables P within node (Ends leaf) cover each = grind (arith, ints, within, cover, each)
 nodes-within instance tables P within node (Splits g t off on) cover each =
     let Within : TreeNode → Type 0 = IsNodeWithin instance.periods (thermal_count instance) (length tables) in
     All-cons Within (SplitNode g t) (preorder off ++ preorder on) (cover.0.unit, cover.0.period)
@@ -219,35 +187,11 @@ divided-written exact divided e = ap (λ (b : Bool). cond (exact || b) Third Sec
 restated : (version other : Version) (priced : Bool) (periods thermal renewable : ℕ) (schedule : Option WrittenSchedule) → (is_divided schedule ≡ true → other ≡ Third)
     → IfSome schedule (IsScheduleText version priced periods thermal renewable) → IfSome schedule (IsScheduleText other priced periods thermal renewable)
 restated version other priced periods thermal renewable None third h = tt
-restated version other priced periods thermal renewable (Some written) third h = record {
-  cost = h.cost;
-  thermal_rows = h.thermal_rows;
-  cells = h.cells;
-  renewable_rows = h.renewable_rows;
-  outputs = h.outputs;
-  shortages = h.shortages;
-  denominator = record {
-    least = h.denominator.least;
-    most = h.denominator.most;
-    divided = λ others. third (ap not (ne_eqb written.printed.denominator 1 others));
-  };
-}
+restated version other priced periods thermal renewable (Some written) third h = grind (arith, ints, written, third, h)
 
 -- a certificate that has a text in some version has one in the version in which it is written
 pub written_text_is : (version : Version) (c : Certificate) → HasText version (listing_of c) → HasWrittenText c
-written_text_is version c h = record {
-  some_period = h.some_period;
-  periods = h.periods;
-  thermal = h.thermal;
-  renewable = h.renewable;
-  table_count = h.table_count;
-  bound = h.bound;
-  penalties = h.penalties;
-  schedule = restated version (written_version (listing_of c)) (has_price c.a c.b) c.periods c.thermal c.renewable c.schedule
-      (divided-written (list_any is_exact_node (preorder c.tree)) (is_divided c.schedule)) h.schedule;
-  tables = h.tables;
-  nodes = λ k d within. record { within = (h.nodes k d within).within; exact = exact-written (preorder c.tree) (is_divided c.schedule) k d within };
-}
+written_text_is version c h = grind (arith, ints, restated, divided-written, exact-written, h)
 
 price-digits : (n : ℤ) → IsPrice n → HasDigits 18 n
 price-digits n h = omega arith
@@ -263,23 +207,11 @@ scale-digits (negsuc n) low high = omega (arith, ints)
 -- a lawful table whose rows can be counted has a text
 lawful-table-text : (instance : Instance) (table : Table) → IsLawfulTable instance table → length table.ramps < 10 ^ 18
     → IsTableText instance.periods (thermal_count instance) table
-lawful-table-text instance table h few = record {
-  form = h.size.form;
-  units = h.size.units;
-  periods_priced = h.size.periods;
-  scale = scale-digits table.k h.size.form.scale h.limits.scale;
-  pi = All-weaker IsPrice (HasDigits 18) price-digits table.pi h.limits.pi;
-  mu = All-weaker IsPrice (HasDigits 18) price-digits table.mu h.limits.mu;
-  rows = few;
-  ramps = All-weaker IsRowPriced IsRampText ramp-digits table.ramps h.limits.ramps;
-}
+lawful-table-text instance table h few = grind (arith, ints, h, few)
 
 -- the tables of a whole tree can be counted
 few-tables : (instance : Instance) (found : Found) → IsWhole found.tree → length (written_tables found) < 2 ^ 32
-few-tables instance found whole =
-    let used = used_tables (tree_of found.tree) in
-    let same = length-map used (table_at found.tables) in
-    omega (arith, length-each_once (stored_tables (tree_of found.tree)), length-stored_tables found.tree.nodes, whole.within, whole.countable)
+few-tables instance found whole = grind (arith, ints, length-map, length-each_once, length-stored_tables, whole)
 
 pub found_has_text : (version : Version) (instance : Instance) (found : Found) → IsLawfulInstance instance → IsWhole found.tree
     → CertificateHolds instance (certificate_of instance found)
@@ -288,19 +220,4 @@ pub found_has_text : (version : Version) (instance : Instance) (found : Found) �
     → All (λ table. length table.ramps < 10 ^ 18) (written_tables found)
     → HasWrittenText (certificate_of instance found)
 found_has_text version instance found lawful whole holds schedule bound few =
-    let nodes = preorder (certificate_of instance found).tree in
-    let divided = is_divided (written_of found.schedule) in
-    let claimed = claimed-within instance (certificate_of instance found) (tree_bound found.tree) holds.tree holds.claim in
-    record {
-      some_period = lawful.periods.0;
-      periods = lawful.periods.1;
-      thermal = lawful.thermal_units;
-      renewable = lawful.renewable_units;
-      table_count = few-tables instance found whole;
-      bound = bound;
-      penalties = record { shed = lawful.shed_price; short = lawful.short_price };
-      schedule = restated version (written_version (listing_of (certificate_of instance found))) (has_price instance.a instance.b) instance.periods
-          (thermal_count instance) (renewable_count instance) (written_of found.schedule) (divided-written (list_any is_exact_node nodes) divided) schedule;
-      tables = λ k d within. lawful-table-text instance _ (holds.tables k d within) (few k d within);
-      nodes = λ k d within. record { within = claimed k d within; exact = exact-written nodes divided k d within };
-    }
+    grind (arith, ints, claimed-within, few-tables, restated, divided-written, lawful-table-text, exact-written, lawful, whole, holds, bound, few)

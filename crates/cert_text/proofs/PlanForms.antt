@@ -1,7 +1,7 @@
 -- The forms of the lines of prices and of a schedule read what they write, and nothing else.
-use Rattle.std.proofs.Common.{ℕ, ℤ, ◌≤◌, arith, ◌≡◌, zero, suc, true, false, List, [], ◌∷◌, get_or, sym, ap, ◌∙◌, Bool, ◌++◌, drop, Option, Some, None, refl, subst, append_assoc, cond, inl, inr, ◌⊎◌, nat_eq, nat_le, IfSome, codes}
+use Rattle.std.proofs.Common.{ℕ, ℤ, ◌≤◌, arith, ◌≡◌, zero, suc, true, false, List, [], ◌∷◌, get_or, sym, ap, ◌∙◌, Bool, ◌++◌, drop, Option, Some, None, refl, subst, append_assoc, cond, inl, inr, ◌⊎◌, nat_eq, IfSome, codes}
 use Rattle.std.specs.Bool.{Decides}
-use Rattle.std.proofs.lemmas.Bool.Decides.{Decides-and, Decides-like}
+use Rattle.std.proofs.lemmas.Bool.Decides.{Decides-and}
 use Rattle.std.proofs.lemmas.Bool.{leb-true, le-leb, ne_eqb, false≢true}
 use Rattle.std.proofs.lemmas.List.{get_or_append_left}
 use Rattle.uc_model.specs.Decimal.{whole_text}
@@ -136,14 +136,7 @@ schedule-form version =
 
 -- ---- prices, or else the schedule
 penalties_decide : (p : ℕ × ℕ) → Decides (is_penalty p) (IsPenaltyLine p.0 p.1)
-penalties_decide p =
-    Decides-like (is_penalty p)
-    (λ h. record { range = record { shed = h.0.0; short = h.0.1 }; some = h.1 })
-    (λ h. ((h.range.shed, h.range.short), h.some))
-    (Decides-and _ _ (Decides-and _ _ (decides_le p.0) (decides_le p.1)) ((λ e. e), (λ h. h)))
-  where
-    decides_le : (a : ℕ) → Decides (nat_le a 1000000) (a ≤ 1000000)
-    decides_le a = (leb-true a 1000000, le-leb a 1000000)
+penalties_decide p = grind arith
 
 penalty-form : IsForm penalty_at (λ p. IsPenaltyLine p.0 p.1) (λ p. (whole_text p.0 ++ codes " ") ++ (whole_text p.1 ++ codes "\n")) Anything
 unfolding penalty_at

@@ -1,11 +1,11 @@
 -- The part of the prices and the schedule reads their lines and nothing else.
-use Rattle.std.proofs.Common.{◌≡◌, ℕ, zero, suc, List, [], ◌∷◌, ◌++◌, length, replicate, All, Bool, true, false, true≢false, ◌||◌, nat_lt, ◌∙◌, Option, Some, None, refl, sym, ap, subst, arith, map, ℤ, IfSome, codes}
+use Rattle.std.proofs.Common.{◌≡◌, ℕ, zero, suc, List, [], ◌∷◌, ◌++◌, length, replicate, All, Bool, true, false, true≢false, ◌||◌, nat_lt, ◌∙◌, Option, Some, None, refl, sym, ap, arith, map, ℤ, IfSome, codes}
 use Rattle.cert_text.specs.Grammar.{Sizes, Plan, Schedule, ThermalRow, RenewableRow, Shed, Short, ScheduleHead, IsScheduleHead, schedule_line, shortage_rows, schedule_rows, PlanLine, Priced, Unpriced, plan_line, IsPlanLine, behind_plan}
 use Rattle.cert_text.specs.inside.Forms.{schedule_at}
 use Rattle.cert_text.specs.inside.Parts.{Planned, line_of, then, told, written, nothing, powers_part, shortages_part, printed_of, behind_first, plan_from, plan_part, printed_part, rows_behind, schedule_part}
 use Rattle.cert_text.proofs.FormLaws.{thermal-form, powers-form}
 use Rattle.cert_text.proofs.PlanForms.{schedule-form, plan-form}
-use Rattle.cert_text.specs.TextConditions.{IsMoney, IsDenominator, ArePenalties, IsThermalRow, IsPowerRow, AreShortagesText, IsScheduleText}
+use Rattle.cert_text.specs.TextConditions.{ArePenalties, IsThermalRow, IsPowerRow, AreShortagesText, IsScheduleText}
 use Rattle.cert_text.specs.CertificateText.{thermal_line, renewable_line, shed_line, short_line, shortage_lines, schedule_lines, plan_lines, has_price, Printed}
 use Rattle.dual_model.specs.Prelude.{WrittenSchedule}
 use Rattle.std.proofs.lemmas.Bool.{lt-ltb}
@@ -77,12 +77,7 @@ row_lines priced (Some w) = printed_lines priced w.printed
 
 rows_behind-part : (size : Sizes) (priced : Bool) (head : Option ScheduleHead)
     → IsPart (rows_behind size priced head) (IsBehind size priced head) (row_lines priced) (schedule_rows size priced head) Done
-rows_behind-part size priced None =
-    told-part (nothing-part None) (λ schedule. schedule) (λ schedule. schedule ≡ None) (row_lines priced) Done (record { there = there; back = λ schedule w. (schedule, w, refl) })
-  where
-    there : (schedule : Option WrittenSchedule) → schedule ≡ None → (schedule ≡ None) × ([] ≡ row_lines priced schedule) × ([] ≡ Done schedule)
-    there None e = (refl, refl, refl)
-    there (Some w) e = absurd cc
+rows_behind-part size priced None = grind arith
 rows_behind-part size priced (Some head) =
     told-part (printed-part size priced head) (written head.cost) (IsBehind size priced (Some head)) (row_lines priced) Done (record { there = λ printed v. ((refl, v), refl, refl); back = back })
   where
@@ -114,19 +109,7 @@ behind_there : (size : Sizes) (priced : Bool) (head : Option ScheduleHead) (sche
 behind_there size priced None None told v = (tt, refl)
 behind_there size priced None (Some w) told v = absurd (let e = v in cc)
 behind_there size priced (Some head) None told v = absurd v
-behind_there size priced (Some head) (Some w) told v = (
-  record {
-    cost = subst IsMoney (sym v.0) told.cost;
-    thermal_rows = v.1.thermal_rows;
-    cells = v.1.cells;
-    renewable_rows = v.1.renewable_rows;
-    outputs = v.1.outputs;
-    shortages = missing_there size priced w.printed v.1.missing;
-    denominator = subst (IsDenominator size.version) (sym v.1.over) told.denominator;
-  },
-  λ i. schedule_line (Some (record { cost = sym v.0 i; denominator = sym v.1.over i }))
-      ∷ (map thermal_line w.printed.thermal ++ (map renewable_line w.printed.renewable ++ missing_same priced w.printed i)),
-)
+behind_there size priced (Some head) (Some w) told v = grind (arith, w, told, v)
 
 abbrev head_told : Option WrittenSchedule → Option ScheduleHead
 head_told None = None
@@ -135,11 +118,7 @@ head_told (Some w) = Some (record { cost = w.cost; denominator = w.printed.denom
 behind_back : (size : Sizes) (priced : Bool) (schedule : Option WrittenSchedule) → IsText size priced schedule
     → IfSome (head_told schedule) (IsScheduleHead size.version) × IsBehind size priced (head_told schedule) schedule
 behind_back size priced None v = (tt, refl)
-behind_back size priced (Some w) v =
-    let missing = missing_back size priced w.printed v.shortages in (
-      record { cost = v.cost; denominator = v.denominator },
-      (refl, record { thermal_rows = v.thermal_rows; cells = v.cells; renewable_rows = v.renewable_rows; outputs = v.outputs; missing = missing; over = refl }),
-    )
+behind_back size priced (Some w) v = grind (arith, w, v)
 
 schedule-part : (size : Sizes) → IsPart (schedule_part size) (IsText size true) (schedule_lines true) (Schedule size ∷ []) Done
 unfolding schedule_part
@@ -173,13 +152,8 @@ lines_of plan = plan_lines plan.0.0 plan.0.1 plan.1
 
 plan_there : (size : Sizes) (first : PlanLine) (schedule : Option WrittenSchedule) → IsPlanLine size.version first → IsBehindFirst size first schedule
     → IsPlan size (plan_from (first, schedule)) × (plan_line first ∷ lines_behind first schedule ≡ lines_of (plan_from (first, schedule)))
-plan_there size (Priced a b) schedule told behind = (
-  record { penalties = told.range; schedule = subst (λ (priced : Bool). IsText size priced schedule) (sym told.some) behind },
-  rw told.some refl,
-)
-plan_there size (Unpriced head) schedule told behind =
-    let h = behind_there size false head schedule told behind in
-    (record { penalties = record { shed = omega arith; short = omega arith }; schedule = h.0 }, h.1)
+plan_there size (Priced a b) schedule told behind = grind (arith, a, b, told, behind)
+plan_there size (Unpriced head) schedule told behind = grind (arith, head, told, behind)
 
 -- the line of a plan: its prices, or that of its schedule
 abbrev IsToldBy : Sizes → Planned → Type 0

@@ -58,18 +58,10 @@ record AreFound (front olds : List ℤ) (t : ℕ) (told : List (ℕ × ℤ)) : T
 
 found_here : (front : List ℤ) (old : ℤ) (olds : List ℤ) (t : ℕ) (p : ℕ × ℤ) (told : List (ℕ × ℤ)) → length front ≡ t → p.0 ≡ t → old ≢ p.1
     → AreFound (front ++ p.1 ∷ []) olds (suc t) told → AreFound front (old ∷ olds) t (p ∷ told)
-found_here front old olds t p told e same other h = record {
-  news = p.1 ∷ h.news;
-  make = ap (λ prices. with_prices prices told) (put_here front old p.1 olds p.0 (e ∙ sym same)) ∙ h.make ∙ append_assoc front (p.1 ∷ []) h.news;
-  found = told_other t old p.1 olds h.news other ∙ (λ i. (sym same i, p.1) ∷ h.found i);
-}
+found_here front old olds t p told e same other h = grind (arith, with_prices, put_here, append_assoc, told_other, e, same, other, h)
 
 found_later : (front : List ℤ) (old : ℤ) (olds : List ℤ) (t : ℕ) (told : List (ℕ × ℤ)) → AreFound (front ++ old ∷ []) olds (suc t) told → AreFound front (old ∷ olds) t told
-found_later front old olds t told h = record {
-  news = old ∷ h.news;
-  make = ap (λ prices. with_prices prices told) (sym (append_assoc front (old ∷ []) olds)) ∙ h.make ∙ append_assoc front (old ∷ []) h.news;
-  found = told_same t old old olds h.news refl ∙ h.found;
-}
+found_later front old olds t told h = grind (arith, with_prices, append_assoc, told_same, h)
 
 found_from : (periods : ℕ) (front olds : List ℤ) (t : ℕ) (told : List (ℕ × ℤ)) → length front ≡ t → t + length olds ≡ periods → ArePriceChanges periods t (front ++ olds) told
     → AreFound front olds t told
@@ -103,24 +95,12 @@ pub record AreChangesTo (periods : ℕ) (front olds news : List ℤ) (t : ℕ) (
 
 made_same : (periods : ℕ) (front : List ℤ) (old new : ℤ) (olds news : List ℤ) (t : ℕ) (told : List (ℕ × ℤ)) → old ≡ new → AreChangesTo periods (front ++ old ∷ []) olds news (suc t) told
     → AreChangesTo periods front (old ∷ olds) (new ∷ news) t told
-made_same periods front old new olds news t told same h =
-    let regroup : (front ++ old ∷ []) ++ olds ≡ front ++ old ∷ olds = append_assoc front (old ∷ []) olds in
-    record {
-      may = from_earlier periods t (front ++ old ∷ olds) told (subst (λ (prices : List ℤ). ArePriceChanges periods (suc t) prices told) regroup h.may);
-      make = ap (λ prices. with_prices prices told) (sym regroup) ∙ h.make ∙ append_assoc front (old ∷ []) news ∙ ap (λ price. front ++ price ∷ news) same;
-    }
+made_same periods front old new olds news t told same h = grind (arith, append_assoc, from_earlier, with_prices, same, h)
 
 made_other : (periods : ℕ) (front : List ℤ) (old new : ℤ) (olds news : List ℤ) (t : ℕ) (told : List (ℕ × ℤ)) → length front ≡ t → t < periods → HasDigits 18 new → old ≢ new
     → AreChangesTo periods (front ++ new ∷ []) olds news (suc t) told → AreChangesTo periods front (old ∷ olds) (new ∷ news) t ((t, new) ∷ told)
 made_other periods front old new olds news t told e within digits other h =
-    let put : slice_set (front ++ old ∷ olds) t new ≡ (front ++ new ∷ []) ++ olds = put_here front old new olds t e in
-    record {
-      may = (
-        record { within = within; written = digits; rises = omega arith; changes = λ is. other (sym (there_is front old olds t e) ∙ is) },
-        subst (λ (prices : List ℤ). ArePriceChanges periods (suc t) prices told) (sym put) h.may,
-      );
-      make = ap (λ prices. with_prices prices told) put ∙ h.make ∙ append_assoc front (new ∷ []) news;
-    }
+    grind (arith, slice_set, put_here, there_is, with_prices, append_assoc, e, within, digits, other, h)
 
 made_from : (periods : ℕ) (front olds news : List ℤ) (t : ℕ) → length front ≡ t → t + length olds ≡ periods → length news ≡ length olds → Each (HasDigits 18) news
     → AreChangesTo periods front olds news t (prices_told t olds news)

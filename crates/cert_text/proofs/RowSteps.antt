@@ -1,16 +1,14 @@
 -- Ramp rows that are gone along: what is looked up or set among rising rows lies behind those that come before it.
-use Rattle.std.proofs.Common.{◌≡◌, suc, ◌<◌, Bool, true, false, cond, ◌&&◌, ◌==◌, List, [], ◌∷◌, ◌++◌, length, get_or, take, drop, ◌-◌, refl, sym, ap, subst, ◌∙◌, append_assoc, append-nil, arith}
-use Rattle.std.proofs.lemmas.Bool.{and_parts, eqb-true, false_from_ne_true, false≢true}
+use Rattle.std.proofs.Common.{◌≡◌, suc, ◌<◌, Bool, true, false, ◌&&◌, ◌==◌, List, [], ◌∷◌, ◌++◌, length, get_or, take, drop, ◌-◌, refl, sym, ap, subst, ◌∙◌, append_assoc, append-nil, arith}
 use Rattle.std.proofs.lemmas.List.{take_rest}
 use Rattle.dual_model.specs.Prelude.{AreRising, IsRowBefore, row_of}
-use Rattle.table_list.specs.Changes.{RampRow, is_before, is_none, no_row, placed, with_row}
-use Rattle.table_list.proofs.RowChanges.{before_trans, before_decides, is_beside}
+use Rattle.table_list.specs.Changes.{RampRow, is_before, no_row, placed, with_row}
+use Rattle.table_list.proofs.RowChanges.{before_decides}
 use Rattle.cert_text.specs.inside.Drafts.{LieBefore, differs, IsPassed, IsRowSet}
 
 -- ---- the order of rows
 pub before_through : (first second third : RampRow) → is_before first second ≡ true → is_before second third ≡ true → is_before first third ≡ true
-before_through first second third e f =
-    (before_decides first third).1 (before_trans first second third ((before_decides first second).0 e) ((before_decides second third).0 f))
+before_through first second third e f = grind (arith, e, f)
 
 pub before_from : (first second : RampRow) → IsRowBefore first second → is_before first second ≡ true
 before_from first second h = (before_decides first second).1 h
@@ -20,17 +18,13 @@ abbrev are_one : RampRow → RampRow → Bool
 are_one first second = (first.g == second.g) && (first.t == second.t)
 
 one_is : (first second : RampRow) → are_one first second ≡ true → (first.g ≡ second.g) × (first.t ≡ second.t)
-one_is first second e =
-    let parts = and_parts (first.g == second.g) (first.t == second.t) e in (eqb-true first.g second.g parts.0, eqb-true first.t second.t parts.1)
+one_is first second e = grind (arith, e)
 
 other_before : (first second : RampRow) → is_before first second ≡ true → are_one first second ≡ false
-other_before first second e =
-    false_from_ne_true (are_one first second) (λ same. let one = one_is first second same in false≢true (sym (is_beside first second one.0 one.1) ∙ e))
+other_before first second e = grind (arith, e)
 
 other_behind : (first second : RampRow) → is_before second first ≡ true → are_one first second ≡ false
-other_behind first second e =
-    false_from_ne_true (are_one first second) (λ same.
-    let one = one_is first second same in false≢true (sym (is_beside second first (sym one.0) (sym one.1)) ∙ e))
+other_behind first second e = grind (arith, e)
 
 -- ---- lists of rows
 pub rising_behind : (first : RampRow) (rows : List RampRow) → AreRising (first ∷ rows) → AreRising rows
@@ -74,18 +68,10 @@ rising_rest rows rising = subst AreRising (sym (take_rest rows 1)) (by_first row
 
 -- ---- setting a row
 placed_before : (row : RampRow) (rows : List RampRow) → placed row rows ≡ placed row [] ++ rows
-placed_before row rows = by_test (is_none row)
-  where
-    by_test : (none : Bool) → cond none rows (row ∷ rows) ≡ cond none [] (row ∷ []) ++ rows
-    by_test true = refl
-    by_test false = refl
+placed_before row rows = grind arith
 
 placed_later : (row later : RampRow) (rows : List RampRow) → LieBefore rows later → is_before row later ≡ true → LieBefore (rows ++ placed row []) later
-placed_later row later rows h e = by_test (is_none row)
-  where
-    by_test : (none : Bool) → LieBefore (rows ++ cond none [] (row ∷ [])) later
-    by_test true = subst (λ (rows : List RampRow). LieBefore rows later) (sym (append-nil rows)) h
-    by_test false = lie_before_more rows row later h e
+placed_later row later rows h e = grind (arith, append-nil, lie_before_more, h, e)
 
 -- a look-up after rows were passed
 pub found_behind : (done left now rest : List RampRow) (row : RampRow) → IsPassed done left row now rest → row_of (done ++ left) row.g row.t ≡ row_of rest row.g row.t
@@ -94,11 +80,4 @@ found_behind done left now rest row h = ap (λ rows. row_of rows row.g row.t) (s
 pub row_set : (done left now rest grown behind : List RampRow) (row : RampRow) → IsPassed done left row now rest → differs (row_of rest row.g row.t) row ≡ true
     → with_row rest row ≡ placed row behind → AreRising behind → grown ≡ now ++ placed row [] → IsRowSet done left row grown behind
 row_set done left now rest grown behind row h other set rising grows =
-    let passed = ap (λ rows. with_row rows row) (sym h.same) ∙ with_behind now rest row h.before in
-    let set_behind = ap (λ rows. now ++ rows) (set ∙ placed_before row behind) ∙ sym (append_assoc now (placed row []) behind) in
-    record {
-      other = ap (λ old. differs old row) (found_behind done left now rest row h) ∙ other;
-      rows = ap (λ rows. rows ++ behind) grows ∙ sym (passed ∙ set_behind);
-      before = λ later e. subst (λ (rows : List RampRow). LieBefore rows later) (sym grows) (placed_later row later now (lie_before_later now row later h.before e) e);
-      rising = rising;
-    }
+    grind (arith, with_behind, placed_before, append_assoc, found_behind, placed_later, lie_before_later, h, other, set, rising, grows)

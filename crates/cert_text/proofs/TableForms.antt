@@ -6,7 +6,7 @@ use Rattle.std.proofs.lemmas.Bool.{ltb-true, lt-ltb, and_parts, false≢true, an
 use Rattle.std.specs.Ordering.{int_eq}
 use Rattle.std.specs.Bool.{Decides}
 use Rattle.outside.specs.Lines.{line}
-use Rattle.dual_model.specs.Prelude.{Leaf, Bound, Ray, Empty, IsRowBefore, IsRowWithin, pi_at, mu_at, up_at, down_at}
+use Rattle.dual_model.specs.Prelude.{Leaf, Bound, Ray, Empty, IsRowBefore, IsRowWithin, pi_at, mu_at}
 use Rattle.cert_text.specs.TextConditions.{RampRow, HasDigits, IsRampText, IsNodeText}
 use Rattle.table_list.specs.Changes.{Table, Change, OfDemand, OfReserve, OfRamps}
 use Rattle.cert_text.specs.CertificateText.{Third, ramp_line, next_line, change_line, TreeNode, LeafNode, SplitNode, node_line, is_exact_leaf, is_exact_node, IsLeafWithin, IsNodeWithin}
@@ -36,11 +36,7 @@ record IsRowText (row : RampRow) : Type 0 where
 
 ramp_decides : (size : Sizes) (before : Option RampRow) (row : RampRow)
     → Decides (is_ramp size before row) (IsRowWithin size.thermal size.periods row × IfSome before (λ earlier. IsRowBefore earlier row))
-ramp_decides size before row =
-    Decides-like (is_ramp size before row)
-    (λ h. (record { unit = h.0; period = h.1.0; present = h.1.1.0 }, h.1.1.1)) (λ h. (h.0.unit, (h.0.period, (h.0.present, h.1))))
-    (Decides-and _ _ (Decides-ltb row.g size.thermal) (Decides-and _ _ (Decides-ltb row.t size.periods)
-    (Decides-and _ _ (present_decides row.up row.down) (rises_decide before row))))
+ramp_decides size before row = grind (arith, Decides-like, Decides-and, Decides-ltb, present_decides, rises_decide)
 
 row_numbers-form : IsForm row_numbers_at (λ p. (suc p.0 < 10 ^ 18) × ((suc p.1.0 < 10 ^ 18) × (HasDigits 18 p.1.1.0 × HasDigits 18 p.1.1.1)))
     (λ p. (whole_text (suc p.0) ++ codes " ") ++ ((whole_text (suc p.1.0) ++ codes " ") ++ ((signed_text p.1.1.0 ++ codes " ") ++ (signed_text p.1.1.1 ++ codes "\n")))) Anything
@@ -134,24 +130,18 @@ behind_decides (Some earlier) change = comes_decides earlier change
 other_decides : (table : Table) (change : Change) → Decides (is_other table change) (Changes table change)
 other_decides table (OfDemand t price) = Decides-not _ (Decides-int_eq (pi_at table t) price)
 other_decides table (OfReserve t price) = Decides-not _ (Decides-int_eq (mu_at table t) price)
-other_decides table (OfRamps row) =
-    Decides-or _ _ (Decides-not _ (Decides-int_eq (up_at table row.g row.t) row.up)) (Decides-not _ (Decides-int_eq (down_at table row.g row.t) row.down))
+other_decides table (OfRamps row) = grind (arith, row)
 
 -- a written change is within the sizes where the test says so, and one within them is of few digits
 within_from : (size : Sizes) (change : Change) → IsChangeText change → is_within size change ≡ true → IsChangeWithin size change
 within_from size (OfDemand t price) v e = (ltb-true t size.periods e, v.1)
 within_from size (OfReserve t price) v e = (ltb-true t size.periods e, v.1)
-within_from size (OfRamps row) v e =
-    let both = and_parts (nat_lt row.g size.thermal) (nat_lt row.t size.periods) e in
-    (ltb-true row.g size.thermal both.0, ltb-true row.t size.periods both.1, v.numbers)
+within_from size (OfRamps row) v e = grind (arith, row, v, e)
 
 within_back : (size : Sizes) → AreSizes size → (change : Change) → IsChangeWithin size change → IsChangeText change × (is_within size change ≡ true)
 within_back size lawful (OfDemand t price) w = ((omega (arith, w.0, lawful.periods), w.1), lt-ltb t size.periods w.0)
 within_back size lawful (OfReserve t price) w = ((omega (arith, w.0, lawful.periods), w.1), lt-ltb t size.periods w.0)
-within_back size lawful (OfRamps row) w = (
-  record { g = omega (arith, w.0, lawful.thermal); t = omega (arith, w.1, lawful.periods); numbers = w.2 },
-  and_from (nat_lt row.g size.thermal) (nat_lt row.t size.periods) (lt-ltb row.g size.thermal w.0) (lt-ltb row.t size.periods w.1),
-)
+within_back size lawful (OfRamps row) w = grind (arith, lawful, row, w)
 
 pub change-form : (size : Sizes) → AreSizes size → (table : Table) (last : Option Change) → IsForm (change_at size table last) (IsChangeAfter size table last) change_line Anything
 unfolding change_at

@@ -1,16 +1,15 @@
 -- What is told next of tables, and what is still to be told behind it, are what was to be told before.
-use Rattle.std.proofs.Common.{◌≡◌, ℕ, ℤ, pos, ◌+◌, ◌<◌, ◌≤◌, suc, Bool, true, false, cond, List, [], ◌∷◌, ◌++◌, length, map, drop, get_or, Option, Some, None, option_to_list, slice_get, ◌-◌, refl, ap, sym, ◌∙◌, add-one, drop-cons, length-append, arith}
+use Rattle.std.proofs.Common.{◌≡◌, ℕ, ℤ, pos, ◌+◌, ◌<◌, ◌≤◌, Bool, true, false, cond, List, [], ◌∷◌, ◌++◌, length, drop, get_or, Option, Some, None, option_to_list, slice_get, ◌-◌, refl, ap, sym, ◌∙◌, add-one, drop-cons, length-append, arith}
 use Rattle.std.specs.List.{flat_map}
 use Rattle.std.specs.Option.{option_map_or}
-use Rattle.std.specs.Ordering.{int_eq}
 use Rattle.std.proofs.lemmas.List.Concat.{flat_map-append}
 use Rattle.std.proofs.lemmas.List.Folds.{flat_map-map}
 use Rattle.std.proofs.lemmas.Option.{slice_get-get_or}
 use Rattle.std.proofs.lemmas.List.{drop_more, drop_all, length-map, get_or-map}
 use Rattle.table_list.specs.declared.change.Change.{Change as KeptChange}
 use Rattle.table_list.specs.TableChanges.{change_of, changes_of}
-use Rattle.table_list.specs.Changes.{Change, OfDemand, OfReserve, OfRamps, price_changes, row_changes, table_changes}
-use Rattle.cert_text.specs.CertificateText.{Table, RampRow, change_line, next_line}
+use Rattle.table_list.specs.Changes.{Change, OfDemand, OfReserve, price_changes, row_changes, table_changes}
+use Rattle.cert_text.specs.CertificateText.{Table, RampRow, change_line}
 use Rattle.cert_text.specs.inside.WrittenParts.{price_part, told_count, row_line, table_part, next_part, changes_part, told_part, tables_part}
 
 -- ---- prices
@@ -23,9 +22,7 @@ told-or-not false change rest = refl
 pub next_price : (change : ℕ → ℤ → Change) (olds news : List ℤ) (t : ℕ) → t < length olds → t < length news
     → price_part change t (get_or olds t (pos 0)) (get_or news t (pos 0)) ++ flat_map change_line (price_changes change (t + 1) (drop (t + 1) olds) (drop (t + 1) news))
     ≡ flat_map change_line (price_changes change t (drop t olds) (drop t news))
-next_price change olds news t in_olds in_news =
-    rw (add-one, drop-cons olds t (pos 0), drop-cons news t (pos 0))
-    (told-or-not (int_eq (get_or olds t (pos 0)) (get_or news t (pos 0))) (change t (get_or news t (pos 0))) (price_changes change (suc t) (drop (suc t) olds) (drop (suc t) news)))
+next_price change olds news t in_olds in_news = grind (arith, add-one, drop-cons, told-or-not, in_olds, in_news)
 
 counted-or-not : (same : Bool) (change : Change) (rest : List Change) → cond same 0 1 + length rest ≡ length (cond same rest (change ∷ rest))
 counted-or-not true change rest = omega arith
@@ -34,9 +31,7 @@ counted-or-not false change rest = omega arith
 pub next_price_count : (change : ℕ → ℤ → Change) (olds news : List ℤ) (t : ℕ) → t < length olds → t < length news
     → told_count (get_or olds t (pos 0)) (get_or news t (pos 0)) + length (price_changes change (t + 1) (drop (t + 1) olds) (drop (t + 1) news))
     ≡ length (price_changes change t (drop t olds) (drop t news))
-next_price_count change olds news t in_olds in_news =
-    rw (add-one, drop-cons olds t (pos 0), drop-cons news t (pos 0))
-    (counted-or-not (int_eq (get_or olds t (pos 0)) (get_or news t (pos 0))) (change t (get_or news t (pos 0))) (price_changes change (suc t) (drop (suc t) olds) (drop (suc t) news)))
+next_price_count change olds news t in_olds in_news = grind (arith, add-one, drop-cons, counted-or-not, in_olds, in_news)
 
 -- ---- rows of ramp multipliers
 row-told : (change : Option RampRow) (rest : List RampRow)
@@ -57,16 +52,11 @@ next_row_count change rest rows parts = sym (ap length parts ∙ length-append (
 pub change_count_is : (before table : Table)
     → length (table_changes before table)
     ≡ length (price_changes OfDemand 0 before.pi table.pi) + length (price_changes OfReserve 0 before.mu table.mu) + length (row_changes before.ramps table.ramps)
-change_count_is before table =
-    let demand = price_changes OfDemand 0 before.pi table.pi in
-    let reserve = price_changes OfReserve 0 before.mu table.mu in
-    let rows = row_changes before.ramps table.ramps in
-    omega (arith, length-append demand (reserve ++ map OfRamps rows), length-append reserve (map OfRamps rows), length-map rows OfRamps)
+change_count_is before table = grind (arith, length-append, length-map)
 
 pub next_table : (before : Option Table) (tables : List Table) (i : ℕ) (table : Table) → i < length tables → table ≡ get_or tables i table
     → told_part before table ++ tables_part (Some table) (drop (i + 1) tables) ≡ tables_part before (drop i tables)
-next_table before tables i table within is =
-    ap (tables_part before) (sym (drop_more tables i table within ∙ ap (λ first. first ∷ drop (i + 1) tables) (sym is)))
+next_table before tables i table within is = grind (arith, drop_more, within, is)
 
 pub last_table : (before : Option Table) (tables : List Table) (i : ℕ) → length tables ≤ i → tables_part before (drop i tables) ≡ []
 last_table before tables i past = ap (tables_part before) (drop_all i tables past)
@@ -78,25 +68,13 @@ first_table [] = refl
 first_table (table ∷ tables) = refl
 
 changes_told : (before table : Table) → changes_part table.k (table_changes before table) ≡ next_part before table
-changes_told before table =
-    ap (λ rest. next_line table.k (length (table_changes before table)) ++ rest)
-    (flat_map-append change_line (price_changes OfDemand 0 before.pi table.pi) (price_changes OfReserve 0 before.mu table.mu ++ map OfRamps (row_changes before.ramps table.ramps))
-    ∙ ap (λ rest. flat_map change_line (price_changes OfDemand 0 before.pi table.pi) ++ rest)
-    (flat_map-append change_line (price_changes OfReserve 0 before.mu table.mu) (map OfRamps (row_changes before.ramps table.ramps))
-    ∙ ap (λ rest. flat_map change_line (price_changes OfReserve 0 before.mu table.mu) ++ rest) (flat_map-map change_line OfRamps (row_changes before.ramps table.ramps))))
+changes_told before table = grind (arith, flat_map-append, flat_map-map)
 
 -- and each behind it is told by its changes
 pub next_told : (tables : List Table) (i : ℕ) (d : Table) (k : ℤ) (changes : List Change) → 0 < i → i < length tables → k ≡ (get_or tables i d).k
     → changes ≡ table_changes (get_or tables (i - 1) d) (get_or tables i d)
     → changes_part k changes ++ tables_part (slice_get tables (i + 1 - 1)) (drop (i + 1) tables) ≡ tables_part (slice_get tables (i - 1)) (drop i tables)
-next_told tables i d k changes some within scale told =
-    let before = get_or tables (i - 1) d in
-    let table = get_or tables i d in
-    let here : slice_get tables (i + 1 - 1) ≡ Some table = ap (slice_get tables) (omega arith) ∙ slice_get-get_or tables i d within in
-    let there : slice_get tables (i - 1) ≡ Some before = slice_get-get_or tables (i - 1) d (omega arith) in
-    (λ j. changes_part (scale j) (told j) ++ tables_part (here j) (drop (i + 1) tables))
-    ∙ ap (λ text. text ++ tables_part (Some table) (drop (i + 1) tables)) (changes_told before table)
-    ∙ sym ((λ j. tables_part (there j) (drop_more tables i d within j)))
+next_told tables i d k changes some within scale told = grind (arith, slice_get-get_or, changes_told, drop_more, some, within, scale, told)
 
 -- a change of a list that is kept, before those behind it
 pub next_change : (changes : List KeptChange) (i : ℕ) (d : KeptChange) → i < length changes

@@ -1,18 +1,16 @@
 -- The sizes of outputs and costs between corners.
 -- Cite from a crate above by `use Rattle.cost_curves.proofs.CornerSizes.{output-size}`.
-use Rattle.std.proofs.Common.{◌≡◌, ℕ, ◌+◌, ◌-◌, ◌*◌, ◌<◌, ◌≤◌, sym, ap, subst, ◌∙◌, arith, lit<, List, length, to_z, of_z, ℤ, pos, ◌+ℤ◌, ◌-ℤ◌, ◌*ℤ◌, neg_ℤ, ◌≤ℤ◌, ◌<ℤ◌, unsigned_abs}
+use Rattle.std.proofs.Common.{◌≡◌, ℕ, ◌-◌, ◌*◌, ◌<◌, ◌≤◌, sym, subst, ◌∙◌, arith, lit<, List, length, to_z, of_z, ℤ, pos, ◌+ℤ◌, ◌-ℤ◌, ◌*ℤ◌, neg_ℤ, ◌≤ℤ◌, ◌<ℤ◌, unsigned_abs}
 use Rattle.std.specs.Int.{w64, w128}
 use Rattle.std.proofs.lemmas.Int.{ints}
-use Rattle.uc_model.specs.Prelude.{IsCeiling, point_of, output_of}
+use Rattle.uc_model.specs.Prelude.{IsCeiling, output_of}
 use Rattle.uc_model.specs.declared.limits.TheConstants.{MAX_COST, MAX_DENOMINATOR, MAX_POWER}
-use Rattle.uc_model.proofs.Common.{linear, mul_comm, mul-zero, mul-one, mul-le-mul_left, mul-lt-mul_left, le_trans, le_from_mul, mul-le-mul_right, mul-le-mul_turned, scale-le-scale, IsCeiling-least, abs_sub, abs_mul, narrow}
+use Rattle.uc_model.proofs.Common.{linear, mul_comm, mul-zero, mul-lt-mul_left, le_trans, le_from_mul, mul-le-mul_right, mul-le-mul_turned, scale-le-scale, IsCeiling-least, abs_sub, abs_mul, narrow}
 use Rattle.uc_model.proofs.Sizes.{wide}
 use Rattle.cost_curves.specs.LowerHull.{Point, AreLawfulCorners, width_of}
 
 pub output-size : (corners : List Point) → AreLawfulCorners corners → (i : ℕ) → i < length corners → unsigned_abs (output_of corners i) ≤ 2 * MAX_POWER
-output-size corners lawful i h =
-    let whole = abs_sub (point_of corners i).mw (point_of corners 0).mw MAX_POWER MAX_POWER (lawful.each i h).output (lawful.each 0 lawful.some).output in
-    omega arith
+output-size corners lawful i h = grind (arith, ints, lawful, h)
 
 -- a number between 0 and another is no greater in size
 pub between-size : (p x : ℤ) (m : ℕ) → pos 0 ≤ℤ p → p ≤ℤ x → unsigned_abs x ≤ m → unsigned_abs p ≤ m
@@ -46,15 +44,7 @@ numerator-size corners p q lawful some few low high =
 
 -- the quotient of a number that isn't negative, rounded up, lies between 0 and the number
 pub whole-is : (p q n : ℤ) → pos 1 ≤ℤ q → pos 0 ≤ℤ p → IsCeiling p q n → (pos 0 ≤ℤ n) × (n ≤ℤ p)
-whole-is p q n some low ceiling =
-    let positive : pos 0 <ℤ q = omega (arith, linear) in
-    let none = mul-zero q in
-    let turned = mul_comm q n in
-    let times = mul-le-mul_left p (pos 1) q low some in
-    let one = mul-one p in (
-      le_from_mul q (pos 0) n positive (omega (arith, linear, ceiling.above)),
-      IsCeiling-least p q n p positive ceiling (omega (arith, linear)),
-    )
+whole-is p q n some low ceiling = grind (arith, ints, some, low, ceiling)
 
 -- what the calls give for a width over q
 record IsWidth (q w : ℤ) (width : ℤ) : Type 0 where
@@ -103,9 +93,7 @@ ceiling-is over q rise rising run width n r w rise_is rise_size run_is run_size 
 -- a cost and a rise of it
 pub cost-sum : (cost rise : ℤ) → unsigned_abs cost ≤ MAX_COST → unsigned_abs rise ≤ 2 * MAX_COST
     → to_z w64 (of_z w64 (to_z w64 (of_z w64 cost) +ℤ to_z w64 (of_z w64 rise))) ≡ cost +ℤ rise
-cost-sum cost rise h k =
-    ap (λ z. to_z w64 (of_z w64 z)) (λ t. narrow cost MAX_COST h (lit< tt) t +ℤ narrow rise (2 * MAX_COST) k (lit< tt) t)
-    ∙ narrow (cost +ℤ rise) (3 * MAX_COST) (omega (arith, ints)) (lit< tt)
+cost-sum cost rise h k = grind (arith, ints, h, k)
 
 -- how far p over q lies right of a corner, as calls give it: the product, the difference and its bits
 pub record IsOver (p q x : ℤ) (number : ℤ) : Type 0 where
@@ -139,7 +127,4 @@ over-is corners p q number left lawful within some few low high e =
 -- the next output, right of which there is more
 pub next-bits : (corners : List Point) (p : ℤ) → AreLawfulCorners corners → pos 0 ≤ℤ p → p <ℤ width_of corners
     → to_z w64 (of_z w64 (to_z w64 (of_z w64 p) +ℤ pos 1)) ≡ p +ℤ pos 1
-next-bits corners p lawful low high =
-    let size = output-size corners lawful (length corners - 1) (omega (arith, lawful.some)) in
-    let small = between-size p (width_of corners) (2 * MAX_POWER) low (omega (arith, linear)) size in
-    ap (λ z. to_z w64 (of_z w64 (z +ℤ pos 1))) (narrow p (2 * MAX_POWER) small (lit< tt)) ∙ narrow (p +ℤ pos 1) (2 * MAX_POWER + 1) (omega (arith, ints)) (lit< tt)
+next-bits corners p lawful low high = grind (arith, ints, output-size, between-size, narrow, lawful, low, high)

@@ -1,7 +1,7 @@
 -- The hull's value on a segment that holds an output is the least cost rounded up.
 -- Cite from a crate above by `use Rattle.cost_curves.proofs.FirstSegments.{held_over}`.
-use Rattle.std.proofs.Common.{◌≡◌, ℕ, ◌≢◌, ◌*◌, ◌<◌, ◌≤◌, ◌⊎◌, inl, inr, ⊎_elim, sym, ap, subst, ◌∙◌, arith, List, length, unsigned_abs, ℤ, pos, ◌-ℤ◌, ◌*ℤ◌, ◌≤ℤ◌, ◌<ℤ◌, IsTrue, Some, int_le, ◌==◌, ◌&&◌}
-use Rattle.std.proofs.lemmas.Bool.{and_parts, and_from, or_cases, eqb-true}
+use Rattle.std.proofs.Common.{◌≡◌, ℕ, ◌≢◌, ◌*◌, ◌<◌, ◌≤◌, ◌⊎◌, ⊎_elim, sym, ap, subst, ◌∙◌, arith, List, length, unsigned_abs, ℤ, pos, ◌-ℤ◌, ◌*ℤ◌, ◌≤ℤ◌, ◌<ℤ◌, IsTrue, Some, int_le, ◌&&◌}
+use Rattle.std.proofs.lemmas.Bool.{and_parts, and_from}
 use Rattle.uc_model.specs.Prelude.{IsCeiling, quotient_up, all_below, point_of, output_of, run, rise, is_hull_segment, is_hull_point, Segment, segment_width, from_left, segment_cost, hull_cost}
 use Rattle.uc_model.proofs.Common.{linear, one-mul, mul-one, zero-mul, mul-zero, mul-sub, mul_comm, pos-mul, mul-le-mul_left, mul-lt-mul_left, le_antisymm, le_or_lt, int_le-true, le-int_le, all_below-at, IsCeiling_unique, quotient_up-is, first-there, under, Holds, segment_at-holds, lies_on, abs_is}
 use Rattle.uc_model.proofs.HullPoints.{wide}
@@ -50,10 +50,7 @@ cost_level points d p s some same =
 -- a segment's ends are two points, or one of those that all have one output
 ends_are : (points : List Point) (d : ℕ) (p : ℤ) (s : Segment) → Holds points d p s
     → IsTrue (is_hull_segment points s.left s.right) ⊎ ((s.left ≡ s.right) × IsTrue (is_hull_point points s.left))
-ends_are points d p s holds = ⊎_elim
-    (λ (segment : IsTrue (is_hull_segment points s.left s.right)). inl segment)
-    (λ point. let parts = and_parts (s.left == s.right) (is_hull_point points s.left) point in inr (eqb-true s.left s.right parts.0, parts.1))
-    (or_cases (is_hull_segment points s.left s.right) _ (and_parts _ _ (and_parts _ _ holds.held).0).0)
+ends_are points d p s holds = grind (arith, linear, holds)
 
 pub segment_least : (points : List Point) (d : ℕ) (p : ℤ) (s : Segment) → 0 < d → Holds points d p s → IsLeastCostUp points d p (segment_cost points d p (Some s))
 segment_least points d p s some holds =

@@ -26,9 +26,7 @@ at_ends points p s e first = let holds = segment_at-holds points 1 p s e in reco
 -- there is one at each whole output
 at_whole : (points : List Point) (n : ℕ) → AreLawfulPoints points → pos n ≤ℤ width_of points
     → (s : Segment) × IsSegmentAt points (pos n) (point_of points s.left) (point_of points s.right)
-at_whole points zero lawful most =
-    let found = begin_there points (rises points lawful) in
-    (found.0, at_ends points (pos 0) found.0 found.1.at (λ some. absurd (omega (arith, linear, some))))
+at_whole points zero lawful most = grind (arith, linear, begin_there, rises, at_ends, lawful, most)
 at_whole points (suc x) lawful most =
     let found = step_there points x (rises points lawful) most in
     (found.0, at_ends points (pos (suc x)) found.0 found.1.at (λ some. let begins = found.1.begins in omega (arith, linear, begins)))

@@ -1,8 +1,8 @@
 -- What the corners of a lower hull say about the points.
 -- Cite from a crate above by `use Rattle.cost_curves.proofs.HullValues.{segment_is}`.
-use Rattle.std.proofs.Common.{◌≡◌, ℕ, suc, ◌-◌, ◌<◌, ⊎_elim, refl, sym, subst, ◌∙◌, arith, List, length, ℤ, pos, ◌+ℤ◌, ◌-ℤ◌, ◌*ℤ◌, ◌≤ℤ◌, ◌<ℤ◌, IsTrue, int_le, int_lt, ◌==◌, ◌&&◌}
+use Rattle.std.proofs.Common.{◌≡◌, ℕ, suc, ◌<◌, ⊎_elim, refl, sym, subst, ◌∙◌, arith, List, length, ℤ, pos, ◌+ℤ◌, ◌-ℤ◌, ◌≤ℤ◌, ◌<ℤ◌, IsTrue, int_le, int_lt, ◌==◌, ◌&&◌}
 use Rattle.std.proofs.lemmas.Bool.{and_from, or_left, or_right, eq-eqb}
-use Rattle.uc_model.specs.Prelude.{all_below, point_of, output_of, run, rise, is_above_line, is_hull_segment, is_hull_point}
+use Rattle.uc_model.specs.Prelude.{all_below, point_of, output_of, run, rise, is_hull_segment, is_hull_point}
 use Rattle.uc_model.proofs.Common.{holds_from, linear, le_antisymm, le-int_le, lt-int_lt, all_below-from}
 use Rattle.cost_curves.specs.LowerHull.{Point, IsLawfulPoint, AreLawfulCorners, IsAbove, IsLowerHull, width_of}
 use Rattle.cost_curves.specs.LeastCost.{Slope, IsSegmentAt, IsLeftSlope, IsRightSlope}
@@ -68,24 +68,15 @@ line points corners whole i h =
       left = first.0;
       left_within = first.1;
       left_is = first.2;
-      rising = subst (λ (x : Point). x.mw <ℤ (point_of points second.0).mw) first.2
-          (subst (λ (x : Point). (point_of corners i).mw <ℤ x.mw) second.2 (whole.hull.rising i h));
+      rising = grind (arith, linear, points, second, first, corners, i, whole, h);
       right = second.0;
       right_within = second.1;
       right_is = second.2;
-      above = λ l hl. subst (λ x. IsAbove x (point_of points second.0) (point_of points l)) first.2
-          (subst (λ x. IsAbove (point_of corners i) x (point_of points l)) second.2 (whole.hull.above i h l hl));
+      above = λ l hl. grind (arith, linear, points, second, l, first, corners, i, whole, h, hl);
     }
 
 pub line-segment : (points corners : List Point) (i : ℕ) (line : Line points corners i) → IsTrue (is_hull_segment points line.left line.right)
-line-segment points corners i line =
-    and_from (int_lt (pos 0) (run points line.left line.right)) (all_below (length points) (is_above_line points line.left line.right))
-    (lt-int_lt _ _ (subst (λ z. pos 0 <ℤ z) (sym (run_is points line.left line.right)) (sub_positive _ _ line.rising)))
-    (all_below-from (length points) (is_above_line points line.left line.right)
-    (λ l h. le-int_le _ _
-    (subst (λ z. (rise points line.left line.right *ℤ run points line.left l) ≤ℤ (rise points line.left l *ℤ z)) (sym (run_is points line.left line.right))
-    (subst (λ z. (rise points line.left line.right *ℤ z) ≤ℤ (rise points line.left l *ℤ ((point_of points line.right).mw -ℤ (point_of points line.left).mw)))
-    (sym (run_is points line.left l)) (line.above l h)))))
+line-segment points corners i line = grind (arith, linear, and_from, int_lt, lt-int_lt, run_is, sub_positive, all_below-from, le-int_le)
 
 -- ---- a corner that is alone
 pub alone-point : (points corners : List Point) → IsLowerHull points corners → length corners ≡ 1 → (a : ℕ) → point_of corners 0 ≡ point_of points a
@@ -186,15 +177,7 @@ slope_is points corners p i slope whole h begins reaches rise_is run_of =
 
 -- the slope on the left of the next output is that on the right of this one: outputs are whole
 pub slope_right : (points : List Point) (p : ℤ) (slope : Slope) → IsLeftSlope points (p +ℤ pos 1) slope → IsRightSlope points p slope
-slope_right points p slope left = record {
-  left = left.left;
-  right = left.right;
-  segment = left.segment;
-  begins = omega (arith, linear, left.begins);
-  reaches = omega (arith, linear, left.reaches);
-}
+slope_right points p slope left = grind (arith, linear, left)
 
 pub whole_width : (points corners : List Point) → IsLowerHull points corners → width_of corners ≡ width_of points
-whole_width points corners whole =
-    width_is points corners whole (length corners - 1) (length points - 1)
-    (omega (arith, whole.hull.some whole.lawful.some)) (omega (arith, whole.lawful.some))
+whole_width points corners whole = grind (arith, linear, width_is, whole)

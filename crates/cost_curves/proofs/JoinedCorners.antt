@@ -1,11 +1,11 @@
 -- How a point joins the corners of the lower hull of the points before it.
-use Rattle.std.proofs.Common.{◌≡◌, ℕ, zero, suc, ◌-◌, ◌<◌, ◌≤◌, ◌⊎◌, ⊎_elim, Bool, true, false, refl, sym, ap, subst, ◌∙◌, arith, List, [], ◌∷◌, ◌++◌, take, length, length-append, ℤ, pos, ◌-ℤ◌, ◌*ℤ◌, ◌≤ℤ◌, ◌<ℤ◌, IsTrue, int_le}
+use Rattle.std.proofs.Common.{◌≡◌, ℕ, zero, suc, ◌-◌, ◌<◌, ◌≤◌, ◌⊎◌, ⊎_elim, Bool, true, false, refl, sym, ap, subst, ◌∙◌, arith, List, [], ◌∷◌, ◌++◌, take, length, length-append, ℤ, ◌-ℤ◌, ◌*ℤ◌, ◌≤ℤ◌, ◌<ℤ◌, IsTrue, int_le}
 use Rattle.std.proofs.Math.Seq.{get_or-append_seam}
 use Rattle.std.proofs.lemmas.List.{get_or_append_left, get_or-take, length-take-le}
 use Rattle.std.proofs.lemmas.Int.{ints}
-use Rattle.std.proofs.lemmas.Bool.{cond-true, cond-false}
+use Rattle.std.proofs.lemmas.Bool.{cond-true}
 use Rattle.uc_model.specs.Prelude.{point_of}
-use Rattle.uc_model.proofs.Common.{linear, le_refl, le_trans, le_or_lt, le_antisymm, sub_nonneg, mul-zero, mul_nonneg, mul-le-mul_right, int_le-true, le-int_le, Rises, outputs_rise}
+use Rattle.uc_model.proofs.Common.{linear, le_refl, le_trans, le_or_lt, le_antisymm, sub_nonneg, mul-le-mul_right, int_le-true, le-int_le, Rises, outputs_rise}
 use Rattle.cost_curves.specs.LowerHull.{Point, AreLawfulPoints, IsAbove, is_above, IsBelow, HullOfFirst}
 use Rattle.cost_curves.specs.inside.Corners.{is_over, IsNext, Joins}
 use Rattle.cost_curves.proofs.Lines.{flatter_trans, right_of, above_of, above-flatter_start, flatter_start-above, above-flatter_next, flatter_next-above, above-flatter_end, flatter_end-above, above-flatter_whole, before-flatter, sub_positive, less_le}
@@ -43,11 +43,7 @@ corner_above points count corners hull i hi j hj =
 -- ---- lines through three or four points, of which one is new
 -- a point at the output of a, not below it, lies above each line from a to the right
 level_above : (a p l : Point) → a.mw ≤ℤ p.mw → l.mw ≡ a.mw → a.cost ≤ℤ l.cost → IsAbove a p l
-level_above a p l right same higher =
-    let none : (p.cost -ℤ a.cost) *ℤ (l.mw -ℤ a.mw) ≡ pos 0 =
-    ap (λ z. (p.cost -ℤ a.cost) *ℤ z) (omega (arith, linear)) ∙ mul-zero (p.cost -ℤ a.cost) in
-    let more = mul_nonneg (l.cost -ℤ a.cost) (p.mw -ℤ a.mw) (sub_nonneg a.cost l.cost higher) (sub_nonneg a.mw p.mw right) in
-    omega (arith, linear, none, more)
+level_above a p l right same higher = grind (arith, ints, right, same, higher)
 
 -- of a point that lies above the line from a to b, each one above it at its output does
 raise_above : (a b p l : Point) → a.mw ≤ℤ b.mw → IsAbove a b p → p.mw ≡ l.mw → p.cost ≤ℤ l.cost → IsAbove a b l
@@ -106,11 +102,7 @@ covers_start points count corners point hull next = record {
 
 pub covers-one : (points : List Point) (count : ℕ) (corners : List Point) (point : Point) → HullOfFirst points count corners
     → IsTrue (int_le point.mw (point_of corners 0).mw) → Covers points count corners point 0
-covers-one points count corners point hull e = record {
-  within = omega arith;
-  covered = λ i e l hl right. absurd (omega arith);
-  alone = λ none l hl. le_trans _ _ _ (int_le-true _ _ e) (hull.first l hl);
-}
+covers-one points count corners point hull e = grind (arith, ints, hull, e)
 
 pub covers-more : (points : List Point) (count : ℕ) (corners : List Point) (point : Point) (i : ℕ) → HullOfFirst points count corners
     → IsNext points count point → Covers points count corners point (suc (suc i))
@@ -138,24 +130,11 @@ covers-more points count corners point i hull next covers e =
 -- ---- the corners that are left
 pub joins-none : (points : List Point) (count : ℕ) (corners : List Point) (point : Point) → Covers points count corners point 0
     → Joins points count corners point 0
-joins-none points count corners point covers = record {
-  over = λ i h. absurd (omega arith);
-  right = λ i h. absurd (omega arith);
-  above = λ i h. absurd (omega arith);
-  strict = λ i h. absurd (omega arith);
-  alone = covers.alone;
-}
+joins-none points count corners point covers = grind (arith, ints, covers)
 
 pub joins-one : (points : List Point) (count : ℕ) (corners : List Point) (point : Point) → HullOfFirst points count corners
     → Covers points count corners point 1 → int_le point.mw (point_of corners 0).mw ≡ false → Joins points count corners point 1
-joins-one points count corners point hull covers e = record {
-  over = λ i h. absurd (omega arith);
-  right = λ i same. subst (λ k. (point_of corners k).mw <ℤ point.mw) (omega arith) (false_lt _ _ e);
-  above = λ i same l hl.
-      covers.covered i same l hl (subst (λ k. (point_of corners k).mw ≤ℤ (point_of points l).mw) (omega arith) (hull.first l hl));
-  strict = λ i same. absurd (omega arith);
-  alone = λ none. absurd (omega arith);
-}
+joins-one points count corners point hull covers e = grind (arith, ints, hull, covers, e)
 
 -- the point lies above the lines from corner to corner, from the last one down
 over_below : (points : List Point) (count : ℕ) (corners : List Point) (point : Point) (i : ℕ) → HullOfFirst points count corners
@@ -219,28 +198,17 @@ pub record Tested (corners : List Point) (point : Point) (kept : ℕ) (result : 
 pub covers_next : (points : List Point) (count : ℕ) (corners : List Point) (point : Point) (kept : ℕ) (result : Bool)
     → HullOfFirst points count corners → IsNext points count point → Covers points count corners point kept
     → Tested corners point kept result → result ≡ true → Covers points count corners point (kept - 1)
-covers_next points count corners point zero result hull next covers tested e = absurd (clash (tested.none refl) e)
-  where
-    clash : result ≡ false → result ≡ true → ⊥
-    clash h k = cc
-covers_next points count corners point (suc zero) result hull next covers tested e =
-    subst (λ k. Covers points count corners point k) (omega arith)
-    (covers-one points count corners point hull (sym (tested.one refl) ∙ e))
+covers_next points count corners point zero result hull next covers tested e = grind (arith, ints, hull, next, covers, tested, e)
+covers_next points count corners point (suc zero) result hull next covers tested e = grind (arith, ints, hull, next, covers, tested, e)
 covers_next points count corners point (suc (suc i)) result hull next covers tested e =
-    subst (λ k. Covers points count corners point k) (lower i)
-    (covers-more points count corners point i hull next covers (sym (tested.more i refl) ∙ e))
-  where
-    lower : (i : ℕ) → suc i ≡ suc (suc i) - 1
-    lower i = omega arith
+    grind (arith, ints, covers-more, hull, next, covers, tested, e)
 
 pub joins : (points : List Point) (count : ℕ) (corners : List Point) (point : Point) (kept : ℕ) (result : Bool)
     → HullOfFirst points count corners → IsNext points count point → Covers points count corners point kept
     → Tested corners point kept result → result ≡ false → Joins points count corners point kept
 joins points count corners point zero result hull next covers tested e = joins-none points count corners point covers
-joins points count corners point (suc zero) result hull next covers tested e =
-    joins-one points count corners point hull covers (sym (tested.one refl) ∙ e)
-joins points count corners point (suc (suc i)) result hull next covers tested e =
-    joins-more points count corners point i hull next covers (sym (tested.more i refl) ∙ e)
+joins points count corners point (suc zero) result hull next covers tested e = grind (arith, ints, hull, next, covers, tested, e)
+joins points count corners point (suc (suc i)) result hull next covers tested e = grind (arith, ints, joins-more, hull, next, covers, tested, e)
 
 -- ---- the points before the next one
 -- outputs rise from each point to each later one
@@ -263,17 +231,7 @@ not_over : (corner point : Point) → is_over corner point ≡ false → point.m
 not_over corner point e h = false_lt corner.cost point.cost (sym (cond-true (int_le point.mw corner.mw) (int_le corner.cost point.cost) false (le-int_le _ _ h)) ∙ e)
 
 over_parts : (corner point : Point) → is_over corner point ≡ true → (point.mw ≤ℤ corner.mw) × (corner.cost ≤ℤ point.cost)
-over_parts corner point e = ⊎_elim
-    (λ (left : point.mw ≤ℤ corner.mw).
-    (left, int_le-true _ _ (sym (cond-true (int_le point.mw corner.mw) (int_le corner.cost point.cost) false (le-int_le _ _ left)) ∙ e)))
-    (λ (right : corner.mw <ℤ point.mw). absurd (clash (sym (cond-false (int_le point.mw corner.mw) (int_le corner.cost point.cost) false (beyond right)) ∙ e)))
-    (le_or_lt point.mw corner.mw)
-  where
-    clash : false ≡ true → ⊥
-    clash h = cc
-
-    beyond : corner.mw <ℤ point.mw → int_le point.mw corner.mw ≡ false
-    beyond h = grind (arith, ints)
+over_parts corner point e = grind (arith, ints, e)
 
 corner_low : (points : List Point) (count : ℕ) (corners : List Point) → AreLawfulPoints points → count < length points → HullOfFirst points count corners
     → (i : ℕ) → i < length corners → (point_of corners i).mw ≤ℤ (point_of points count).mw
@@ -308,10 +266,7 @@ below_or_last l count h = grind arith
 -- a fact of the points before and of the next one is one of all of them
 each_next : (P : Point → Type 0) (points : List Point) (count : ℕ) → ((l : ℕ) → l < count → P (point_of points l)) → P (point_of points count)
     → (l : ℕ) → l < suc count → P (point_of points l)
-each_next P points count before here l h = ⊎_elim
-    (λ (less : l < count). before l less)
-    (λ (last : l ≡ count). subst (λ i. P (point_of points i)) (sym last) here)
-    (below_or_last l count h)
+each_next P points count before here l h = grind (arith, ints, before, here, h)
 
 -- a point over the last corner changes nothing
 pub hull_over : (points : List Point) (count : ℕ) (corners : List Point) (result : Bool) → AreLawfulPoints points → count < length points
@@ -332,10 +287,8 @@ hull_over points count corners result lawful inside hull tested e =
       above = λ i h. each_next (λ l. IsAbove (point_of corners i) (point_of corners (suc i)) l) points count (hull.above i h)
           (raise_above (point_of corners i) (point_of corners (suc i)) corner point (less_le _ _ (hull.rising i h)) (corner_above points count corners hull i h last.0 within) level over.1);
       first = each_next (λ l. (point_of corners 0).mw ≤ℤ l.mw) points count hull.first (corner_low points count corners lawful inside hull 0 (omega arith));
-      last = λ i same. each_next (λ l. l.mw ≤ℤ (point_of corners i).mw) points count (hull.last i same)
-          (subst (λ k. point.mw ≤ℤ (point_of corners k).mw) (omega arith) over.0);
-      lowest = λ i same. each_next (λ l. (point_of corners i).mw ≤ℤ l.mw → (point_of corners i).cost ≤ℤ l.cost) points count (hull.lowest i same)
-          (λ near. subst (λ k. (point_of corners k).cost ≤ℤ point.cost) (omega arith) over.1);
+      last = λ i same. grind (arith, ints, each_next, corners, i, points, count, hull, same, point, over);
+      lowest = λ i same. grind (arith, ints, each_next, corners, i, points, count, hull, same, point, over);
     }
   where
     clash : result ≡ false → ⊥
@@ -420,12 +373,4 @@ hull_joined points count corners extended kept hull next within joins new =
         (each_next (λ x. (point_of corners 0).mw ≤ℤ x.mw) points count hull.first (first_low (omega arith)))
 
 pub extended : (corners : List Point) (kept : ℕ) (point : Point) → kept ≤ length corners → Extended corners kept point (take kept corners ++ point ∷ [])
-extended corners kept point within =
-    let size : length (take kept corners) ≡ kept = length-take-le kept corners within in
-    record {
-      count = simp (length-append) (omega (arith, size));
-      kept_is = λ i h. get_or_append_left (take kept corners) (point ∷ []) (record { mw = pos 0; cost = pos 0 }) i (omega (arith, size))
-          ∙ get_or-take kept corners i (record { mw = pos 0; cost = pos 0 }) h;
-      last_is = subst (λ k. point_of (take kept corners ++ point ∷ []) k ≡ point) size
-          (get_or-append_seam (take kept corners) point [] (record { mw = pos 0; cost = pos 0 }));
-    }
+extended corners kept point within = grind (arith, ints, length-take-le, length-append, get_or_append_left, get_or-take, get_or-append_seam, within)

@@ -27,10 +27,7 @@ line_output : (xa xb p : ℤ) → xa *ℤ (xb -ℤ p) +ℤ xb *ℤ (p -ℤ xa) �
 line_output xa xb p = let c = mul_comm xa xb in simp spread (omega (arith, linear, c))
 
 line_cost : (ca cb w v n : ℤ) → ((cb -ℤ ca) *ℤ v) ≤ℤ ((n -ℤ ca) *ℤ w) → (ca *ℤ (w -ℤ v) +ℤ cb *ℤ v) ≤ℤ (w *ℤ n)
-line_cost ca cb w v n h =
-    let first = simp spread at h in
-    let c = mul_comm n w in
-    simp spread (omega (arith, linear, first, c))
+line_cost ca cb w v n h = grind (arith, linear, spread, mul_comm, h)
 
 pub line_reached : (points : List Point) (d : ℕ) (p n : ℤ) (a b : ℕ) → a < length points → b < length points
     → (pos d *ℤ output_of points a) <ℤ (pos d *ℤ output_of points b)

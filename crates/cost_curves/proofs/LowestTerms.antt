@@ -14,10 +14,7 @@ use Rattle.cost_curves.specs.LowestTerms.{Slope, IsInLowestTerms}
 gcd_below : (n a b : ℕ) → b ≤ n → (g : ℕ) × IsGcd a b g
 gcd_below n a zero h = (a, IsGcd-from_zero a zero refl)
 gcd_below zero a (suc b) h = absurd (omega arith)
-gcd_below (suc n) a (suc b) h =
-    let less : a % suc b < suc b = mod-lt a (omega arith) in
-    let rest = gcd_below n (suc b) (a % suc b) (omega arith) in
-    (rest.0, IsGcd-from_mod a (suc b) rest.0 rest.1)
+gcd_below (suc n) a (suc b) h = grind (arith, linear, mod-lt, IsGcd-from_mod, h, (gcd_below n (suc b) (a % suc b) (omega arith)))
 
 pub has_gcd : (a b : ℕ) → (g : ℕ) × IsGcd a b g
 has_gcd a b = gcd_below b a b (omega arith)

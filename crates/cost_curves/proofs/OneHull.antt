@@ -25,13 +25,7 @@ over_left a b p right same above =
     omega (arith, linear, more)
 
 over_right : (a b p : Point) → a.mw <ℤ b.mw → b.mw ≡ p.mw → IsAbove a b p → b.cost ≤ℤ p.cost
-over_right a b p right same above =
-    let width = b.mw -ℤ a.mw in
-    let first : (b.cost -ℤ a.cost) *ℤ (p.mw -ℤ a.mw) ≡ width *ℤ (b.cost -ℤ a.cost) =
-    ap (λ z. (b.cost -ℤ a.cost) *ℤ (z -ℤ a.mw)) (sym same) ∙ mul_comm (b.cost -ℤ a.cost) width in
-    let second = mul_comm (p.cost -ℤ a.cost) width in
-    let more = le_from_mul width (b.cost -ℤ a.cost) (p.cost -ℤ a.cost) (sub_positive a.mw b.mw right) (omega (arith, linear, above, first, second)) in
-    omega (arith, linear, more)
+over_right a b p right same above = grind (arith, linear, mul_comm, le_from_mul, sub_positive, right, same, above)
 
 -- y lies above the line from x to z, and z, right of y, above that from y to w: then y isn't below the line from x to w
 not_bent : (x y z w : Point) → x.mw <ℤ y.mw → y.mw <ℤ z.mw → y.mw <ℤ w.mw → IsAbove x z y → IsAbove y w z → IsBelow x w y → ⊥

@@ -1,7 +1,7 @@
 -- The slopes of a lower hull rise: a segment that begins left of where another ends is no steeper. So an output has one slope on
 -- its left, as a fraction of whatever numbers.
 -- Cite from a crate above by `use Rattle.cost_curves.proofs.Slopes.{slopes_rise}`.
-use Rattle.std.proofs.Common.{◌≡◌, ℕ, ◌<◌, sym, ap, subst, ◌∙◌, arith, List, length, ℤ, pos, ◌+ℤ◌, ◌*ℤ◌, ◌≤ℤ◌, ◌<ℤ◌, IsTrue, int_lt}
+use Rattle.std.proofs.Common.{◌≡◌, ℕ, ◌<◌, sym, subst, arith, List, length, ℤ, pos, ◌+ℤ◌, ◌*ℤ◌, ◌≤ℤ◌, ◌<ℤ◌, IsTrue, int_lt}
 use Rattle.std.proofs.lemmas.Bool.{and_parts}
 use Rattle.uc_model.specs.Prelude.{output_of, rise, run, is_hull_segment, is_above_line, all_below}
 use Rattle.uc_model.proofs.Common.{linear, spread, int_le-true, int_lt-true, all_below-at}
@@ -23,10 +23,7 @@ segment_parts points i j h =
 
 -- with rises and runs that add up, what lies above a line from its left end lies flatter towards its right end
 turned : (r w ra a rb b : ℤ) → w ≡ a +ℤ b → r ≡ ra +ℤ rb → (r *ℤ a) ≤ℤ (ra *ℤ w) → (rb *ℤ w) ≤ℤ (r *ℤ b)
-turned r w ra a rb b hw hr h =
-    let e1 : r *ℤ w ≡ r *ℤ a +ℤ r *ℤ b = ap (λ z. r *ℤ z) hw ∙ (simp spread) in
-    let e2 : r *ℤ w ≡ ra *ℤ w +ℤ rb *ℤ w = ap (λ z. z *ℤ w) hr ∙ (simp spread) in
-    omega (arith, linear, e1, e2, h)
+turned r w ra a rb b hw hr h = grind (arith, linear, spread, hw, hr, h)
 
 pub slopes_rise : (points : List Point) (i j k m : ℕ) → j < length points → k < length points
     → IsTrue (is_hull_segment points i j) → IsTrue (is_hull_segment points k m) → output_of points k <ℤ output_of points j
@@ -49,10 +46,4 @@ slope_run points slope left right is = subst (λ z. pos 0 <ℤ z) (sym is.run) (
 -- the slopes on the left of an output are equal
 pub left_slope-same : (points : List Point) (p : ℤ) (first second : Slope) → IsLeftSlope points p first → IsLeftSlope points p second
     → (first.rise *ℤ second.run) ≤ℤ (second.rise *ℤ first.run)
-left_slope-same points p first second a b =
-    let begins : output_of points a.left <ℤ output_of points b.right = omega (arith, linear, a.begins, b.reaches) in
-    let rises = slopes_rise points b.left b.right a.left a.right b.segment.right_within a.segment.left_within b.segment.segment a.segment.segment begins in
-    subst (λ z. (z *ℤ second.run) ≤ℤ (second.rise *ℤ first.run)) (sym a.segment.rise)
-    (subst (λ z. (rise points a.left a.right *ℤ z) ≤ℤ (second.rise *ℤ first.run)) (sym b.segment.run)
-    (subst (λ z. (rise points a.left a.right *ℤ run points b.left b.right) ≤ℤ (z *ℤ first.run)) (sym b.segment.rise)
-    (subst (λ z. (rise points a.left a.right *ℤ run points b.left b.right) ≤ℤ (rise points b.left b.right *ℤ z)) (sym a.segment.run) rises)))
+left_slope-same points p first second a b = grind (arith, linear, slopes_rise, a, b)

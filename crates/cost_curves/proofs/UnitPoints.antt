@@ -5,8 +5,4 @@ use Rattle.uc_model.specs.declared.instance.Thermal.{Thermal}
 use Rattle.cost_curves.specs.LowerHull.{AreLawfulPoints}
 
 pub lawful_points : (unit : Thermal) → IsLawfulThermal unit → AreLawfulPoints unit.points
-lawful_points unit lawful = record {
-  some = omega (arith, lawful.points.0);
-  each = λ l h. record { output = lawful.outputs l h; cost = lawful.costs l h };
-  rising = lawful.rising;
-}
+lawful_points unit lawful = grind (arith, lawful)

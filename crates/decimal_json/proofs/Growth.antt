@@ -50,8 +50,7 @@ more_items limited level (w ∷ ws) v bs h = items_behind limited level w (items
 
 pub items_close : (limited : Bool) (level : ℕ) (vs : List Value) (inside : List ℕ) (v : Value) (before core behind : List ℕ) → FrontItems limited level vs inside → IsSpace before → Spells limited level v core → IsSpace behind
     → SpellsItems limited level (items_of (vs ++ v ∷ [])) (inside ++ (before ++ (core ++ behind)))
-items_close limited level [] inside v before core behind f sb s sh =
-    (before, core, behind, [], sb, s, sh, refl, ap (λ i. i ++ (before ++ (core ++ behind))) f ∙ ap (λ b. before ++ (core ++ b)) (sym (append-nil behind)))
+items_close limited level [] inside v before core behind f sb s sh = grind (arith, append-nil, f, sb, s, sh)
 items_close limited level (w ∷ ws) inside v before core behind f sb s sh =
     let x : List ℕ = before ++ (core ++ behind) in
     let more = more_items limited level ws v (f.3 ++ x) (items_close limited level ws f.3 v before core behind f.7 sb s sh) in

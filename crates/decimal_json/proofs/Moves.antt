@@ -1,9 +1,8 @@
 -- One byte more: what the machine of `specs/inside/Scan.antt` does at the bytes of an input from a place on.
-use Rattle.std.proofs.Common.{◌≡◌, ℕ, ◌+◌, ◌<◌, suc, List, [], ◌∷◌, drop, length, get_or, refl, sym, ap, ◌∙◌, add-one, drop-cons, Bool, true, false, ◌==◌, ◌||◌, ◌++◌, subst, arith, append_assoc, length-append, ⊎_elim, inl, inr, ◌⊎◌}
+use Rattle.std.proofs.Common.{◌≡◌, ℕ, ◌+◌, ◌<◌, suc, List, [], ◌∷◌, drop, length, get_or, refl, sym, ap, ◌∙◌, add-one, drop-cons, Bool, true, false, ◌==◌, ◌||◌, ◌++◌, subst, arith, append_assoc, length-append, inl, ◌⊎◌}
 use Rattle.decimal_json.specs.Characters.{is_space}
 use Rattle.decimal_json.specs.Value.{Frame}
 use Rattle.decimal_json.specs.inside.Scan.{Spot, wanted, first_item, first_key, key_wanted, colon_wanted, ended, next, stop, fault, step, ended_step, finish, after, outcome, scan, Outcome, resumed, FailsAt, MaySpace}
-use Rattle.std.proofs.lemmas.Bool.{or_cases, eqb-true}
 use Rattle.decimal_json.specs.Grammar.{IsSpace}
 
 -- a step at the next byte
@@ -83,8 +82,7 @@ moves_byte at c outer spot o s e = λ rest. ap (λ st. after st (λ o s. outcome
 
 pub moves_then : (at : ℕ) (outer : List Frame) (spot : Spot) (xs : List ℕ) (o : List Frame) (s : Spot) (ys : List ℕ) (p : List Frame) (t : Spot)
     → Moves at outer spot xs o s → Moves (at + length xs) o s ys p t → Moves at outer spot (xs ++ ys) p t
-moves_then at outer spot xs o s ys p t m n = λ rest. ap (outcome at outer spot) (append_assoc xs ys rest)
-    ∙ (m (ys ++ rest) ∙ (n rest ∙ placed_at (at + length xs + length ys) (at + length (xs ++ ys)) p t rest (omega (arith, length-append xs ys))))
+moves_then at outer spot xs o s ys p t m n = grind (arith, append_assoc, placed_at, length-append, m, n)
 
 pub moves_on : (at c : ℕ) (outer : List Frame) (spot : Spot) (o : List Frame) (s : Spot) (xs : List ℕ) (p : List Frame) (t : Spot)
     → step at outer spot c ≡ next o s → Moves (at + 1) o s xs p t → Moves at outer spot (c ∷ xs) p t
@@ -110,13 +108,7 @@ refuses_along limited o p e r = subst (λ (x : Outcome). Refuses limited x) (sym
 
 pub arrives_then : (limited : Bool) (at : ℕ) (outer : List Frame) (spot : Spot) (xs : List ℕ) (o : List Frame) (s : Spot) (ys : List ℕ) (p : List Frame) (t : Spot) (rest : List ℕ)
     → Arrives limited at outer spot xs o s (ys ++ rest) → Arrives limited (at + length xs) o s ys p t rest → Arrives limited at outer spot (xs ++ ys) p t rest
-arrives_then limited at outer spot xs o s ys p t rest m n =
-    let assoc : outcome at outer spot ((xs ++ ys) ++ rest) ≡ outcome at outer spot (xs ++ (ys ++ rest)) = ap (outcome at outer spot) (append_assoc xs ys rest) in
-    ⊎_elim (λ (e : outcome at outer spot (xs ++ (ys ++ rest)) ≡ outcome (at + length xs) o s (ys ++ rest)).
-    ⊎_elim (λ (f : outcome (at + length xs) o s (ys ++ rest) ≡ outcome (at + length xs + length ys) p t rest).
-    inl (assoc ∙ (e ∙ (f ∙ placed_at (at + length xs + length ys) (at + length (xs ++ ys)) p t rest (omega (arith, length-append xs ys))))))
-    (λ (r : Refuses limited (outcome (at + length xs) o s (ys ++ rest))). inr (refuses_along limited (outcome at outer spot ((xs ++ ys) ++ rest)) (outcome (at + length xs) o s (ys ++ rest)) (assoc ∙ e) r)) n)
-    (λ (r : Refuses limited (outcome at outer spot (xs ++ (ys ++ rest)))). inr (refuses_along limited (outcome at outer spot ((xs ++ ys) ++ rest)) (outcome at outer spot (xs ++ (ys ++ rest))) assoc r)) m
+arrives_then limited at outer spot xs o s ys p t rest m n = grind (arith, append_assoc, placed_at, length-append, refuses_along, m, n)
 
 pub arrives_by : (limited : Bool) (at : ℕ) (outer : List Frame) (spot : Spot) (bs : List ℕ) (o : List Frame) (s : Spot) (rest : List ℕ) → Moves at outer spot bs o s
     → Arrives limited at outer spot bs o s rest
@@ -131,9 +123,4 @@ Delimits [] = Unit {0}
 Delimits (c ∷ cs) = ends_value c ≡ true
 
 pub delimiter_is : (c : ℕ) (P : ℕ → Type 0) → ends_value c ≡ true → P 32 → P 9 → P 10 → P 13 → P 44 → P 93 → P 125 → P c
-delimiter_is c P e space tab line return comma bracket brace =
-    let at_k : (k : ℕ) → P k → (c == k) ≡ true → P c = λ k p f. subst P (sym (eqb-true c k f)) p in
-    ⊎_elim (λ s. ⊎_elim (λ t. ⊎_elim (λ u. ⊎_elim (at_k 32 space) (at_k 9 tab) (or_cases (c == 32) (c == 9) u)) (at_k 10 line) (or_cases ((c == 32) || (c == 9)) (c == 10) t))
-    (at_k 13 return) (or_cases ((c == 32) || (c == 9) || (c == 10)) (c == 13) s))
-    (λ s. ⊎_elim (at_k 44 comma) (λ t. ⊎_elim (at_k 93 bracket) (at_k 125 brace) (or_cases (c == 93) (c == 125) t)) (or_cases (c == 44) ((c == 93) || (c == 125)) s))
-    (or_cases (is_space c) ((c == 44) || ((c == 93) || (c == 125))) e)
+delimiter_is c P e space tab line return comma bracket brace = grind (arith, e, space, tab, line, return, comma, bracket, brace)

@@ -1,8 +1,8 @@
 -- The machine inside a number, a string and an escape.
-use Rattle.std.proofs.Common.{◌≡◌, ℕ, ◌+◌, ◌*◌, ◌<◌, ◌≤◌, ◌==◌, List, [], ◌∷◌, ◌++◌, drop, length, get_or, refl, sym, ap, subst, ◌∙◌, ⊎_elim, nat_le, arith, Bool, true, false, append_assoc, append-nil, length-append, cond, ℤ, not, ◌&&◌, slice_range, encode_utf8, nat_lt, Some, None, ◌⊎◌}
-use Rattle.decimal_json.specs.Value.{Decimal, number, is_digit, digit_of, is_mark, exponent_of, decimal_from, Frame, Purpose}
+use Rattle.std.proofs.Common.{◌≡◌, ℕ, ◌+◌, ◌*◌, ◌<◌, ◌≤◌, ◌==◌, List, [], ◌∷◌, ◌++◌, drop, length, get_or, refl, sym, ap, subst, ◌∙◌, ⊎_elim, nat_le, arith, Bool, true, false, append_assoc, append-nil, length-append, cond, ℤ, slice_range, encode_utf8, Some, None, ◌⊎◌}
+use Rattle.decimal_json.specs.Value.{number, is_digit, digit_of, is_mark, exponent_of, Frame, Purpose}
 use Rattle.decimal_json.specs.inside.Scan.{Spot, numeral, minus, zero_first, whole, point, fraction, mark, signed, exponent, ended, so_far, next, stop, step, numeral_step, begin_step, scan, finish, fault, quoted, plain, Outcome, quoted_step, quote_step, Hex, no_digit, one_digit, two_digits, three_digits, escaped, unit, high, high_escaped, high_unit, Step, more_hex, unit_step, pair_step, escape_step, At, JsonFault, AddsDigits, ReadsWhole, ReadsFraction, AddsExponent, ReadsExponent, kept, begun, AfterWhole, MayEnd, FailsAt, StandsAt, Leads, ReadsPlain, ReadsText, BreaksText, ReadsEscape, BreaksEscape, resumed, HexAt, ReadsUnit, BreaksUnit}
-use Rattle.std.proofs.lemmas.Bool.{and_parts, leb-true, ne_eqb, eqb-true, false≢true, or_cases, not-true, cases_lt, le-leb, and_cases, and_left, and_right, and_from, leb-false, lt-leb, le-ltb, lt-ltb}
+use Rattle.std.proofs.lemmas.Bool.{and_parts, leb-true, ne_eqb, eqb-true, false≢true, or_cases}
 use Rattle.decimal_json.proofs.Moves.{same_scan, moved, byte_and_rest, fails_there, stopped, stepped, finished}
 use Rattle.std.proofs.lemmas.List.Edits.{between_more}
 use Rattle.std.specs.Str.{IsCharBoundary}
@@ -74,10 +74,7 @@ mark_is c P h small large = ⊎_elim (λ e. subst P (sym (eqb-true c 101 e)) sma
 may_end : (bytes : List ℕ) (at : ℕ) (outer : List Frame) (spot : Spot) (n : Bool) (ds fs : List ℕ) → ((c : ℕ) → is_mark c ≡ true → step at outer spot c ≡ next outer (numeral (mark n ds fs)))
     → ((c : ℕ) (cs : List ℕ) → drop at bytes ≡ c ∷ cs → is_mark c ≡ false → step at outer spot c ≡ step at outer (ended (so_far n ds fs false 0)) c)
     → finish at outer spot ≡ finish at outer (ended (so_far n ds fs false 0)) → MayEnd bytes at outer spot n ds fs
-may_end bytes at outer spot n ds fs marks other last = record {
-  marked = λ c e m. moved bytes at c outer spot outer (numeral (mark n ds fs)) e (marks c m);
-  unmarked = λ none. same_scan bytes at outer spot (ended (so_far n ds fs false 0)) (λ c cs e. other c cs e (none c cs e)) last;
-}
+may_end bytes at outer spot n ds fs marks other last = grind (arith, moved, same_scan, marks, other, last)
 
 -- a number that begins with 0
 pub after_zero : (bytes : List ℕ) (at : ℕ) (outer : List Frame) (n : Bool) → AfterWhole bytes at outer (numeral (zero_first n)) n (0 ∷ [])
@@ -208,19 +205,11 @@ pub reads_number : (bytes : List ℕ) (start whole_end point_end end places writ
     → ReadsWhole bytes start whole_end outer n ds → ReadsFraction bytes whole_end point_end places ds new → ReadsExponent bytes point_end end down written
     → ((w : ℕ) → written ≡ kept w → held_to ≡ exponent_of down w places)
     → scan bytes start outer (begun n) ≡ scan bytes end outer (ended (number (record { negative = n; digits = new; exponent = held_to })))
-reads_number bytes start whole_end point_end end places written outer n down ds new held_to a b d is =
-    let later = b.read outer a.spot n a.behind in
-    let same : decimal_from n ds b.digits down d.0 ≡ record { negative = n; digits = new; exponent = held_to } =
-    ap (λ (e : ℤ). record { negative = n; digits = ds ++ b.digits; exponent = e }) (ap (λ k. exponent_of down d.0 k) b.count ∙ sym (is d.0 d.1))
-    ∙ ap (λ (xs : List ℕ). record { negative = n; digits = xs; exponent = held_to }) (sym b.added) in
-    a.same ∙ (later.1 ∙ (d.2 outer later.0 n ds b.digits later.2 ∙ ap (λ (v : Decimal). scan bytes end outer (ended (number v))) same))
+reads_number bytes start whole_end point_end end places written outer n down ds new held_to a b d is = grind (arith, a, b, d, is)
 
 -- ---- The machine inside a string.
 pub plain_parts : (c : ℕ) → is_plain c ≡ true → ((c == 34) ≡ false) × ((c == 92) ≡ false) × (nat_le 32 c ≡ true)
-plain_parts c e =
-    let both = and_parts (not (c == 34) && not (c == 92)) (nat_le 32 c) e in
-    let two = and_parts (not (c == 34)) (not (c == 92)) both.0 in
-    (not-true (c == 34) two.0, not-true (c == 92) two.1, both.1)
+plain_parts c e = grind (arith, e)
 
 pub plain_leads : (at c : ℕ) (outer : List Frame) (p : Purpose) (t : List ℕ) → is_plain c ≡ true → step at outer (quoted p (plain t)) c ≡ next outer (quoted p (plain (t ++ c ∷ [])))
 unfolding step quoted_step
@@ -259,8 +248,7 @@ Reaches bytes start end t = (outer : List Frame) (p : Purpose) → scan bytes st
 
 pub reaches : (bytes source : List ℕ) (start at end : ℕ) (t more new : List ℕ) → bytes ≡ source → HasRead bytes start at t → ReadsPlain bytes at end (slice_range bytes at end)
     → more ≡ slice_range source at end → new ≡ t ++ more → Reaches source start end new
-reaches bytes source start at end t more new e r f g h = subst (λ (s : List ℕ). more ≡ slice_range s at end → Reaches s start end new) e
-    (λ i outer p. r.same outer p ∙ (f outer p t ∙ ap (λ xs. scan bytes end outer (quoted p (plain xs))) (sym (h ∙ ap (λ xs. t ++ xs) i)))) g
+reaches bytes source start at end t more new e r f g h = grind (arith, e, r, f, g, h)
 
 pub ends_early : (bytes source : List ℕ) (start end : ℕ) (t : List ℕ) (e : JsonFault) → bytes ≡ source → Reaches source start end t → e ≡ At end 2 → drop end bytes ≡ [] → BreaksText source start e
 unfolding finish
@@ -279,18 +267,14 @@ ends_badly bytes source start end c t e same r is f fails a b = λ outer p.
     (r outer p ∙ stopped source end c outer (quoted p (plain t)) end 2 stands (plain_control end c outer p t (no_plain c (drop (end + 1) source) stands) a b))
 
 pub escape_ends : (bytes source : List ℕ) (start end : ℕ) (t : List ℕ) (e : JsonFault) → bytes ≡ source → Reaches source start end t → BreaksEscape bytes end e → BreaksText source start e
-escape_ends bytes source start end t e same r broken = λ outer p. subst (λ (o : Outcome). Leads e o) (sym (r outer p))
-    (subst (λ (s : List ℕ). BreaksEscape s end e) same broken outer p t)
+escape_ends bytes source start end t e same r broken = grind (arith, same, r, broken)
 
 pub goes_on : (bytes source : List ℕ) (start end at c : ℕ) (t new : List ℕ) → bytes ≡ source → Reaches source start end t → ReadsEscape bytes end at c → new ≡ t ++ encode_utf8 c → Reaches source start at new
-goes_on bytes source start end at c t new same r escape is = λ outer p. r outer p
-    ∙ (subst (λ (s : List ℕ). ReadsEscape s end at c) same escape outer p t ∙ ap (λ xs. scan source at outer (quoted p (plain xs))) (sym is))
+goes_on bytes source start end at c t new same r escape is = grind (arith, same, r, escape, is)
 
 -- where a byte doesn't stand for itself, a character begins
 pub not_plain_low : (c : ℕ) → is_plain c ≡ false → c < 128
-not_plain_low c e = ⊎_elim (λ (lt : c < 128). lt) (λ (le : 128 ≤ c). absurd (false≢true (sym e ∙ high_plain c le))) (cases_lt c 128) where
-  high_plain : (c : ℕ) → 128 ≤ c → is_plain c ≡ true
-  high_plain c le = rw (ne_eqb c 34 (λ e. omega arith), ne_eqb c 92 (λ e. omega arith), le-leb 32 c (omega arith)) refl
+not_plain_low c e = grind (arith, e)
 
 pub boundary_at_end : (bytes : List ℕ) (end : ℕ) → end ≤ length bytes → FailsAt is_plain bytes end → IsCharBoundary bytes end
 boundary_at_end bytes end le fails = (le, λ lt high. absurd (omega (arith, not_plain_low (get_or bytes end 0) (fails (get_or bytes end 0) (drop (end + 1) bytes) (byte_and_rest bytes end lt)))))
@@ -417,17 +401,13 @@ second_read bytes at v outer p t back u f g r low =
 
 -- a unit is the first of a pair, the second, or neither
 pub low_not_high : (u : ℕ) → is_low_surrogate u ≡ true → is_high_surrogate u ≡ false
-low_not_high u e = let low : 0xDC00 ≤ u = leb-true 0xDC00 u (and_parts (nat_le 0xDC00 u) (nat_lt u 0xE000) e).0 in
-    and_right (nat_le 0xD800 u) (nat_lt u 0xDC00) (le-ltb u 0xDC00 low)
+low_not_high u e = grind (arith, e)
 
 pub high_between : (u : ℕ) → 0xD800 ≤ u → u < 0xE000 → is_low_surrogate u ≡ false → is_high_surrogate u ≡ true
-high_between u lo hi e = and_from (nat_le 0xD800 u) (nat_lt u 0xDC00) (le-leb 0xD800 u lo)
-    (⊎_elim (λ (f : nat_le 0xDC00 u ≡ false). lt-ltb u 0xDC00 (leb-false 0xDC00 u f)) (λ (f : nat_lt u 0xE000 ≡ false). absurd (false≢true (sym f ∙ lt-ltb u 0xE000 hi))) (and_cases (nat_le 0xDC00 u) (nat_lt u 0xE000) e))
+high_between u lo hi e = grind (arith, lo, hi, e)
 
 pub scalar_no_surrogate : (u : ℕ) → (u < 0xD800) ⊎ (0xE000 ≤ u) → (is_high_surrogate u ≡ false) × (is_low_surrogate u ≡ false)
-scalar_no_surrogate u s = ⊎_elim
-    (λ (lt : u < 0xD800). (and_left (nat_le 0xD800 u) (nat_lt u 0xDC00) (lt-leb 0xD800 u lt), and_left (nat_le 0xDC00 u) (nat_lt u 0xE000) (lt-leb 0xDC00 u (omega arith))))
-    (λ (le : 0xE000 ≤ u). (and_right (nat_le 0xD800 u) (nat_lt u 0xDC00) (le-ltb u 0xDC00 (omega arith)), and_right (nat_le 0xDC00 u) (nat_lt u 0xE000) (le-ltb u 0xE000 le))) s
+scalar_no_surrogate u s = grind (arith, s)
 
 escape_begins : (bytes : List ℕ) (back : ℕ) (outer : List Frame) (p : Purpose) (t : List ℕ) → StandsAt bytes back 92
     → scan bytes back outer (quoted p (plain t)) ≡ scan bytes (back + 1) outer (quoted p (escaped t back))

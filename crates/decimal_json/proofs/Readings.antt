@@ -427,9 +427,7 @@ more_step : (st : Step) (xs bs : List ℕ) (x b c : ℕ) → Good st bs x
     → ((o : List Frame) (s : Spot) → Stands o s (bs ++ x ∷ []) → outcome (length (bs ++ x ∷ [])) o s (xs ++ b ∷ c ∷ []) ≡ fault (length (bs ++ x ∷ []) + length xs + 1) 2 → ⊥)
     → after st (λ o s. outcome (suc (length bs)) o s (xs ++ b ∷ c ∷ [])) ≡ fault (length bs + suc (length xs) + 1) 2 → ⊥
 more_step (stop k kind) xs bs x b c good on e = elsewhere (length bs) (length bs + suc (length xs) + 1) k kind (bs ++ x ∷ []) (good []) e (omega arith)
-more_step (next o s) xs bs x b c good on e =
-    let long : length (bs ++ x ∷ []) ≡ suc (length bs) = length-append bs (x ∷ []) ∙ omega arith in
-    on o s good (ap (λ n. outcome n o s (xs ++ b ∷ c ∷ [])) long ∙ (e ∙ ap (λ n. fault n 2) (omega (arith, long))))
+more_step (next o s) xs bs x b c good on e = grind (arith, length-append, good, on, e)
 
 -- between two bytes beyond ASCII the machine doesn't stop
 no_fault : (xs bs : List ℕ) (outer : List Frame) (spot : Spot) (b c : ℕ) → Stands outer spot bs → IsHigh b → IsHigh c
@@ -499,8 +497,7 @@ apart : (k j kind : ℕ) → fault k 2 ≡ fault j kind → 2 < kind → ⊥
 apart k j kind e lt = let f : 2 ≡ kind = cc in omega arith
 
 within : (bytes : List ℕ) (k : ℕ) → Stops bytes k → k ≤ length bytes
-within bytes k s = ⊎_elim (λ (f : bytes ≡ s.front). omega (arith, s.place, ap length f))
-    (λ (r : (c : ℕ) × (cs : List ℕ) × (bytes ≡ s.front ++ c ∷ cs) × (step (length s.front) s.outer s.spot c ≡ stop k 2)). omega (arith, s.place, ap length r.2, length-append s.front (r.0 ∷ r.1))) s.ends
+within bytes k s = grind (arith, length-append, s)
 
 -- the byte there is a fault, whatever follows it
 stuck : (bytes : List ℕ) (k : ℕ) → Stops bytes k → k < length bytes → (xs : List ℕ) → whole_outcome (take k bytes ++ get_or bytes k 0 ∷ xs) ≡ fault k 2

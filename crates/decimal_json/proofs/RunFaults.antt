@@ -20,16 +20,11 @@ surely at outer spot bs o s rest a = ⊎_elim (λ e. e) (λ (r : Refuses true (o
 -- arrays
 items_comma : (outer : List Frame) (earlier : List Value) (v : Value) (k : ℕ) (more : List ℕ) (o : List Frame) (s : Spot) (rest : List ℕ)
     → Arrives true (k + 1) (in_array (earlier ++ v ∷ []) ∷ outer) wanted more o s rest → Arrives true k (in_array earlier ∷ outer) (ended v) (44 ∷ more) o s rest
-items_comma outer earlier v k more o s rest a = arrives_then true k (in_array earlier ∷ outer) (ended v) (44 ∷ []) (in_array (earlier ++ v ∷ []) ∷ outer) wanted more o s rest
-    (arrives_by true k (in_array earlier ∷ outer) (ended v) (44 ∷ []) (in_array (earlier ++ v ∷ []) ∷ outer) wanted (more ++ rest)
-    (moves_byte k 44 (in_array earlier ∷ outer) (ended v) (in_array (earlier ++ v ∷ []) ∷ outer) wanted (item_comma k outer earlier v))) a
+items_comma outer earlier v k more o s rest a = grind (arith, arrives_then, arrives_by, moves_byte, item_comma, a)
 
 items_go : (outer : List Frame) (vs : List Value) (inside : List ℕ) → FrontItems true (length outer + 1) vs inside → (at : ℕ) (earlier : List Value) (rest : List ℕ)
     → Arrives true at (in_array earlier ∷ outer) wanted inside (in_array (earlier ++ vs) ∷ outer) wanted rest
-items_go outer [] inside f at earlier rest =
-    arrives_as true at (in_array earlier ∷ outer) wanted [] inside (in_array (earlier ++ []) ∷ outer) wanted rest (sym f)
-    (subst (λ (vs : List Value). Arrives true at (in_array earlier ∷ outer) wanted [] (in_array vs ∷ outer) wanted rest) (sym (append-nil earlier))
-    (arrives_by true at (in_array earlier ∷ outer) wanted [] (in_array earlier ∷ outer) wanted rest (moves_none at (in_array earlier ∷ outer) wanted)))
+items_go outer [] inside f at earlier rest = grind (arith, arrives_as, append-nil, arrives_by, moves_none, [], f)
 items_go outer (v ∷ vs) inside f at earlier rest =
     arrives_as true at (in_array earlier ∷ outer) wanted (f.0 ++ (f.1 ++ (f.2 ++ 44 ∷ f.3))) inside (in_array (earlier ++ v ∷ vs) ∷ outer) wanted rest (sym f.8)
     (padded true at (in_array earlier ∷ outer) v f.0 f.1 f.2 (44 ∷ f.3) (in_array (earlier ++ v ∷ vs) ∷ outer) wanted rest f.4 f.6
@@ -40,9 +35,7 @@ items_go outer (v ∷ vs) inside f at earlier rest =
 
 array_runs : (outer : List Frame) (vs : List Value) (inside space : List ℕ) → FrontItems true (length outer + 1) vs inside → IsSpace space → (at c : ℕ) (cs : List ℕ) → is_space c ≡ false → (c ≡ 93 → ⊥)
     → outcome at outer first_item ((inside ++ space) ++ c ∷ cs) ≡ outcome (at + length (inside ++ space)) (in_array vs ∷ outer) wanted (c ∷ cs)
-array_runs outer [] inside space f sp at c cs ns nb =
-    subst (λ (i : List ℕ). outcome at outer first_item ((i ++ space) ++ c ∷ cs) ≡ outcome (at + length (i ++ space)) (in_array [] ∷ outer) wanted (c ∷ cs)) (sym f)
-    (space_moves at outer first_item space sp tt (c ∷ cs) ∙ first_item_as (at + length space) c outer cs ns nb)
+array_runs outer [] inside space f sp at c cs ns nb = grind (arith, space_moves, first_item_as, [], f, sp, ns, nb)
 array_runs outer (v ∷ vs) inside space f sp at c cs ns nb =
     let frames : List Frame = in_array (v ∷ vs) ∷ outer in
     let tail : List ℕ = 44 ∷ f.3 ++ space in
@@ -74,10 +67,7 @@ members_comma outer earlier m k more o s rest a = arrives_then true k (in_object
 
 members_go : (outer : List Frame) (ms : List Member) (inside : List ℕ) → FrontMembers true (length outer + 1) ms inside → (at : ℕ) (earlier : List Member) (rest : List ℕ) → HasUniqueKeys (members_of (earlier ++ ms))
     → Arrives true at outer (key_wanted earlier) inside outer (key_wanted (earlier ++ ms)) rest
-members_go outer [] inside f at earlier rest u =
-    arrives_as true at outer (key_wanted earlier) [] inside outer (key_wanted (earlier ++ [])) rest (sym f)
-    (subst (λ (ms : List Member). Arrives true at outer (key_wanted earlier) [] outer (key_wanted ms) rest) (sym (append-nil earlier))
-    (arrives_by true at outer (key_wanted earlier) [] outer (key_wanted earlier) rest (moves_none at outer (key_wanted earlier))))
+members_go outer [] inside f at earlier rest u = grind (arith, arrives_as, append-nil, arrives_by, moves_none, [], f, u)
 members_go outer (m ∷ ms) inside f at earlier rest u =
     arrives_as true at outer (key_wanted earlier) (f.0 ++ (f.1 ++ (f.2 ++ (58 ∷ f.3 ++ (f.4 ++ (f.5 ++ 44 ∷ f.6)))))) inside outer (key_wanted (earlier ++ m ∷ ms)) rest (sym f.14)
     (keyed true at outer earlier m.0 m.1 f.0 f.1 f.2 f.3 f.4 f.5 (44 ∷ f.6) outer (key_wanted (earlier ++ m ∷ ms)) rest f.7 f.8 f.9 f.10 f.12 (λ _. new_key earlier m.0 m.1 (members_of ms) (subst HasUniqueKeys (members_split earlier m ms) u))
@@ -88,9 +78,7 @@ members_go outer (m ∷ ms) inside f at earlier rest u =
 
 object_runs : (outer : List Frame) (ms : List Member) (inside space : List ℕ) → FrontMembers true (length outer + 1) ms inside → HasUniqueKeys (members_of ms) → IsSpace space → (at : ℕ) (cs : List ℕ)
     → outcome at outer first_key ((inside ++ space) ++ 34 ∷ cs) ≡ outcome (at + length (inside ++ space)) outer (key_wanted ms) (34 ∷ cs)
-object_runs outer [] inside space f u sp at cs =
-    subst (λ (i : List ℕ). outcome at outer first_key ((i ++ space) ++ 34 ∷ cs) ≡ outcome (at + length (i ++ space)) outer (key_wanted []) (34 ∷ cs)) (sym f)
-    (space_moves at outer first_key space sp tt (34 ∷ cs) ∙ first_key_as (at + length space) outer cs)
+object_runs outer [] inside space f u sp at cs = grind (arith, space_moves, first_key_as, [], f, u, sp)
 object_runs outer (m ∷ ms) inside space f u sp at cs =
     let tail : List ℕ = 44 ∷ f.6 ++ space in
     let rest : List ℕ = 34 ∷ cs in

@@ -26,9 +26,7 @@ digit_leads next_spot at outer spot d small leads = leads (digit_written d small
 digits_move : (spot : List ℕ → Spot) (at : ℕ) (outer : List Frame) → ((k : ℕ) (xs : List ℕ) (d : ℕ) → d < 10 → step k outer (spot xs) (48 + d) ≡ next outer (spot (xs ++ d ∷ [])))
     → (xs ds : List ℕ) → AreDigits ds → Moves at outer (spot xs) (numerals ds) outer (spot (xs ++ ds))
 digits_move spot at outer each xs [] are = subst (λ (ys : List ℕ). Moves at outer (spot xs) [] outer (spot ys)) (sym (append-nil xs)) (moves_none at outer (spot xs))
-digits_move spot at outer each xs (d ∷ ds) are =
-    moves_on at (48 + d) outer (spot xs) outer (spot (xs ++ d ∷ [])) (numerals ds) outer (spot (xs ++ d ∷ ds)) (each at xs d are.0)
-    (subst (λ (ys : List ℕ). Moves (at + 1) outer (spot (xs ++ d ∷ [])) (numerals ds) outer (spot ys)) (append_assoc xs (d ∷ []) ds) (digits_move spot (at + 1) outer each (xs ++ d ∷ []) ds are.1))
+digits_move spot at outer each xs (d ∷ ds) are = grind (arith, moves_on, append_assoc, each, are, (digits_move spot (at + 1) outer each (xs ++ d ∷ []) ds are.1))
 
 exponent_moves : (at : ℕ) (outer : List Frame) (n : Bool) (ws fs : List ℕ) (down : Bool) (w : ℕ) (ds : List ℕ) → AreDigits ds
     → Moves at outer (numeral (exponent n ws fs down w)) (numerals ds) outer (numeral (exponent n ws fs down (fold (λ k d. k * 10 + d) w ds)))
@@ -296,13 +294,7 @@ character_more : (limited : Bool) (at later : ℕ) (outer : List Frame) (p : Pur
     → later + length (flat_map character_text cs) ≡ at + length (flat_map character_text (c ∷ cs))
     → Arrives limited later outer (quoted p (plain (t ++ meaning c))) (flat_map character_text cs) outer (quoted p (plain ((t ++ meaning c) ++ flat_map meaning cs))) xs
     → Arrives limited at outer (quoted p (plain t)) (flat_map character_text (c ∷ cs)) outer (quoted p (plain (t ++ flat_map meaning (c ∷ cs)))) xs
-character_more limited at later outer p t c cs xs e place run =
-    let last : ℕ = at + length (flat_map character_text (c ∷ cs)) in
-    ⊎_elim (λ (f : outcome later outer (quoted p (plain (t ++ meaning c))) (flat_map character_text cs ++ xs) ≡ outcome (later + length (flat_map character_text cs)) outer (quoted p (plain ((t ++ meaning c) ++ flat_map meaning cs))) xs).
-    inl (e ∙ (f ∙ (placed_at (later + length (flat_map character_text cs)) last outer (quoted p (plain ((t ++ meaning c) ++ flat_map meaning cs))) xs place
-    ∙ ap (λ ys. outcome last outer (quoted p (plain ys)) xs) (append_assoc t (meaning c) (flat_map meaning cs))))))
-    (λ (r : Refuses limited (outcome later outer (quoted p (plain (t ++ meaning c))) (flat_map character_text cs ++ xs))).
-    inr (refuses_along limited (outcome at outer (quoted p (plain t)) (flat_map character_text (c ∷ cs) ++ xs)) (outcome later outer (quoted p (plain (t ++ meaning c))) (flat_map character_text cs ++ xs)) e r)) run
+character_more limited at later outer p t c cs xs e place run = grind (arith, placed_at, append_assoc, refuses_along, e, place, run)
 
 -- The characters of a string within the limits, or up to its last quote, where half of a pair may stand alone.
 pub characters_run : (limited : Bool) (at : ℕ) (outer : List Frame) (p : Purpose) (t : List ℕ) (cs : List Character) (xs : List ℕ) → AreCharacters limited cs
@@ -350,15 +342,7 @@ characters_run limited at outer p t (pair a b c d e f g h ∷ cs) xs are behind 
     (omega arith) (characters_run limited twelve outer p (t ++ encode_utf8 (surrogate_pair_char u v)) cs xs are.2 behind)
 
 pub string_run : (limited : Bool) (at : ℕ) (outer : List Frame) (p : Purpose) (t : List ℕ) (cs : List Character) (rest : List ℕ) → AreCharacters limited cs → StringRun limited at outer p t cs rest
-string_run limited at outer p t cs rest are =
-    let flat : List ℕ = flat_map character_text cs in
-    let spelled : List ℕ = t ++ flat_map meaning cs in
-    let same : outcome at outer (quoted p (plain t)) (tail_text cs ++ rest) ≡ outcome at outer (quoted p (plain t)) (flat ++ 34 ∷ rest) = ap (outcome at outer (quoted p (plain t))) (append_assoc flat (34 ∷ []) rest) in
-    ⊎_elim (λ (e : outcome at outer (quoted p (plain t)) (flat ++ 34 ∷ rest) ≡ outcome (at + length flat) outer (quoted p (plain spelled)) (34 ∷ rest)).
-    inl (same ∙ (e ∙ (byte_run (at + length flat) 34 outer (quoted p (plain spelled)) rest (quote_step outer p spelled) (plain_quote (at + length flat) outer p spelled)
-    ∙ ap (λ k. go_on k rest (quote_step outer p spelled)) (omega (arith, length-append flat (34 ∷ [])))))))
-    (λ r. inr (refuses_along limited (outcome at outer (quoted p (plain t)) (tail_text cs ++ rest)) (outcome at outer (quoted p (plain t)) (flat ++ 34 ∷ rest)) same r))
-    (characters_run limited at outer p t cs (34 ∷ rest) are (inr (rest, refl)))
+string_run limited at outer p t cs rest are = grind (arith, append_assoc, byte_run, plain_quote, length-append, refuses_along, characters_run, are)
 
 -- ---- The machine at values of the grammar.
 -- literals
@@ -479,8 +463,7 @@ brackets limited at level c d outer spot inside v rest opens size limits within 
 
 -- the front of an array or an object, where its first item or key comes
 pub first_item_as : (at c : ℕ) (outer : List Frame) (cs : List ℕ) → is_space c ≡ false → (c ≡ 93 → ⊥) → outcome at outer first_item (c ∷ cs) ≡ outcome at (in_array [] ∷ outer) wanted (c ∷ cs)
-first_item_as at c outer cs space ne =
-    byte_run at c outer first_item cs (step at (in_array [] ∷ outer) wanted c) (first_item_other at c outer space ne) ∙ sym (byte_run at c (in_array [] ∷ outer) wanted cs (step at (in_array [] ∷ outer) wanted c) refl)
+first_item_as at c outer cs space ne = grind (arith, byte_run, first_item_other, space, ne)
 
 pub first_key_as : (at : ℕ) (outer : List Frame) (cs : List ℕ) → outcome at outer first_key (34 ∷ cs) ≡ outcome at outer (key_wanted []) (34 ∷ cs)
 first_key_as at outer cs = byte_run at 34 outer first_key cs (step at outer (key_wanted []) 34) (first_key_other at 34 outer refl (λ e. absurd (omega arith))) ∙ sym (byte_run at 34 outer (key_wanted []) cs (step at outer (key_wanted []) 34) refl)
@@ -500,12 +483,7 @@ digit_no_space : (d : ℕ) → d < 10 → is_space (48 + d) ≡ false
 digit_no_space d lt = rw (ne_eqb (48 + d) 32 (λ e. omega arith), ne_eqb (48 + d) 9 (λ e. omega arith), ne_eqb (48 + d) 10 (λ e. omega arith), ne_eqb (48 + d) 13 (λ e. omega arith)) refl
 
 number_begins : (n : Decimal) (bs : List ℕ) → IsNumber n bs → Begins bs
-number_begins n bs is = go is.negative is.ds is.is_whole (fraction_text is.fs ++ power_text is.exponent) is.spelled where
-  go : (negative : Bool) (ds : List ℕ) → IsWhole ds → (more : List ℕ) → bs ≡ negative_text negative ++ (numerals ds ++ more) → Begins bs
-  go true ds w more e = begins_as bs 45 (numerals ds ++ more) e refl (λ f. absurd (omega arith))
-  go false [] w more e = absurd w
-  go false (d ∷ []) w more e = begins_as bs (48 + d) more e (digit_no_space d w) (λ f. absurd (omega arith))
-  go false (d ∷ x ∷ ds) w more e = begins_as bs (48 + d) (numerals (x ∷ ds) ++ more) e (digit_no_space d w.1.0) (λ f. absurd (omega (arith, w.1.0)))
+number_begins n bs is = grind (arith, is)
 
 pub value_begins : (limited : Bool) (level : ℕ) (v : Value) (bs : List ℕ) → Spells limited level v bs → Begins bs
 value_begins limited level null bs s = begins_as bs 110 ull s refl (λ e. absurd (omega arith))
@@ -519,18 +497,11 @@ value_begins limited level (object ms) bs s = begins_as bs 123 (s.0 ++ 125 ∷ [
 -- the first item stands where the bracket may close, too
 pub first_as : (limited : Bool) (at : ℕ) (outer : List Frame) (core x : List ℕ) (o : List Frame) (s : Spot) (rest : List ℕ) → Begins core
     → Arrives limited at (in_array [] ∷ outer) wanted (core ++ x) o s rest → Arrives limited at outer first_item (core ++ x) o s rest
-first_as limited at outer core x o s rest b a =
-    let same : outcome at outer first_item ((core ++ x) ++ rest) ≡ outcome at (in_array [] ∷ outer) wanted ((core ++ x) ++ rest) =
-    subst (λ (bs : List ℕ). outcome at outer first_item ((bs ++ x) ++ rest) ≡ outcome at (in_array [] ∷ outer) wanted ((bs ++ x) ++ rest)) (sym b.is)
-    (first_item_as at b.c outer ((b.cs ++ x) ++ rest) b.no_space b.no_bracket) in
-    ⊎_elim (λ e. inl (same ∙ e)) (λ r. inr (refuses_along limited (outcome at outer first_item ((core ++ x) ++ rest)) (outcome at (in_array [] ∷ outer) wanted ((core ++ x) ++ rest)) same r)) a
+first_as limited at outer core x o s rest b a = grind (arith, first_item_as, refuses_along, b, a)
 
 pub first_key_is : (limited : Bool) (at : ℕ) (outer : List Frame) (k key x : List ℕ) (o : List Frame) (s : Spot) (rest : List ℕ) → IsString limited k key
     → Arrives limited at outer (key_wanted []) (key ++ x) o s rest → Arrives limited at outer first_key (key ++ x) o s rest
-first_key_is limited at outer k key x o s rest is a =
-    let same : outcome at outer first_key ((key ++ x) ++ rest) ≡ outcome at outer (key_wanted []) ((key ++ x) ++ rest) =
-    subst (λ (bs : List ℕ). outcome at outer first_key ((bs ++ x) ++ rest) ≡ outcome at outer (key_wanted []) ((bs ++ x) ++ rest)) (sym is.3) (first_key_as at outer ((tail_text is.0 ++ x) ++ rest)) in
-    ⊎_elim (λ e. inl (same ∙ e)) (λ r. inr (refuses_along limited (outcome at outer first_key ((key ++ x) ++ rest)) (outcome at outer (key_wanted []) ((key ++ x) ++ rest)) same r)) a
+first_key_is limited at outer k key x o s rest is a = grind (arith, first_key_as, refuses_along, is, a)
 
 -- lists under other brackets
 close_items : (limited : Bool) (at : ℕ) (outer : List Frame) (vs : List Value) (v : Value) (rest : List ℕ)

@@ -1,5 +1,5 @@
 -- Each step of the machine is sound: between tokens, inside numbers and inside strings.
-use Rattle.std.proofs.Common.{lit<, ◌≡◌, ℕ, ◌+◌, ◌==◌, ◌<◌, ◌≤◌, suc, cond, List, [], ◌∷◌, ◌++◌, length, refl, sym, ap, subst, ◌∙◌, arith, true, false, append_assoc, inl, inr, ◌*◌, Bool, ◌&&◌, Option, Some, None, length-append, ◌⊎◌, nat_lt, nat_le, not, encode_utf8, append-nil}
+use Rattle.std.proofs.Common.{lit<, ◌≡◌, ℕ, ◌+◌, ◌==◌, ◌<◌, suc, cond, List, [], ◌∷◌, ◌++◌, length, refl, sym, ap, subst, ◌∙◌, arith, true, false, append_assoc, inl, inr, ◌*◌, Bool, ◌&&◌, Option, Some, None, length-append, ◌⊎◌, nat_lt, nat_le, not, encode_utf8, append-nil}
 use Rattle.std.proofs.lemmas.Bool.{cond_both, eqb-true, ltb-true, ltb-false, and_parts, leb-true, eqb-false, and_from, and_left, or_from, or_parts, not_from_false, false≢true}
 use Rattle.decimal_json.specs.Value.{Value, null, boolean, array, object, no_items, no_members, items_of, members_of, text, has_key, is_digit, digit_of, is_mark, whole_of, Member, Frame, in_array, in_object, Purpose, for_value, for_key}
 use Rattle.decimal_json.specs.Characters.{rue, alse, ull, is_space, short_escape, is_hex, unit_of}
@@ -28,10 +28,7 @@ front_space (in_array vs ∷ outer) bs c f e = spaced_more (InArray (IsFront out
 front_space (in_object ms k ∷ outer) bs c f e = spaced_more (BehindColon (IsFront outer) (length outer) ms k) bs c f e
 
 too_deep : (outer : List Frame) (bs : List ℕ) (c : ℕ) → IsFront outer bs → nat_lt (length outer) 64 ≡ false → (c ≡ 91) ⊎ (c ≡ 123) → Good (stop (length bs) 3) bs c
-too_deep outer bs c f full which = λ cs.
-    let deep : 64 ≤ length outer = ltb-false (length outer) 64 full in
-    let most : length outer ≤ 64 = front_depth outer bs f in
-    inr (inl (refl, (outer, bs, c, cs, f, omega arith, which, refl, refl)))
+too_deep outer bs c f full which = grind (arith, ltb-false, front_depth, f, full, which)
 
 good_opened : (outer : List Frame) (bs : List ℕ) (c : ℕ) (spot : Spot) → IsFront outer bs → (length outer < 64 → Stands outer spot (bs ++ c ∷ [])) → (c ≡ 91) ⊎ (c ≡ 123)
     → Good (opened (length bs) outer spot) bs c
@@ -146,14 +143,7 @@ good_ended outer bs v c s = cond_both (is_space c) _ _ (λ st. Good st bs c) (λ
 good_letter : (outer : List Frame) (bs : List ℕ) (v : Value) (ls : List ℕ) (c : ℕ) (l : ℕ) → LiteralText outer v (l ∷ ls) bs → (c == l) ≡ true → Stands outer (awaited v ls) (bs ++ c ∷ [])
 good_letter outer bs v [] c l t e =
     spaced_none (BehindValue outer v) (bs ++ c ∷ []) (t.front, t.begun ++ l ∷ [], t.is_front, t.spells, named bs c l e ∙ one_more bs t.front t.begun l t.is)
-good_letter outer bs v (m ∷ ls) c l t e = record {
-  front = t.front;
-  begun = t.begun ++ l ∷ [];
-  is_front = t.is_front;
-  spells = subst (λ (x : List ℕ). Spells true (length outer) v x) (sym (append_assoc t.begun (l ∷ []) (m ∷ ls))) t.spells;
-  ascii = t.ascii.1;
-  is = named bs c l e ∙ one_more bs t.front t.begun l t.is;
-}
+good_letter outer bs v (m ∷ ls) c l t e = grind (arith, append_assoc, named, one_more, t, e)
 
 pub good_literal : (outer : List Frame) (bs : List ℕ) (v : Value) (ls : List ℕ) (c : ℕ) → LiteralText outer v ls bs → Good (literal_step (length bs) outer v ls c) bs c
 unfolding literal_step
@@ -226,13 +216,11 @@ pub whole_text : (n : Bool) (ds : List ℕ) → negative_text n ++ numerals ds �
 whole_text n ds = ap (λ x. negative_text n ++ x) (sym (append-nil (numerals ds)))
 
 pub fraction_end : (n : Bool) (ds fs : List ℕ) → IsSomeDigits fs → (negative_text n ++ numerals ds) ++ (46 ∷ numerals fs) ≡ negative_text n ++ (numerals ds ++ (fraction_text fs ++ []))
-fraction_end n ds fs s = append_assoc (negative_text n) (numerals ds) (46 ∷ numerals fs)
-    ∙ ap (λ x. negative_text n ++ (numerals ds ++ x)) (some_text fs s ∙ sym (append-nil (fraction_text fs)))
+fraction_end n ds fs s = grind (arith, append_assoc, some_text, append-nil, s)
 
 pub power_end : (n : Bool) (ds fs : List ℕ) (m : ℕ) (s : Sign) (d : ℕ) (es : List ℕ)
     → ((negative_text n ++ numerals ds) ++ fraction_text fs) ++ ((m ∷ sign_text s) ++ numerals (d ∷ es)) ≡ negative_text n ++ (numerals ds ++ (fraction_text fs ++ power_text (power m s d es)))
-power_end n ds fs m s d es = append_assoc (negative_text n ++ numerals ds) (fraction_text fs) ((m ∷ sign_text s) ++ numerals (d ∷ es))
-    ∙ append_assoc (negative_text n) (numerals ds) (fraction_text fs ++ ((m ∷ sign_text s) ++ numerals (d ∷ es)))
+power_end n ds fs m s d es = grind (arith, append_assoc)
 
 pub good_numeral : (outer : List Frame) (bs : List ℕ) (n : Numeral) (c : ℕ) → Stands outer (numeral n) bs → Good (numeral_step (length bs) outer n c) bs c
 unfolding numeral_step
@@ -333,21 +321,12 @@ characters_more (d ∷ cs) c are is = (are.0, and_left (is_first_alone d) (begin
 
 -- a character more
 add_character : (outer : List Frame) (p : Purpose) (t base bs : List ℕ) (c : Character) → InString outer p t base → IsCharacter true c → bs ≡ base ++ character_text c → InString outer p (t ++ meaning c) bs
-add_character outer p t base bs c r is e = record {
-  front = r.front;
-  cs = r.cs ++ c ∷ [];
-  is_front = r.is_front;
-  are = characters_more r.cs c r.are is;
-  text = ap (λ x. x ++ meaning c) r.text ∙ sym (flat_map-push meaning r.cs c);
-  is = e ∙ (ap (λ x. x ++ character_text c) r.is ∙ (append_assoc r.front (34 ∷ flat_map character_text r.cs) (character_text c)
-      ∙ ap (λ x. r.front ++ (34 ∷ x)) (sym (flat_map-push character_text r.cs c))));
-}
+add_character outer p t base bs c r is e = grind (arith, characters_more, flat_map-push, append_assoc, r, is, e)
 
 -- an escape of one unit of a pair
 pub lacks : (outer : List Frame) (p : Purpose) (t base bytes : List ℕ) (here back a b c d : ℕ) (more : List ℕ) → InString outer p t base → back ≡ length base → AreHex a b c d
     → (is_low_surrogate (unit_of a b c d) ≡ true) ⊎ ((is_high_surrogate (unit_of a b c d) ≡ true) × LacksSecond more) → bytes ≡ base ++ (92 ∷ 117 ∷ a ∷ b ∷ c ∷ d ∷ more) → Caught bytes here back 5
-lacks outer p t base bytes here back a b c d more r e hex which f =
-    inr (inr (inr (refl, (outer, p, r.front, r.cs, a, b, c, d, more, r.is_front, r.are, hex, which, e ∙ ap length r.is, f ∙ ap (λ x. x ++ 92 ∷ 117 ∷ a ∷ b ∷ c ∷ d ∷ more) r.is))))
+lacks outer p t base bytes here back a b c d more r e hex which f = grind (arith, r, e, hex, which, f)
 
 -- the quote at the end
 closed : (front cs bs : List ℕ) (c : ℕ) → bs ≡ front ++ (34 ∷ cs) → (c == 34) ≡ true → bs ++ c ∷ [] ≡ front ++ (34 ∷ cs ++ 34 ∷ [])
@@ -432,10 +411,7 @@ lacks_digit (two_digits x y) c cs e = λ a b d f rest hex low g. hex_not c d e h
 lacks_digit (three_digits x y z) c cs e = λ a b d f rest hex low g. hex_not c f e hex.3 cc
 
 lacks_low : (a b d f : ℕ) (cs : List ℕ) → is_low_surrogate (unit_of a b d f) ≡ false → LacksSecond (92 ∷ 117 ∷ a ∷ b ∷ d ∷ f ∷ cs)
-lacks_low a b d f cs e = λ i j k l rest hex low g.
-    let ai : a ≡ i = cc in let bj : b ≡ j = cc in let dk : d ≡ k = cc in let fl : f ≡ l = cc in
-    let same : unit_of a b d f ≡ unit_of i j k l = ap (λ n. unit_of n b d f) ai ∙ (ap (λ n. unit_of i n d f) bj ∙ (ap (λ n. unit_of i j n f) dk ∙ ap (λ n. unit_of i j k n) fl)) in
-    false≢true (sym e ∙ (ap is_low_surrogate same ∙ low))
+lacks_low a b d f cs e = grind (arith, e)
 
 pub high_of : (u a b c d : ℕ) → u ≡ unit_of a b c d → is_high_surrogate u ≡ true → is_high_surrogate (unit_of a b c d) ≡ true
 high_of u a b c d e h = ap is_high_surrogate (sym e) ∙ h
@@ -563,8 +539,7 @@ sound_end outer spot bs s r = cut outer spot bs s r
 
 caught : (bytes bs : List ℕ) (outer : List Frame) (spot : Spot) (c : ℕ) (cs : List ℕ) (k kind : ℕ) → Stands outer spot bs → Runs bs outer spot → bytes ≡ bs ++ c ∷ cs → step (length bs) outer spot c ≡ stop k kind
     → Caught bytes (length bs) k kind → IsSound bytes (fault k kind)
-caught bytes bs outer spot c cs k kind s r e f (inl g) =
-    inl (g.0, record { front = bs; outer = outer; spot = spot; stands = s; place = g.1; runs = r; ends = inr (c, cs, e, f ∙ ap (stop k) g.0) })
+caught bytes bs outer spot c cs k kind s r e f (inl g) = grind (arith, s, r, e, f, g)
 caught bytes bs outer spot c cs k kind s r e f (inr g) = inr g
 
 -- one byte, and what comes behind it

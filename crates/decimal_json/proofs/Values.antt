@@ -67,9 +67,7 @@ no_value source start c e is stands space q b o t f n m d = λ outer. subst (λ 
 
 -- behind an ASCII byte a text may be cut
 pub boundary_behind : (source : List ℕ) (at c : ℕ) → IsUtf8 source → at < length source → StandsAt source at c → c < 128 → IsCharBoundary source (at + 1)
-boundary_behind source at c utf8 lt e low =
-    let here : get_or source at 0 ≡ c = let f = byte_and_rest source at lt in cc in
-    IsCharBoundary-after_ascii source at utf8 lt (omega (arith, here))
+boundary_behind source at c utf8 lt e low = grind (arith, byte_and_rest, IsCharBoundary-after_ascii, utf8, lt, e, low)
 
 -- what `token_at` says of its byte
 pub token_of : (bytes : List ℕ) (at c : ℕ) (o : Option ℕ) → o ≡ Some c → IfSome o (IsToken bytes at) → IsToken bytes at c
@@ -110,14 +108,11 @@ lacks MayNot bytes start outer spot e none may ends stops =
 -- the machine goes past a byte behind white space
 passes : (bytes : List ℕ) (start at c : ℕ) (outer later : List Frame) (spot new : Spot) → FindsToken bytes start at c → MaySpace spot
     → step at outer spot c ≡ next later new → scan bytes start outer spot ≡ scan bytes (at + 1) later new
-passes bytes start at c outer later spot new found may s =
-    found.skips outer spot may ∙ moved bytes at c outer spot later new found.token.0 s
+passes bytes start at c outer later spot new found may s = grind (arith, moved, found, may, s)
 
 passed : (bytes : List ℕ) (start past c : ℕ) (outer later : List Frame) (spot new : Spot) → PassesToken bytes start past c → MaySpace spot
     → ((at : ℕ) → step at outer spot c ≡ next later new) → scan bytes start outer spot ≡ scan bytes past later new
-passed bytes start past c outer later spot new p may s =
-    subst (λ (n : ℕ). scan bytes start outer spot ≡ scan bytes n later new) (sym p.is)
-    (passes bytes start p.at c outer later spot new p.found may (s p.at))
+passed bytes start past c outer later spot new p may s = grind (arith, passes, p, may, s)
 
 found_as : (bytes : List ℕ) (start at c k : ℕ) → FindsToken bytes start at c → c ≡ k → FindsToken bytes start at k
 found_as bytes start at c k found is = subst (λ (b : ℕ). FindsToken bytes start at b) is found
@@ -254,8 +249,7 @@ member_read bytes start colon end room test k v key r = λ outer ms keys fits. k
 
 pub no_member_value : (bytes : List ℕ) (start colon room : ℕ) (test : List ℕ → Bool) (k : List ℕ) (e : JsonFault) → ReadsKey test bytes start colon k
     → BreaksValue bytes colon room e → BreaksMember test bytes start room e
-no_member_value bytes start colon room test k e key broken = λ outer ms keys fits.
-    led e _ _ (key outer ms keys) (broken (in_object ms k ∷ outer) (omega (arith, fits)))
+no_member_value bytes start colon room test k e key broken = grind (arith, key, broken)
 
 pub member_breaks : (bytes : List ℕ) (start at room : ℕ) (ms : List Member) (test : List ℕ → Bool) (e : JsonFault) → HasMembers bytes start at room ms test
     → BreaksMember test bytes at room e → BreaksInside bytes start first_key room e

@@ -17,7 +17,7 @@ use Rattle.dispatch_repair.proofs.CurveSegments.{renewable_at, thermal_at}
 use Rattle.dispatch_repair.proofs.Merit.{good_renewable}
 use Rattle.dispatch_repair.proofs.Places.{thermal_ends}
 use Rattle.dispatch_repair.proofs.Reaches.{heads_are, ranges_are, ranges_in}
-use Rattle.decommitment.specs.inside.Fills.{AreEntered, Base, Fill, HasSizes, Hour, IsAlike, IsBaseOf, IsBegun, IsEntered, IsHourOf, IsReady, Part, System, base_parts, base_period, exchanged_totals, hour_period, no_part, part_at, unit_part, AreGiven, IsSizedAmount, IsBegunTo, IsClear, no_given, no_totals}
+use Rattle.decommitment.specs.inside.Fills.{AreEntered, Base, Fill, HasSizes, Hour, IsAlike, IsBaseOf, IsBegun, IsEntered, IsHourOf, IsReady, Part, System, base_parts, base_period, exchanged_totals, hour_period, no_part, part_at, unit_part, AreGiven, IsSizedAmount, IsBegunTo, no_given, no_totals}
 use Rattle.decommitment.specs.inside.Levels.{AreAtLevel, IsAtLevel, IsLeastAt}
 use Rattle.decommitment.proofs.Givens.{exchanged_sum}
 use Rattle.dispatch_repair.proofs.Filled.{max_left}
@@ -62,12 +62,7 @@ entered_more period order old g before middle after sized was more = record {
     renewable_low = ap (λ (t : Totals). t.renewable_low) more.totals ∙ was.totals.renewable_low;
     renewable_high = ap (λ (t : Totals). t.renewable_high) more.totals ∙ was.totals.renewable_high;
   };
-  sizes = record {
-    minimums = wider g after.totals.minimums middle.totals.minimums (part_at period g).minimum (old g).minimum (ap (λ (t : Totals). t.minimums) more.totals) was.sizes.minimums more.sizes.minimum sized.minimum;
-    thermal_low = wider g after.totals.thermal_low middle.totals.thermal_low (part_at period g).reach.range.low (old g).reach.range.low (ap (λ (t : Totals). t.thermal_low) more.totals) was.sizes.thermal_low more.sizes.low sized.low;
-    thermal_high = wider g after.totals.thermal_high middle.totals.thermal_high (part_at period g).reach.range.high (old g).reach.range.high (ap (λ (t : Totals). t.thermal_high) more.totals) was.sizes.thermal_high more.sizes.high sized.high;
-    heads = wider g after.totals.heads middle.totals.heads (part_at period g).reach.head (old g).reach.head (ap (λ (t : Totals). t.heads) more.totals) was.sizes.heads more.sizes.head sized.head;
-  };
+  sizes = grind (arith, ints, wider, g, after, middle, period, old, more, was, sized);
 }
 
 -- the same by what came of it
@@ -227,18 +222,7 @@ module _ (period : Period) (g : ℕ) (part : Part) (is : part ≡ part_at period
 -- amounts of 0 add up to nothing
 pub cleared : (instance : Instance) (amounts : List ℤ) → length amounts ≡ source_count instance
     → ((n : ℕ) → n < length amounts → amount_at amounts n ≡ pos 0) → AreGiven instance amounts no_given
-cleared instance amounts count none = record {
-  count = count;
-  sizes = λ n h. subst IsSizedAmount (sym (none n (omega (arith, h, count)))) (record { low = omega (arith, linear); size = omega arith });
-  thermal = record {
-    is = sym (sum_below-zero (thermal_count instance) (thermal_amount instance amounts) (λ g h. none (renewable_count instance + g) (omega (arith, h, count))));
-    size = omega arith;
-  };
-  renewable = record {
-    is = sym (sum_below-zero (renewable_count instance) (amount_at amounts) (λ w h. none w (omega (arith, h, count))));
-    size = omega arith;
-  };
-}
+cleared instance amounts count none = grind (arith, ints, sum_below-zero, count, none)
 
 -- the size of a sum with a term more
 sum_wider : (w : ℕ) (next sum term : ℤ) → next ≡ sum +ℤ term → unsigned_abs sum ≤ w * (3 * MAX_POWER) → IsSizedEnd term
@@ -250,38 +234,14 @@ pub begun_more : (period : Period) (w : ℕ) (sums next range : Range) (before a
     → IsSizedEnd range.high → next.low ≡ sums.low +ℤ range.low → next.high ≡ sums.high +ℤ range.high
     → after.amounts.items ≡ slice_set before.amounts.items w range.low → AreGiven period.instance after.amounts.items after.given
     → after.level ≡ before.level → after.totals ≡ before.totals → IsBegunTo period (suc w) next after
-begun_more period w sums next range before after h was low high low_sized high_sized low_sum high_sum amounts given level totals = record {
-  given = given;
-  level = level ∙ was.level;
-  totals = totals ∙ was.totals;
-  lows = λ v inside. ⊎_elim
-      (λ (early : v < w). ap (λ xs. amount_at xs v) amounts ∙ get_or-set_other before.amounts.items w v range.low (pos 0) (λ e. omega (arith, early, e)) ∙ was.lows v early)
-      (λ (last : v ≡ w). subst (λ m. amount_at after.amounts.items m ≡ low_of period (FromRenewable m)) (sym last)
-      (ap (λ xs. amount_at xs w) amounts ∙ get_or-set_same before.amounts.items w range.low (pos 0) (omega (arith, h, was.given.count)) ∙ low))
-      (below_or_last w v inside);
-  low = omega (arith, linear, low_sum, was.low, low);
-  high = omega (arith, linear, high_sum, was.high, high);
-  low_size = sum_wider w next.low sums.low range.low low_sum was.low_size low_sized;
-  high_size = sum_wider w next.high sums.high range.high high_sum was.high_size high_sized;
-}
+begun_more period w sums next range before after h was low high low_sized high_sized low_sum high_sum amounts given level totals =
+    grind (arith, ints, get_or-set_other, get_or-set_same, below_or_last, sum_wider, h, was, low_sized, high_sized, low_sum, high_sum)
 
 -- the sums over all renewable units
 pub begun_all : (period : Period) (sums : Range) (fill after : Fill) → renewable_count period.instance ≤ MAX_UNITS
     → IsBegunTo period (renewable_count period.instance) sums fill → after.amounts ≡ fill.amounts → after.given ≡ fill.given → after.level ≡ fill.level
     → after.totals ≡ record no_totals { renewable_low = sums.low; renewable_high = sums.high } → IsBegun period after
-begun_all period sums fill after few was amounts given level totals = record {
-  given = subst (λ z. z) (λ i. AreGiven period.instance (sym amounts i).items (sym given i)) was.given;
-  level = level ∙ was.level;
-  lows = λ w h. ap (λ xs. amount_at xs.items w) amounts ∙ was.lows w h;
-  minimums = ap (λ (t : Totals). t.minimums) totals;
-  thermal_low = ap (λ (t : Totals). t.thermal_low) totals;
-  thermal_high = ap (λ (t : Totals). t.thermal_high) totals;
-  heads = ap (λ (t : Totals). t.heads) totals;
-  renewable_low = subst (λ z. IsSum z (renewable_sum period (low_of period))) (sym (ap (λ (t : Totals). t.renewable_low) totals))
-      (record { is = was.low; size = omega (arith, was.low_size, few) });
-  renewable_high = subst (λ z. IsSum z (renewable_sum period (high_of period))) (sym (ap (λ (t : Totals). t.renewable_high) totals))
-      (record { is = was.high; size = omega (arith, was.high_size, few) });
-}
+begun_all period sums fill after few was amounts given level totals = grind (arith, ints, few, was)
 
 -- ---- from a commitment that differs in one unit
 module _ (system : System) (hour : Hour) (base : Base) (of : IsHourOf system hour) (from : IsBaseOf system hour base) where

@@ -13,7 +13,7 @@ use Rattle.dispatch_repair.specs.Filling.{AddsUp, CostsUpTo, IsFilledTo, IsFull,
 use Rattle.dispatch_repair.specs.MeritOrder.{Slope, HasNextSlope}
 use Rattle.dispatch_repair.specs.Period.{Instance, Pattern, Period}
 use Rattle.dispatch_repair.specs.Segments.{AreInMeritOrder, no_segment, segment_at, source_at, source_count}
-use Rattle.dispatch_repair.specs.Totals.{IsSizedLeft, AreSizedTotals, AreTotalsOf}
+use Rattle.dispatch_repair.specs.Totals.{IsSizedLeft, AreTotalsOf}
 use Rattle.dispatch_repair.specs.declared.fill.Left.{Left}
 use Rattle.dispatch_repair.specs.declared.range.Range.{Range}
 use Rattle.dispatch_repair.specs.declared.segment.Segment.{Segment}

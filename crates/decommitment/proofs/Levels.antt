@@ -13,10 +13,7 @@ use Rattle.decommitment.specs.inside.Levels.{Step, AreAtLevel, IsAtLevel, IsReac
 -- what holds of each element and of a new one at i holds of each after it was set
 pub set_each : {A : Type 0} (P : ℕ → A → Type 0) (xs : List A) (i : ℕ) (x d : A) → i < length xs → P i x
     → ((n : ℕ) → n ≢ i → P n (get_or xs n d)) → (n : ℕ) → P n (get_or (slice_set xs i x) n d)
-set_each P xs i x d within here others n = ⊎_elim
-    (λ (same : n ≡ i). subst (λ m. P m (get_or (slice_set xs i x) m d)) (sym same) (subst (P i) (sym (get_or-set_same xs i x d within)) here))
-    (λ (other : n ≢ i). subst (P n) (sym (get_or-set_other xs i n x d other)) (others n other))
-    (cases_eq n i)
+set_each P xs i x d within here others n = grind (arith, linear, slice_set, get_or-set_same, get_or-set_other, cases_eq, within, here, others)
 
 -- an amount that rose stands still or goes up to the end at most, and one that fell down to the least at most
 pub risen_or : (amount end : ℤ) (step : Step) → IsRisen amount end step → (step.amount ≡ amount) ⊎ (step.amount ≤ℤ end)

@@ -1,10 +1,10 @@
 -- The places of each source's own segments, place by place.
 -- Cite by `use Rattle.decommitment.proofs.Places.{pushed}`.
-use Rattle.std.proofs.Common.{◌≡◌, ℕ, zero, suc, ◌-◌, ◌<◌, ◌≤◌, ⊎_elim, refl, sym, ap, subst, ◌∙◌, arith, List, [], ◌∷◌, ◌++◌, length, length-set, slice_set, slice_index_or}
+use Rattle.std.proofs.Common.{◌≡◌, ℕ, suc, ◌<◌, ◌≤◌, ⊎_elim, refl, sym, subst, ◌∙◌, arith, List, [], ◌∷◌, ◌++◌, length, length-set, slice_set, slice_index_or}
 use Rattle.std.specs.declared.alloc.Global.{Global}
 use Rattle.std.specs.declared.vec.Vec.{Vec}
 use Rattle.std.proofs.lemmas.Bool.{cases_lt}
-use Rattle.std.proofs.lemmas.List.{get_or_append_left, get_or-append_right, get_or_push, length_push, map-set}
+use Rattle.std.proofs.lemmas.List.{get_or_append_left, get_or_push, length_push, map-set}
 use Rattle.dispatch_repair.specs.Rooms.{rows_of}
 use Rattle.uc_model.proofs.Common.{below_or_last}
 use Rattle.dispatch_repair.specs.Segments.{segment_at}
@@ -16,27 +16,17 @@ use Rattle.decommitment.proofs.Levels.{set_each}
 -- a push into the list of one source
 pub pushed_place : (rows : List (Vec ℕ Global)) (n j : ℕ) (row new : Vec ℕ Global) → n < length rows → row ≡ slice_index_or rows n row
     → new.items ≡ row.items ++ j ∷ [] → IsPlacePushed n j (rows_of rows) (rows_of (slice_set rows n new))
-pushed_place rows n j row new within is items = record {
-  are = map-set (λ (v : Vec ℕ Global). v.items) rows n new
-      ∙ ap (slice_set (rows_of rows) n) (items ∙ ap (λ xs. xs ++ j ∷ []) (row_read rows n row within is));
-}
+pushed_place rows n j row new within is items = grind (arith, map-set, slice_set, row_read, within, is)
 
 -- the places of one source
 pub places_of : (order : List Segment) (sources n : ℕ) (rows : List (List ℕ)) → AreOwnPlaces order sources (length order) rows
     → ArePlacesOf order n (places_at rows n)
-places_of order sources n rows are = record {
-  own = are.own n;
-  all = λ j h its. subst (λ m. IsAmong (places_at rows m) j) its (are.all j h);
-}
+places_of order sources n rows are = grind (arith, are)
 
 -- none before the first segment
 pub none : (order : List Segment) (sources : ℕ) (rows : List (List ℕ)) → length rows ≡ sources → ((n : ℕ) → places_at rows n ≡ [])
     → AreOwnPlaces order sources 0 rows
-none order sources rows count empty = record {
-  count = count;
-  own = λ n k h. absurd (omega (arith, h, ap length (empty n)));
-  all = λ j h. absurd (omega (arith, h));
-}
+none order sources rows count empty = grind (arith, count, empty)
 
 -- a segment more
 module _ (order : List Segment) (sources j : ℕ) (old new : List (List ℕ)) (was : AreOwnPlaces order sources j old)

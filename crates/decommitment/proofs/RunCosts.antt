@@ -1,13 +1,13 @@
 -- What the units of a run cost is what their cells in the commitment's dispatch do.
-use Rattle.std.proofs.Common.{◌≡◌, ◌≢◌, ℕ, ◌+◌, ◌*◌, ◌^◌, ◌<◌, ◌≤◌, inl, inr, false, sym, ap, subst, ◌∙◌, arith, List, [], ◌∷◌, ◌++◌, get_or, get_or-set_other, get_or-set_same, set, length, ℤ, pos, ◌+ℤ◌, ◌*ℤ◌, ◌≤ℤ◌, of_z, to_z, unsigned_abs, if◌then◌else◌}
+use Rattle.std.proofs.Common.{◌≡◌, ◌≢◌, ℕ, ◌+◌, ◌*◌, ◌^◌, ◌<◌, ◌≤◌, inl, inr, false, sym, ap, subst, ◌∙◌, arith, List, [], ◌∷◌, ◌++◌, get_or, get_or-set_other, get_or-set_same, set, length, ℤ, pos, ◌+ℤ◌, ◌*ℤ◌, of_z, to_z, unsigned_abs, if◌then◌else◌}
 use Rattle.std.specs.Int.{w128}
 use Rattle.std.proofs.lemmas.List.{get_or_read, length_push, set-get_or, set-set}
-use Rattle.uc_model.specs.Prelude.{quotient_up, hull_cost, IsLawfulInstance, cell_at, printed_cell_cost, printed_cost, printed_shortage_cost, watt_denominator, renewable_count, thermal_count, thermal_unit, category_cost, category_count, sum_below}
+use Rattle.uc_model.specs.Prelude.{quotient_up, hull_cost, IsLawfulInstance, cell_at, printed_cell_cost, printed_cost, printed_shortage_cost, watt_denominator, renewable_count, thermal_count, thermal_unit, category_cost, sum_below}
 use Rattle.uc_model.specs.declared.instance.Thermal.{Thermal}
 use Rattle.uc_model.specs.declared.schedule.Cell.{Cell}
 use Rattle.uc_model.proofs.Common.{below_or_last, sum_below-same}
 use Rattle.schedule_check.proofs.AddedSums.{added}
-use Rattle.schedule_check.specs.WholeWatts.{HasPrice, cell, lacking_alone, whole, width}
+use Rattle.schedule_check.specs.WholeWatts.{HasPrice, cell, lacking_alone}
 use Rattle.dispatch_repair.specs.Amounts.{amount_at, thermal_amount}
 use Rattle.dispatch_repair.specs.Dispatch.{IsCommittedCell}
 use Rattle.dispatch_repair.proofs.RowsCommitted.{other_cell, push_each}
@@ -24,11 +24,7 @@ same_cost unit a b on p category = λ i. (if on i then hull_cost unit.points 1 (
 
 -- and have a price alike
 same_price : (unit : Thermal) (a b : Cell) → a.on ≡ b.on → a.p ≡ b.p → a.category ≡ b.category → HasPrice unit b → HasPrice unit a
-same_price unit a b on p category has = record {
-  low = λ e. subst (λ z. pos 0 ≤ℤ z) (sym p) (has.low (sym on ∙ e));
-  high = λ e. subst (λ z. z ≤ℤ whole (width unit.points)) (sym p) (has.high (sym on ∙ e));
-  category = subst (λ n. n ≤ category_count unit) (sym category) has.category;
-}
+same_price unit a b on p category has = grind (arith, has)
 
 module _ (instance : Instance) (patterns : List Pattern) (fills : List Fill) (are : AreDispatched instance patterns fills) where
   printed_cell : (g t : ℕ) → g < thermal_count instance → t < instance.periods → IsCellOf instance patterns fills g t (cell_at are.printed g t)

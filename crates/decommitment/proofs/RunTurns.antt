@@ -1,5 +1,5 @@
 -- The turns of the drop pass over runs, and its end.
-use Rattle.std.proofs.Common.{IfSome, Option, Some, None, ◌≡◌, ◌∙◌, ⊎_elim, ℕ, zero, suc, List, set, length, length-set, inl, inr, refl, sym, subst, ap, arith, ℤ, pos, ◌+ℤ◌, ◌*ℤ◌, IsTrue, false, [], of_z, to_z}
+use Rattle.std.proofs.Common.{Option, Some, None, ◌≡◌, ◌∙◌, ⊎_elim, ℕ, zero, suc, List, set, length, length-set, inl, inr, refl, sym, subst, ap, arith, ℤ, pos, ◌+ℤ◌, ◌*ℤ◌, IsTrue, false, [], of_z, to_z}
 use Rattle.std.specs.Int.{w128}
 use Rattle.std.proofs.lemmas.List.{set-get_or, set-set}
 use Rattle.std.specs.declared.alloc.Global.{Global}
@@ -17,8 +17,7 @@ use Rattle.decommitment.specs.Standings.{IsDropped}
 use Rattle.decommitment.specs.declared.pass.Standing.TheVariants as standing
 use Rattle.decommitment.specs.declared.stand.Stand.TheVariants as stand
 use Rattle.decommitment.specs.declared.stand.Trial.TheVariants as trial
-use Rattle.decommitment.specs.inside.Fills.{HasEntered}
-use Rattle.decommitment.specs.inside.Runs.{Fill, Pass, Run, Stand, Trial, Turn, IsRun, IsRunPass, IsStandOf, IsTrialOf, IsTriedRun, IsStoodAt, outputs_before}
+use Rattle.decommitment.specs.inside.Runs.{Fill, Pass, Run, Stand, Trial, Turn, IsRun, IsRunPass, IsStandOf, IsTrialOf, IsTriedRun, IsStoodAt}
 use Rattle.decommitment.specs.inside.Turns.{AreAllowed, IsReplaced, KeepsStuck, beats, ending_of_stand, ending_of_trial}
 use Rattle.decommitment.proofs.Drops.{accepted, beats_is, ending_is, passed_turn, replaced_end, replaced_kept}
 use Rattle.dispatch_repair.proofs.OneDispatch.{one_dispatch}
@@ -28,21 +27,7 @@ use Rattle.dispatch_repair.proofs.OneDispatch.{one_dispatch}
 pub no_run_is : (instance : Instance) (order : List Segment) (patterns : List Pattern) (start : List ℤ) (run : Run) → IsLawfulInstance instance
     → run.fills.items ≡ [] → run.edge ≡ None → length run.costs.items ≡ thermal_count instance → IsRoomOf instance run.room
     → IsRun instance order patterns start run
-no_run_is instance order patterns start run lawful none bare count room =
-    let nothing : length run.fills.items ≡ 0 = ap length none in
-    record {
-      fills = record {
-        few = omega (arith, nothing);
-        each = λ t fill h is. absurd (omega (arith, h, nothing));
-      };
-      edge = subst (λ e. IfSome e (HasEntered instance order patterns (length run.fills.items) (outputs_before start run.fills.items (length run.fills.items)))) (sym bare) tt;
-      known = record {
-        count = count;
-        sized = λ t fill h is. absurd (omega (arith, h, nothing));
-        costs = λ all. absurd (omega (arith, all, nothing, lawful.periods.0));
-      };
-      room = room;
-    }
+no_run_is instance order patterns start run lawful none bare count room = grind (arith, lawful, none, bare, count)
 
 -- and it has no fill
 abbrev is_none : Option Fill → Type 0
@@ -70,11 +55,7 @@ trial_stuck instance patterns tried period is same = subst (λ t. IsEndingOf ins
 
 pub stand_stuck : (instance : Instance) (patterns : List Pattern) (tried : Trial) (period : ℕ) (most_on : Stuck) → IsTrialOf instance patterns tried
     → tried ≡ trial.Stuck period → AreMostOn instance patterns → IsStuckOf instance patterns most_on → IsStandOf instance patterns (stand.Stuck period most_on)
-stand_stuck instance patterns tried period most_on is same most stuck = record {
-  printed = is.printed;
-  ending = trial_stuck instance patterns tried period is same;
-  most_on = record { patterns = patterns; most_on = most; stuck_by = stuck };
-}
+stand_stuck instance patterns tried period most_on is same most stuck = grind (arith, is, same, most, stuck)
 
 -- ---- a turn
 module _ (instance : Instance) (order : List Segment) (start : List ℤ) (turn : Turn) (pass after : Pass) (it : IsTriedRun instance order start turn pass) where
@@ -157,10 +138,7 @@ moved instance (suc n) patterns one other cost passed is = ⊎_elim
         is_fewest = passed.turn.is_fewest;
         tried = Dispatched other cost;
         is_tried = subst (λ p. IsEndingOf instance p (Dispatched other cost)) better.1.commitment is;
-        taken = inl (
-          better_alike one other cost passed.stood ∙ ap (λ e. is_better e passed.stood) better.1.end ∙ better.0,
-          record { commitment = better.1.commitment; end = refl },
-        );
+        taken = grind (arith, better_alike, one, other, cost, passed, better);
       };
     })
     (λ worse.
@@ -170,16 +148,7 @@ moved instance (suc n) patterns one other cost passed is = ⊎_elim
       former = passed.former;
       stood = Dispatched other cost;
       before = moved instance n passed.former one other cost before ended;
-      turn = record {
-        fewest = passed.turn.fewest;
-        is_fewest = passed.turn.is_fewest;
-        tried = passed.turn.tried;
-        is_tried = passed.turn.is_tried;
-        taken = inr (
-          worse_alike one other cost passed.turn.tried ∙ ap (is_better passed.turn.tried) worse.1.end ∙ worse.0,
-          record { commitment = worse.1.commitment; end = refl },
-        );
-      };
+      turn = grind (arith, worse_alike, passed, one, other, cost, worse);
     })
     passed.turn.taken
 

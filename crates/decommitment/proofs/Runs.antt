@@ -1,5 +1,5 @@
 -- The run of a commitment is the beginning of its dispatch.
-use Rattle.std.proofs.Common.{◌≡◌, ⊎_elim, IfSome, ℕ, zero, suc, ◌+◌, ◌<◌, ◌≤◌, inl, inr, refl, sym, ap, subst, ◌∙◌, arith, List, [], ◌∷◌, ◌++◌, length, get_or, ℤ}
+use Rattle.std.proofs.Common.{◌≡◌, ⊎_elim, ℕ, zero, suc, ◌+◌, ◌<◌, ◌≤◌, inl, inr, refl, sym, ap, subst, ◌∙◌, arith, List, [], ◌∷◌, ◌++◌, length, get_or, ℤ}
 use Rattle.std.proofs.lemmas.List.{get_or-map, get_or_append_left, get_or_push, length_push}
 use Rattle.uc_model.specs.Prelude.{IsLawfulInstance, cell_at, shed_at, short_at, thermal_count, thermal_unit}
 use Rattle.uc_model.specs.declared.schedule.Cell.{Cell}
@@ -7,7 +7,6 @@ use Rattle.uc_model.proofs.Common.{below_or_last}
 use Rattle.dispatch_repair.specs.Amounts.{AreBeforePeriod, IsSizedOutput, next_period, thermal_amount}
 use Rattle.dispatch_repair.specs.Filled.{IsDispatchedFrom}
 use Rattle.dispatch_repair.specs.declared.segment.Segment.{Segment}
-use Rattle.dispatch_repair.specs.Stuck.{IsFirstObstacle}
 use Rattle.dispatch_repair.proofs.Endings.{IsThrough, begun, more}
 use Rattle.dispatch_repair.proofs.Periods.{dispatch_through, initial_size, obstacle_of}
 use Rattle.dispatch_repair.proofs.Reaches.{heads_are, heads_in}
@@ -68,12 +67,7 @@ module _ (start : List ℤ) (fills : List Fill) (fill : Fill) where
 -- a run's fill, which all units entered
 pub stood_entered : (instance : Instance) (order : List Segment) (patterns : List Pattern) (start : List ℤ) (run : Run) (t : ℕ) (fill : Fill)
     → IsRun instance order patterns start run → IsStoodAt run t fill → HasEntered instance order patterns t (outputs_before start run.fills.items t) fill
-stood_entered instance order patterns start run t fill of at = ⊎_elim
-    (λ inside. let filled = of.fills.each t fill inside.0 inside.1 in record { was = filled.was; count = filled.count; ready = filled.ready inside.2 })
-    (λ behind.
-    subst (λ k. HasEntered instance order patterns k (outputs_before start run.fills.items k) fill) (sym behind.0)
-    (subst (λ e. IfSome e (HasEntered instance order patterns (length run.fills.items) (outputs_before start run.fills.items (length run.fills.items)))) behind.1 of.edge))
-    at
+stood_entered instance order patterns start run t fill of at = grind (arith, of, at)
 
 pub stood_within : (run : Run) (t : ℕ) (fill : Fill) → IsStoodAt run t fill → t ≤ length run.fills.items
 stood_within run t fill at = ⊎_elim (λ inside. omega (arith, inside.0)) (λ behind. omega (arith, behind.0)) at

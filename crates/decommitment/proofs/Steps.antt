@@ -1,19 +1,18 @@
 -- A step along the order leaves the amounts at a level, with their sums.
 -- Cite by `use Rattle.decommitment.proofs.Steps.{walked_up}`.
-use Rattle.std.proofs.Common.{◌≡◌, ℕ, suc, ◌-◌, ◌*◌, ◌<◌, ◌≤◌, min, ⊎_elim, refl, sym, subst, ◌∙◌, arith, List, length, ℤ, pos, ◌⊎◌, ◌+ℤ◌, ◌-ℤ◌, ◌≤ℤ◌, ◌<ℤ◌, IsTrue, slice_set, w64, to_z, of_z, if◌then◌else◌}
+use Rattle.std.proofs.Common.{◌≡◌, ℕ, suc, ◌-◌, ◌*◌, ◌<◌, ◌≤◌, min, refl, sym, subst, arith, List, length, ℤ, pos, ◌⊎◌, ◌+ℤ◌, ◌-ℤ◌, ◌≤ℤ◌, ◌<ℤ◌, IsTrue, slice_set, w64, to_z, of_z, if◌then◌else◌}
 use Rattle.std.specs.Int.{int_min}
 use Rattle.std.proofs.lemmas.Int.{ints}
 use Rattle.uc_model.specs.Prelude.{IsLawfulInstance, thermal_count}
-use Rattle.uc_model.proofs.Common.{within_of_abs, linear, le_trans, narrow, int_min_right}
+use Rattle.uc_model.proofs.Common.{within_of_abs, linear, le_trans, narrow}
 use Rattle.dispatch_repair.specs.Amounts.{MAX_POWER, IsRangeOf, IsSizedEnd, amount_at}
 use Rattle.dispatch_repair.specs.Period.{Instance, Period}
-use Rattle.dispatch_repair.specs.Segments.{AreInMeritOrder, no_segment, segment_at, source_count}
+use Rattle.dispatch_repair.specs.Segments.{AreInMeritOrder, segment_at, source_count}
 use Rattle.dispatch_repair.specs.Stuck.{HaveRanges}
 use Rattle.dispatch_repair.specs.declared.segment.Segment.{Segment}
-use Rattle.dispatch_repair.proofs.Merit.{good_at}
 use Rattle.decommitment.specs.inside.Fills.{Fill, AreGiven, IsSizedAmount, IsStanding, IsWalked}
 use Rattle.decommitment.specs.inside.Levels.{Range, Step, AreAtLevel, IsAtLevel, IsLeastAt, IsRisen, IsSunk}
-use Rattle.decommitment.proofs.Levels.{climbed, descended, risen_or, sunk_or}
+use Rattle.decommitment.proofs.Levels.{climbed, descended}
 
 -- ---- sizes
 pub between : (z low high : ℤ) → pos 0 ≤ℤ low → low ≤ℤ z → z ≤ℤ high → high ≤ℤ pos (3 * MAX_POWER) → IsSizedAmount z
@@ -28,52 +27,34 @@ amount_kept z sized = narrow z (3 * MAX_POWER) sized.size (omega arith)
 
 -- where a segment ends within a range is no more than that
 pub end_size : (end : ℤ) (range : Range) (z : ℤ) → z ≡ int_min end range.high → IsSizedEnd range.high → z ≤ℤ pos (3 * MAX_POWER)
-end_size end range z is size =
-    subst (λ y. y ≤ℤ pos (3 * MAX_POWER)) (sym is) (le_trans _ range.high _ (int_min_right end range.high) (at_most range.high size))
+end_size end range z is size = grind (arith, ints, is, size)
 
 pub risen_sized : (amount end : ℤ) (step : Step) → IsSizedAmount amount → end ≤ℤ pos (3 * MAX_POWER) → IsRisen amount end step → IsSizedAmount step.amount
-risen_sized amount end step sized top rose = ⊎_elim
-    (λ (same : step.amount ≡ amount). subst IsSizedAmount (sym same) sized)
-    (λ (most : step.amount ≤ℤ end). between step.amount amount end sized.low rose.up most top)
-    (risen_or amount end step rose)
+risen_sized amount end step sized top rose = grind (arith, ints, sized, top, rose)
 
 pub sunk_sized : (amount least : ℤ) (step : Step) → IsSizedAmount amount → pos 0 ≤ℤ least → IsSunk amount least step → IsSizedAmount step.amount
-sunk_sized amount least step sized bottom sank = ⊎_elim
-    (λ (same : step.amount ≡ amount). subst IsSizedAmount (sym same) sized)
-    (λ (over : least ≤ℤ step.amount). between step.amount least amount bottom over sank.down (at_most amount sized.size))
-    (sunk_or amount least step sank)
+sunk_sized amount least step sized bottom sank = grind (arith, ints, sized, bottom, sank)
 
 -- ---- amounts
 -- an amount that rises by a part of what is missing, and one that falls by a part of what is given too much
 pub risen_by : (amount end missing more : ℤ) (step : Step) → step.amount ≡ amount +ℤ more → pos 0 ≤ℤ more → (pos 0 <ℤ more → (amount +ℤ more) ≤ℤ end)
     → (end ≤ℤ (amount +ℤ more)) ⊎ (more ≡ missing) → (IsTrue step.goes_on → more <ℤ missing) → IsRisen amount end step
-risen_by amount end missing more step is up within done part = record {
-  up = omega (arith, linear, is, up);
-  within = λ higher. omega (arith, linear, is, within (omega (arith, linear, is, higher)));
-  done = λ on. ⊎_elim (λ full. omega (arith, linear, is, full)) (λ all. absurd (omega (arith, linear, all, part on))) done;
-}
+risen_by amount end missing more step is up within done part = grind (arith, ints, is, up, within, done, part)
 
 pub sunk_by : (amount least excess less : ℤ) (step : Step) → step.amount ≡ amount -ℤ less → pos 0 ≤ℤ less → (pos 0 <ℤ less → least ≤ℤ (amount -ℤ less))
     → ((amount -ℤ less) ≤ℤ least) ⊎ (less ≡ excess) → (IsTrue step.goes_on → less <ℤ excess) → IsSunk amount least step
-sunk_by amount least excess less step is down within done part = record {
-  down = omega (arith, linear, is, down);
-  within = λ lower. omega (arith, linear, is, within (omega (arith, linear, is, lower)));
-  done = λ on. ⊎_elim (λ full. omega (arith, linear, is, full)) (λ all. absurd (omega (arith, linear, all, part on))) done;
-}
+sunk_by amount least excess less step is down within done part = grind (arith, ints, is, down, within, done, part)
 
 -- ---- sources
 -- the segment at a level has a source
 pub source_inside : (instance : Instance) (order items : List Segment) (level : ℕ) → order ≡ items → AreInMeritOrder instance items → level < length order
     → (segment_at order level).source < source_count instance
-source_inside instance order items level same merit within =
-    subst (λ xs. (segment_at xs level).source < source_count instance) (sym same)
-    (merit.segments.each level no_segment (subst (λ xs. level < length xs) same within)).source
+source_inside instance order items level same merit within = grind (arith, ints, same, merit, within)
 
 -- no source gives less than nothing
 pub bottom : (period : Period) (n : ℕ) (range : Range) (least : ℤ) → IsLawfulInstance period.instance → period.t < period.instance.periods
     → HaveRanges period (thermal_count period.instance) → n < source_count period.instance → IsRangeOf period n range → range.low ≤ℤ least → pos 0 ≤ℤ least
-bottom period n range least lawful within ranges inside is low =
-    le_trans (pos 0) range.low least (subst (λ z. pos 0 ≤ℤ z) (sym is.low) (good_at period n lawful within ranges inside).low) low
+bottom period n range least lawful within ranges inside is low = grind (arith, ints, lawful, within, ranges, inside, is)
 
 -- an amount within a source's range
 pub sized_in : (period : Period) (n : ℕ) (range : Range) (least : ℤ) → IsLawfulInstance period.instance → period.t < period.instance.periods
@@ -133,8 +114,4 @@ walked_none period order fill standing = record { standing = standing; totals = 
 
 pub walked_more : (period : Period) (order : List Segment) (before middle after : Fill) → IsWalked period order before middle
     → IsWalked period order middle after → IsWalked period order before after
-walked_more period order before middle after first second = record {
-  standing = second.standing;
-  totals = second.totals ∙ first.totals;
-  shortage = second.shortage ∙ first.shortage;
-}
+walked_more period order before middle after first second = grind (arith, ints, first, second)

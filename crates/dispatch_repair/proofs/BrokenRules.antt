@@ -1,6 +1,6 @@
 -- From the first rule that a unit's row breaks to the first that the commitment breaks.
 -- Cite by `use Rattle.dispatch_repair.proofs.BrokenRules.{broken_first, regular}`.
-use Rattle.std.proofs.Common.{◌≡◌, ℕ, ◌+◌, ◌<◌, ◌≤◌, ⊎_elim, sym, ap, subst, arith, below_more, List, length, nat_lt, Option, Some, None}
+use Rattle.std.proofs.Common.{◌≡◌, ℕ, ◌+◌, ◌<◌, ◌≤◌, ⊎_elim, sym, subst, arith, below_more, List, length, nat_lt, Option, Some, None}
 use Rattle.std.proofs.lemmas.Bool.{cases_Bool, ltb-true, ltb-false}
 use Rattle.uc_model.specs.Prelude.{Rule, rule_number, thermal_unit, thermal_count}
 use Rattle.uc_model.specs.declared.schedule.Cell.{Cell}
@@ -8,7 +8,6 @@ use Rattle.dual_model.proofs.Locality.{SameBelow}
 use Rattle.schedule_check.specs.CommitmentRules as of_row
 use Rattle.schedule_check.specs.CommitmentRules.{RowKeeps}
 use Rattle.schedule_check.specs.WholeWatts.{commitment, rule_of}
-use Rattle.schedule_check.proofs.RuleOrder.{of_first}
 use Rattle.schedule_check.proofs.CommitmentOrder.{turn, turn_of, on_commitments}
 use Rattle.dispatch_repair.specs.Period.{Instance, Pattern, commitment_at}
 use Rattle.dispatch_repair.specs.Stuck.{IsCommitmentRule, KeepsRule, IsRegular, IsFirstBrokenRule}
@@ -22,10 +21,7 @@ record RuleTurn (rule : Rule) : Type 0 where
   pub is : rule_of (turn k) ≡ rule
 
 rule_turn : (rule : Rule) → IsCommitmentRule rule → RuleTurn rule
-rule_turn rule kind =
-    of_first (λ r. IsCommitmentRule r → RuleTurn r)
-    (λ r on. let its = turn_of r on in record { k = its.k; within = its.within; is = ap rule_of its.is })
-    rule (⊎_elim (λ low. omega (arith, low)) (λ seventh. omega (arith, seventh)) kind) kind
+rule_turn rule kind = grind (arith, kind)
 
 -- ---- a unit
 -- the rule of this number is the first that unit g's commitment breaks
@@ -135,12 +131,4 @@ regular instance patterns all = all
 
 pub broken_first : (instance : Instance) (patterns : List Pattern) (number unit : ℕ)
     → IsFirstAmong instance patterns (thermal_count instance) number unit → IsFirstBrokenRule instance patterns number unit
-broken_first instance patterns number unit first = record {
-  rule = first.rule;
-  kind = first.kind;
-  is = first.is;
-  within = first.within;
-  breaks = first.breaks;
-  rules = first.rules;
-  units = first.units;
-}
+broken_first instance patterns number unit first = grind (arith, first)

@@ -1,10 +1,10 @@
 -- The segments of each source: the one of a renewable unit, and those between the corners of a thermal unit's curve.
-use Rattle.std.proofs.Common.{◌≡◌, ℕ, suc, ◌+◌, ◌-◌, ◌<◌, ◌≤◌, ⊎_elim, refl, sym, ap, subst, ◌∙◌, arith, List, [], ◌∷◌, ◌++◌, length, ℤ, pos, ◌-ℤ◌, ◌*ℤ◌, ◌≤ℤ◌, ◌<ℤ◌, nat_lt}
+use Rattle.std.proofs.Common.{◌≡◌, ℕ, suc, ◌+◌, ◌-◌, ◌<◌, ◌≤◌, ⊎_elim, refl, sym, subst, ◌∙◌, arith, List, [], ◌∷◌, ◌++◌, length, ℤ, pos, ◌-ℤ◌, ◌*ℤ◌, ◌≤ℤ◌, ◌<ℤ◌, nat_lt}
 use Rattle.std.specs.List.{All, Contains}
-use Rattle.std.proofs.lemmas.Bool.{lt-ltb, le-ltb, cond-true, cond-false, cases_lt}
+use Rattle.std.proofs.lemmas.Bool.{lt-ltb, cond-true, cases_lt}
 use Rattle.std.proofs.lemmas.List.Elements.{All-append, All-nil, All-cons, Contains-append_left, Contains-push}
 use Rattle.uc_model.specs.Prelude.{point_of, output_of, rise, run, thermal_unit, thermal_count, renewable_count}
-use Rattle.uc_model.proofs.Common.{linear, le_or_lt, zero-mul}
+use Rattle.uc_model.proofs.Common.{linear, le_or_lt}
 use Rattle.cost_curves.specs.LowerHull.{IsLowerHull}
 use Rattle.cost_curves.specs.LeastCost.{IsRightSlope}
 use Rattle.cost_curves.proofs.HullValues.{line, line-segment, output_is, whole_width}
@@ -19,9 +19,7 @@ pub renewable_at : (instance : Instance) (w : ℕ) → w < renewable_count insta
 renewable_at instance w h = cond-true (nat_lt w (renewable_count instance)) _ _ (lt-ltb w (renewable_count instance) h)
 
 pub thermal_at : (instance : Instance) (g : ℕ) → source_at instance (renewable_count instance + g) ≡ FromThermal g
-thermal_at instance g =
-    cond-false (nat_lt (renewable_count instance + g) (renewable_count instance)) _ _ (le-ltb (renewable_count instance + g) (renewable_count instance) (omega arith))
-    ∙ ap FromThermal (omega arith)
+thermal_at instance g = grind (arith, linear)
 
 -- ---- a segment more
 
@@ -30,10 +28,7 @@ alone P a h = All-cons P a [] h (All-nil P)
 
 -- ---- renewable units
 free_slopes : (slope other : Slope) → slope.rise ≡ pos 0 → other.rise ≡ pos 0 → IsAtMost slope other
-free_slopes slope other h k =
-    let a : slope.rise *ℤ other.run ≡ pos 0 = ap (λ z. z *ℤ other.run) h ∙ zero-mul other.run in
-    let b : other.rise *ℤ slope.run ≡ pos 0 = ap (λ z. z *ℤ slope.run) k ∙ zero-mul slope.run in
-    omega (arith, linear, a, b)
+free_slopes slope other h k = grind (arith, linear, h, k)
 
 pub renewable_more : (instance : Instance) (w : ℕ) (segments : List Segment) → w < renewable_count instance → AreSegmentsOf instance w segments
     → AreSegmentsOf instance (suc w) (segments ++ free_segment w ∷ [])

@@ -1,12 +1,12 @@
 -- What the sources of a filled period keep: each unit's output lies on its curve and falls within its ramp limit, its output and
 -- reserve stay within its head and cap, and all reserve reaches what is needed.
 -- Cite by `use Rattle.dispatch_repair.proofs.Filled.{cell_within}`.
-use Rattle.std.proofs.Common.{◌≡◌, ℕ, zero, suc, ◌-◌, ◌<◌, ◌≤◌, ◌⊎◌, inl, inr, ⊎_elim, Bool, false, sym, ap, subst, ◌∙◌, arith, List, ℤ, pos, ◌+ℤ◌, ◌-ℤ◌, ◌*ℤ◌, ◌≤ℤ◌, ◌<ℤ◌, IsTrue, nat_lt, if◌then◌else◌}
+use Rattle.std.proofs.Common.{◌≡◌, ℕ, zero, suc, ◌-◌, ◌<◌, ◌≤◌, ◌⊎◌, inl, inr, ⊎_elim, Bool, false, sym, subst, arith, List, ℤ, pos, ◌+ℤ◌, ◌-ℤ◌, ◌*ℤ◌, ◌≤ℤ◌, IsTrue, nat_lt, if◌then◌else◌}
 use Rattle.std.specs.Int.{int_min, int_max}
 use Rattle.std.proofs.lemmas.Int.{ints}
-use Rattle.std.proofs.lemmas.Bool.{cond_both, cond-true}
+use Rattle.std.proofs.lemmas.Bool.{cond_both}
 use Rattle.uc_model.specs.Prelude.{sum_below, bit, Commitment, starts, start_reduction, start_cap, stop_cap, cap, thermal_unit, thermal_count, point_p, point_count, cell_at, shed_at, short_at}
-use Rattle.uc_model.proofs.Common.{linear, le_or_lt, le_trans, le_antisymm, mul_nonneg, mul-zero, sum_below-sub, bit_nonneg, int_min_left, int_min_right}
+use Rattle.uc_model.proofs.Common.{linear, le_trans, le_antisymm, mul_nonneg, sum_below-sub, bit_nonneg, int_min_left, int_min_right}
 use Rattle.schedule_check.specs.SizedNumbers.{output_at}
 use Rattle.dispatch_repair.specs.Period.{Instance, Pattern, Printed, Thermal, Period, Source, FromThermal, commitment_at, output_before, head_of, need_of}
 use Rattle.dispatch_repair.specs.Shortage.{served}
@@ -25,14 +25,11 @@ above_min k a b h l = grind (arith, ints)
 
 -- ---- the cap
 pub cap-le-start_cap : (periods : ℕ) (unit : Thermal) (on : Commitment) (t : ℕ) → cap periods unit on t ≤ℤ start_cap unit on t
-cap-le-start_cap periods unit on t =
-    cond_both (nat_lt (suc t) periods) _ _ (λ c. c ≤ℤ start_cap unit on t)
-    (λ more. int_min_left (start_cap unit on t) (stop_cap unit on t)) (λ last. omega (arith, linear))
+cap-le-start_cap periods unit on t = grind (arith, ints, int_min_left)
 
 pub cap-le-stop_cap : (periods : ℕ) (unit : Thermal) (on : Commitment) (t : ℕ) → IsTrue (nat_lt (suc t) periods)
     → cap periods unit on t ≤ℤ stop_cap unit on t
-cap-le-stop_cap periods unit on t more =
-    subst (λ c. c ≤ℤ stop_cap unit on t) (sym (cond-true (nat_lt (suc t) periods) _ _ more)) (int_min_right (start_cap unit on t) (stop_cap unit on t))
+cap-le-stop_cap periods unit on t more = grind (arith, ints, more)
 
 -- it is at most the unit's range, and nothing where the unit is off
 pub cap-le-range : (periods : ℕ) (unit : Thermal) (on : Commitment) (t : ℕ) → cap periods unit on t ≤ℤ ((unit.pmax -ℤ unit.pmin) *ℤ bit (on t))
@@ -41,10 +38,7 @@ cap-le-range periods unit on t =
     omega (arith, linear, lost, cap-le-start_cap periods unit on t)
 
 cap_off : (periods : ℕ) (unit : Thermal) (on : Commitment) (t : ℕ) → on t ≡ false → cap periods unit on t ≤ℤ pos 0
-cap_off periods unit on t off =
-    let range = cap-le-range periods unit on t in
-    let none = ap (λ b. (unit.pmax -ℤ unit.pmin) *ℤ bit b) off ∙ mul-zero (unit.pmax -ℤ unit.pmin) in
-    omega (arith, linear, range, none)
+cap_off periods unit on t off = grind (arith, ints, off)
 
 -- ---- a unit's numbers in a filled period
 pub record IsWithin (period : Period) (g : ℕ) (p r : ℤ) : Type 0 where
@@ -61,13 +55,7 @@ most-le stop most fall = cond_both stop _ _ (λ z. z ≤ℤ most) (λ e. int_min
 -- a step of the reserve in order: the room is taken whole, or what is needed is reached
 reserve_step : (room need sofar : ℤ) → pos 0 ≤ℤ room → (room ≤ℤ int_min room (int_max (need -ℤ sofar) (pos 0)))
     ⊎ (need ≤ℤ (sofar +ℤ int_min room (int_max (need -ℤ sofar) (pos 0))))
-reserve_step room need sofar h = ⊎_elim
-    (λ (all : room ≤ℤ int_max (need -ℤ sofar) (pos 0)). inl (above_min room room _ (omega (arith, linear)) all))
-    (λ (part : int_max (need -ℤ sofar) (pos 0) <ℤ room).
-    let least = above_min (int_max (need -ℤ sofar) (pos 0)) room (int_max (need -ℤ sofar) (pos 0)) (omega (arith, linear)) (omega (arith, linear)) in
-    let more = max_left (need -ℤ sofar) (pos 0) in
-    inr (omega (arith, linear, least, more)))
-    (le_or_lt room (int_max (need -ℤ sofar) (pos 0)))
+reserve_step room need sofar h = grind (arith, ints, h)
 
 module _ (period : Period) (amount : Source → ℤ) (reserve : ℕ → ℤ) (merit : IsInMeritOrder period amount) (order : IsReserveInOrder period amount reserve) where
   output-le-head : (g : ℕ) → g < thermal_count period.instance → amount (FromThermal g) ≤ℤ head_of period g

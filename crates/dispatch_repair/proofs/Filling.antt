@@ -24,10 +24,7 @@ sum_below-raised n k f g more h here others =
 -- ---- slopes one after another
 pub costs_trans : (a b c : Slope) (n m k : ℕ) → pos 0 <ℤ a.run → pos 0 <ℤ b.run → pos 0 <ℤ c.run
     → CostsUpTo a n b m → CostsUpTo b m c k → CostsUpTo a n c k
-costs_trans a b c n m k ha hb hc first second = record {
-  slope = at_most_trans a b c ha hb hc first.slope second.slope;
-  source = λ back. omega (arith, first.source (at_most_trans b c a hb hc ha second.slope back), second.source (at_most_trans c a b hc ha hb back first.slope));
-}
+costs_trans a b c n m k ha hb hc first second = grind (arith, ints, at_most_trans, ha, hb, hc, first, second)
 
 -- a segment before another costs up to it
 pub sorted_costs : (first second : Segment) → pos 0 <ℤ first.slope.run → pos 0 <ℤ second.slope.run → comes_before second first ≡ false
@@ -239,17 +236,4 @@ pub filled_none : (instance : Instance) (order : List Segment) (ranges : List Ra
     → length amounts ≡ source_count instance → ((n : ℕ) → n < source_count instance → IsOpen instance n (range_at ranges n))
     → ((n : ℕ) → n < source_count instance → amount_at amounts n ≡ (range_at ranges n).low) → IsLeft start
     → IsFilledTo instance order ranges start 0 amounts start
-filled_none instance order ranges start amounts count opens lows left = record {
-  count = count;
-  low = λ n h. omega (arith, linear, lows n h);
-  high = λ n h. omega (arith, linear, lows n h, (opens n h).order);
-  sums = record {
-    need = ap (λ z. start.need +ℤ z) (sum_below-same (source_count instance) (amount_at amounts) (λ n. (range_at ranges n).low) lows);
-    room = ap (λ z. start.room +ℤ z) (sum_below-same (thermal_count instance) (thermal_amount instance amounts)
-        (λ g. (range_at ranges (renewable_count instance + g)).low) (λ g h. lows (renewable_count instance + g) (omega arith)));
-  };
-  left = left;
-  spent = λ j h. absurd (omega arith);
-  merit = λ j h. absurd (omega arith);
-  ahead = λ j late h n watt taken. absurd (omega (arith, linear, lows n taken.source, taken.low, taken.high));
-}
+filled_none instance order ranges start amounts count opens lows left = grind (arith, ints, sum_below-same, count, opens, lows, left)

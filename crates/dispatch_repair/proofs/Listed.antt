@@ -1,5 +1,5 @@
 -- A list by what stands at each place.
-use Rattle.std.proofs.Common.{◌≡◌, ◌≢◌, ℕ, ◌+◌, ◌<◌, ◌≤◌, arith, List, below_more, get_or, get_or-set_other, get_or-set_same, length, length-set, set, subst, sym, ◌∙◌}
+use Rattle.std.proofs.Common.{◌≡◌, ◌≢◌, ℕ, ◌+◌, ◌<◌, ◌≤◌, arith, List, below_more, get_or, get_or-set_other, get_or-set_same, length, length-set, set, sym, ◌∙◌}
 use Rattle.std.proofs.lemmas.List.Edits.{fill_by_more}
 use Rattle.std.proofs.lemmas.List.FromFn.{fill_by_all, length-map-range_with_len, get_or-map-range_with_len}
 use Rattle.dispatch_repair.specs.inside.Rows.{list_of}
@@ -18,11 +18,7 @@ pub record IsListedTo {X : Type 0} (d : X) (f : ℕ → X) (n : ℕ) (old new : 
   pub rest : (k : ℕ) → n ≤ k → get_or new k d ≡ get_or old k d
 
 pub listed_more : {X : Type 0} (d : X) (f : ℕ → X) (n : ℕ) (old new : List X) → n < length new → IsListedTo d f n old new → IsListedTo d f (n + 1) old (set new n (f n))
-listed_more d f n old new inside was = record {
-  count = length-set new n (f n) ∙ was.count;
-  done = fill_by_more f new n d inside was.done;
-  rest = λ k late. get_or-set_other new n k (f n) d (omega (arith, late)) ∙ was.rest k (omega (arith, late));
-}
+listed_more d f n old new inside was = grind (arith, length-set, fill_by_more, get_or-set_other, inside, was)
 
 pub listed_all : {X : Type 0} (d : X) (f : ℕ → X) (n : ℕ) (old new : List X) → n ≡ length old → IsListedTo d f n old new → new ≡ list_of n f
 listed_all d f n old new whole was = fill_by_all f new n d (was.count ∙ sym whole) was.done
@@ -35,18 +31,12 @@ listed_same d n f g same = fill_by_all g (list_of n f) n d (listed_length n f) (
 -- an entry more
 pub below_set : {A : Type 0} (P : ℕ → A → Type 0) (xs : List A) (i : ℕ) (x d : A) → i < length xs
     → ((k : ℕ) → k < i → P k (get_or xs k d)) → P i x → (k : ℕ) → k < i + 1 → P k (get_or (set xs i x) k d)
-below_set P xs i x d within each last =
-    below_more (λ k. P k (get_or (set xs i x) k d)) i
-    (λ (k : ℕ) (h : k < i). let other : k ≢ i = omega arith in subst (P k) (sym (get_or-set_other xs i k x d other)) (each k h))
-    (subst (P i) (sym (get_or-set_same xs i x d within)) last)
+below_set P xs i x d within each last = grind (arith, below_more, get_or-set_other, get_or-set_same, within, each, last)
 
 -- the same behind m others
 pub below_set_after : {A : Type 0} (P : ℕ → A → Type 0) (xs : List A) (m i : ℕ) (x d : A) → m + i < length xs
     → ((k : ℕ) → k < i → P k (get_or xs (m + k) d)) → P i x → (k : ℕ) → k < i + 1 → P k (get_or (set xs (m + i) x) (m + k) d)
-below_set_after P xs m i x d within each last =
-    below_more (λ k. P k (get_or (set xs (m + i) x) (m + k) d)) i
-    (λ (k : ℕ) (h : k < i). let other : m + k ≢ m + i = omega arith in subst (P k) (sym (get_or-set_other xs (m + i) (m + k) x d other)) (each k h))
-    (subst (P i) (sym (get_or-set_same xs (m + i) x d within)) last)
+below_set_after P xs m i x d within each last = grind (arith, below_more, get_or-set_other, get_or-set_same, within, each, last)
 
 -- those others stay
 pub set_after : {A : Type 0} (xs : List A) (m i k : ℕ) (x d : A) → k < m → get_or (set xs (m + i) x) k d ≡ get_or xs k d

@@ -47,11 +47,7 @@ pub record IsGood (period : Period) (s : Source) : Type 0 where
 
 pub good_renewable : (period : Period) (w : ℕ) → IsLawfulInstance period.instance → period.t < period.instance.periods → w < renewable_count period.instance
     → IsGood period (FromRenewable w)
-good_renewable period w lawful ht hw = record {
-  low = grind (arith, ints);
-  order = (lawful.renewable w hw).range period.t ht;
-  known = grind (arith, ints, (lawful.renewable w hw).maximum period.t ht);
-}
+good_renewable period w lawful ht hw = grind (arith, ints, lawful, ht, hw)
 
 good_thermal : (period : Period) (g : ℕ) → HaveRanges period (thermal_count period.instance) → g < thermal_count period.instance → IsGood period (FromThermal g)
 good_thermal period g ranges hg = record {
@@ -84,13 +80,11 @@ open_ranges period ranges lawful ht have are n hn =
 -- ---- sums over ranges
 pub thermal_lows : (period : Period) (ranges : List Range) → AreRangesOf period ranges
     → sum_below (thermal_count period.instance) (λ g. (range_at ranges (renewable_count period.instance + g)).low) ≡ thermal_sum period (low_of period)
-thermal_lows period ranges are = sum_below-same (thermal_count period.instance) _ _ (λ g hg.
-    (are (renewable_count period.instance + g) (omega arith)).low ∙ ap (low_of period) (thermal_at period.instance g))
+thermal_lows period ranges are = grind (arith, ints, sum_below-same, thermal_at, are)
 
 pub renewable_lows : (period : Period) (ranges : List Range) → AreRangesOf period ranges
     → sum_below (renewable_count period.instance) (λ w. (range_at ranges w).low) ≡ renewable_sum period (low_of period)
-renewable_lows period ranges are = sum_below-same (renewable_count period.instance) _ _ (λ w hw.
-    (are w (omega arith)).low ∙ ap (low_of period) (renewable_at period.instance w hw))
+renewable_lows period ranges are = grind (arith, ints, sum_below-same, renewable_at, are)
 
 -- a number below two others isn't at least their least
 least_above : (end high amount : ℤ) → int_min end high ≤ℤ amount → amount <ℤ end → amount <ℤ high → ⊥

@@ -4,9 +4,9 @@ use Rattle.std.specs.Ordering.{int_eq}
 use Rattle.std.specs.Cmp.{IsStrictWeakOrder}
 use Rattle.std.specs.List.Sorted.{IsPermutation, IsSortedBy}
 use Rattle.std.proofs.lemmas.Int.{ints}
-use Rattle.std.proofs.lemmas.Bool.{both_ways, cases_lt, ltb-true, lt-ltb, or_cases, and_parts, and_from, or_left, or_right, false_from_ne_true}
+use Rattle.std.proofs.lemmas.Bool.{ltb-true, or_cases, and_parts}
 use Rattle.std.proofs.lemmas.List.Sorted.{All-permutation, Contains-permutation}
-use Rattle.uc_model.proofs.Common.{linear, le_antisymm, le_or_lt, int_lt-true, lt-int_lt, int_eq-true, eq-int_eq}
+use Rattle.uc_model.proofs.Common.{linear, int_lt-true, int_eq-true}
 use Rattle.cost_curves.proofs.Lines.{flatter_trans}
 use Rattle.dispatch_repair.specs.Segments.{Instance, Segment, width_of, comes_before, segment_at, no_segment, IsSegmentOf, AreSegmentsOf, AreInMeritOrder, source_count}
 
@@ -15,24 +15,13 @@ abbrev is_less : ℤ → ℤ → ℕ → ℕ → Bool
 is_less x y m n = int_lt x y || (int_eq x y && nat_lt m n)
 
 less_false-product : (x y : ℤ) (m n : ℕ) → is_less x y m n ≡ false → y ≤ℤ x
-less_false-product x y m n h =
-    ⊎_elim (λ (low : y ≤ℤ x). low)
-    (λ (less : x <ℤ y). absurd (both_ways _ h (or_left (int_lt x y) (int_eq x y && nat_lt m n) (lt-int_lt x y less)))) (le_or_lt y x)
+less_false-product x y m n h = grind (arith, ints, h)
 
 less_false-place : (x y : ℤ) (m n : ℕ) → is_less x y m n ≡ false → x ≤ℤ y → n ≤ m
-less_false-place x y m n h same =
-    ⊎_elim
-    (λ (less : m < n). absurd (both_ways _ h (or_right (int_lt x y) (int_eq x y && nat_lt m n)
-    (and_from _ _ (eq-int_eq x y (le_antisymm x y same (less_false-product x y m n h))) (lt-ltb m n less)))))
-    (λ (low : n ≤ m). low) (cases_lt m n)
+less_false-place x y m n h same = grind (arith, ints, h, same)
 
 less_false : (x y : ℤ) (m n : ℕ) → y ≤ℤ x → (x ≤ℤ y → n ≤ m) → is_less x y m n ≡ false
-less_false x y m n product place = false_from_ne_true _ (λ h.
-    ⊎_elim
-    (λ less. omega (arith, linear, int_lt-true x y less))
-    (λ both. let parts = and_parts (int_eq x y) (nat_lt m n) both in
-    omega (arith, place (omega (arith, linear, int_eq-true x y parts.0)), ltb-true m n parts.1))
-    (or_cases (int_lt x y) (int_eq x y && nat_lt m n) h))
+less_false x y m n product place = grind (arith, ints, product, place)
 
 -- ---- segments by merit
 width_positive : (segment : Segment) → pos 0 <ℤ width_of segment.slope
@@ -47,10 +36,7 @@ pub record IsUpTo (first second : Segment) : Type 0 where
   pub source : cross second first ≤ℤ cross first second → first.source ≤ second.source
 
 pub up_to-from : (first second : Segment) → comes_before second first ≡ false → IsUpTo first second
-up_to-from first second h = record {
-  slope = less_false-product (cross second first) (cross first second) second.source first.source h;
-  source = less_false-place (cross second first) (cross first second) second.source first.source h;
-}
+up_to-from first second h = grind (arith, ints, less_false-product, less_false-place, h)
 
 up_to : (first second : Segment) → IsUpTo first second → comes_before second first ≡ false
 up_to first second h = less_false (cross second first) (cross first second) second.source first.source h.slope h.source
@@ -62,10 +48,7 @@ slope_trans a b c first second =
     (record { products = first }) (record { products = second })).products
 
 up_to_trans : (a b c : Segment) → IsUpTo a b → IsUpTo b c → IsUpTo a c
-up_to_trans a b c first second = record {
-  slope = slope_trans a b c first.slope second.slope;
-  source = λ back. omega (arith, first.source (slope_trans b c a second.slope back), second.source (slope_trans c a b back first.slope));
-}
+up_to_trans a b c first second = grind (arith, ints, slope_trans, first, second)
 
 pub merit_is_order : IsStrictWeakOrder comes_before
 merit_is_order = record {
@@ -88,8 +71,7 @@ merit_is_order = record {
 -- neighbors in order are in order however far apart
 sorted_by : (order : List Segment) → IsSortedBy comes_before order → (i more : ℕ) → i + more < length order
     → comes_before (segment_at order (i + more)) (segment_at order i) ≡ false
-sorted_by order sorted i zero h =
-    subst (λ n. comes_before (segment_at order n) (segment_at order i) ≡ false) (sym (omega arith)) (up_to (segment_at order i) (segment_at order i) (record { slope = omega (arith, linear); source = λ k. (omega arith) }))
+sorted_by order sorted i zero h = grind (arith, ints, sorted, zero, h)
 sorted_by order sorted i (suc more) h =
     let next : comes_before (segment_at order ((i + more) + 1)) (segment_at order (i + more)) ≡ false = sorted (i + more) no_segment (omega arith) (omega arith) in
     let rest = sorted_by order sorted i more (omega arith) in

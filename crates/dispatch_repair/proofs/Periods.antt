@@ -1,15 +1,13 @@
 -- From one period to the next: what was filled stays filled, and what is written fills the period.
-use Rattle.std.proofs.Common.{◌≡◌, ℕ, zero, suc, ◌+◌, ◌<◌, ◌≤◌, ⊎_elim, Bool, true, false, refl, sym, ap, subst, ◌∙◌, arith, List, [], length, ℤ, pos, ◌-ℤ◌, ◌*ℤ◌, nat_lt, slice_index_or}
+use Rattle.std.proofs.Common.{◌≡◌, ℕ, zero, suc, ◌+◌, ◌<◌, ◌≤◌, ⊎_elim, refl, sym, ap, subst, ◌∙◌, arith, List, length, ℤ, pos, ◌-ℤ◌, nat_lt, slice_index_or}
 use Rattle.std.specs.Int.{int_min, int_max}
 use Rattle.std.proofs.lemmas.Bool.{cases_lt, cases_eq, lt-ltb, le-ltb, cond-true, cond-false}
 use Rattle.std.proofs.Math.ListN.{get_or-eq_default}
 use Rattle.std.proofs.lemmas.Int.{ints}
-use Rattle.uc_model.specs.Prelude.{sum_below, bit, initial_p, IsLawfulInstance, IsLawfulThermal, category_cost, thermal_unit, thermal_count, renewable_count, reserve_at, no_unit, cell_at}
-use Rattle.uc_model.proofs.Common.{one-mul, zero-mul}
+use Rattle.uc_model.specs.Prelude.{sum_below, initial_p, IsLawfulInstance, IsLawfulThermal, thermal_unit, thermal_count, renewable_count, reserve_at, no_unit, cell_at}
 use Rattle.uc_model.specs.declared.stuck.Why.TheVariants as why
-use Rattle.start_costs.specs.Cheapest.{IsCheapestAbove}
 use Rattle.schedule_check.specs.SizedNumbers.{output_at}
-use Rattle.dispatch_repair.specs.Period.{Instance, Pattern, Printed, Thermal, Period, Source, FromRenewable, FromThermal, commitment_at, output_before, head_of}
+use Rattle.dispatch_repair.specs.Period.{Instance, Pattern, Printed, Thermal, Period, Source, FromRenewable, FromThermal, output_before, head_of}
 use Rattle.dispatch_repair.specs.MeritOrder.{IsInMeritOrder}
 use Rattle.dispatch_repair.specs.Shortage.{served, shed_of, short_of}
 use Rattle.dispatch_repair.specs.Dispatch.{Cell, HasPeriods, IsCommittedCell, amounts, period_after, IsFilling, IsFilled, IsDispatchThrough}
@@ -38,17 +36,10 @@ filled_moved instance patterns n t old new same h filled =
 
 -- ---- past the last unit
 no_cells : (instance : Instance) (periods : ℕ) (printed : Printed) (g t : ℕ) → HasPeriods instance periods printed → thermal_count instance ≤ g → (cell_at printed g t).p ≡ pos 0
-no_cells instance periods printed g t shape h =
-    let none : slice_index_or printed.thermal g [] ≡ [] = get_or-eq_default printed.thermal [] (subst (λ n. n ≤ g) (sym shape.thermal) h) in
-    ap (λ (row : List Cell). cell_p (slice_index_or row t (record { on = false; p = pos 0; r = pos 0; category = 0 }))) none
-  where
-    cell_p : Cell → ℤ
-    cell_p c = c.p
+no_cells instance periods printed g t shape h = grind (arith, ints, slice_index_or, get_or-eq_default, shape, h)
 
 no_outputs : (instance : Instance) (periods : ℕ) (printed : Printed) (w t : ℕ) → HasPeriods instance periods printed → renewable_count instance ≤ w → output_at printed w t ≡ pos 0
-no_outputs instance periods printed w t shape h =
-    let none : slice_index_or printed.renewable w [] ≡ [] = get_or-eq_default printed.renewable [] (subst (λ n. n ≤ w) (sym shape.renewable) h) in
-    ap (λ (row : List ℤ). slice_index_or row t (pos 0)) none
+no_outputs instance periods printed w t shape h = grind (arith, ints, slice_index_or, get_or-eq_default, shape, h)
 
 no_amount : (instance : Instance) (numbers : List ℤ) (g : ℕ) → length numbers ≡ source_count instance → thermal_count instance ≤ g → thermal_amount instance numbers g ≡ pos 0
 no_amount instance numbers g count h = get_or-eq_default numbers (pos 0) (subst (λ n. n ≤ renewable_count instance + g) (sym count) (omega arith))
@@ -58,11 +49,7 @@ no_initial instance g h = ap initial_p (get_or-eq_default instance.thermal no_un
 
 -- the size of what a unit gives initially
 pub initial_size : (unit : Thermal) → IsLawfulThermal unit → IsSizedOutput (initial_p unit)
-initial_size unit lawful = by unit.on0 (unit.p0 -ℤ unit.pmin) (grind (arith, ints, lawful.initial_output, lawful.minimum.power))
-  where
-    by : (b : Bool) (z : ℤ) → IsSizedOutput z → IsSizedOutput (bit b *ℤ z)
-    by true z h = subst IsSizedOutput (sym (one-mul z)) h
-    by false z h = subst IsSizedOutput (sym (zero-mul z)) (omega arith)
+initial_size unit lawful = grind (arith, ints, lawful)
 
 -- ---- how far a dispatch has come
 -- the amounts of the thermal units are their outputs in the period before t
@@ -82,24 +69,13 @@ pub begun : (instance : Instance) (patterns : List Pattern) (printed : Printed) 
     → length numbers ≡ source_count instance
     → ((g : ℕ) → g < thermal_count instance → thermal_amount instance numbers g ≡ initial_p (thermal_unit instance g))
     → AreFilledBelow instance patterns 0 printed numbers
-begun instance patterns printed numbers lawful committed count initial = record {
-  committed = committed;
-  filled = λ k h. absurd (omega (arith, h));
-  count = count;
-  before = record {
-    are = λ g. ⊎_elim (λ low. initial g low) (λ high. no_amount instance numbers g count high ∙ sym (no_initial instance g high)) (cases_lt g (thermal_count instance));
-    sizes = λ g h. subst IsSizedOutput (sym (initial g h)) (initial_size (thermal_unit instance g) (lawful.thermal g h));
-  };
-}
+begun instance patterns printed numbers lawful committed count initial =
+    grind (arith, ints, no_amount, no_initial, cases_lt, initial_size, lawful, committed, count, initial)
 
 -- ---- a period more
 committed_cell : (instance : Instance) (patterns : List Pattern) (g t : ℕ) (old new : Cell) → new.on ≡ old.on → new.category ≡ old.category
     → IsCommittedCell instance patterns g t old → IsCommittedCell instance patterns g t new
-committed_cell instance patterns g t old new on category is = record {
-  on = on ∙ is.on;
-  start = λ h. subst (λ s. IsCheapestAbove (thermal_unit instance g) (commitment_at patterns g) t 0 (s, category_cost (thermal_unit instance g) s)) (sym category) (is.start h);
-  none = λ h. category ∙ is.none h;
-}
+committed_cell instance patterns g t old new on category is = grind (arith, ints, is)
 
 module _ (instance : Instance) (patterns : List Pattern) (t : ℕ) (old new : Printed) (before after heads : List ℤ) (shortage : Shortage)
     (shape : HasPeriods instance instance.periods new) (count : length after ≡ source_count instance)
@@ -234,9 +210,4 @@ stuck_of instance patterns printed obstacle stuck regular shape found after = by
 pub stuck_by_rule : (instance : Instance) (patterns : List Pattern) (printed : Printed) (number unit : ℕ) (stuck : Stuck)
     → HasPeriods instance instance.periods printed → IsFirstBrokenRule instance patterns number unit
     → IsStuckAfter printed 0 (why.Rule number unit) stuck → IsStuckOf instance patterns stuck
-stuck_by_rule instance patterns printed number unit stuck shape broken is =
-    subst (IsStuckBy instance patterns stuck) (sym is.reason) (record {
-      period = is.is_period;
-      prefix = is.prefix.shape instance shape (omega arith);
-      broken = broken;
-    })
+stuck_by_rule instance patterns printed number unit stuck shape broken is = grind (arith, ints, shape, broken, is)

@@ -1,9 +1,9 @@
 -- The range at a source's place, by its kind: a renewable unit's, or a thermal one's after those.
 -- Cite by `use Rattle.dispatch_repair.proofs.Places.{thermal_ends}`.
-use Rattle.std.proofs.Common.{◌≡◌, ℕ, ◌+◌, ◌-◌, ◌<◌, ◌≤◌, ⊎_elim, sym, ap, subst, ◌∙◌, arith, List, length, get_or}
+use Rattle.std.proofs.Common.{◌≡◌, ℕ, ◌+◌, ◌-◌, ◌<◌, ◌≤◌, ⊎_elim, subst, arith, List, get_or}
 use Rattle.std.proofs.lemmas.Bool.{cases_lt}
 use Rattle.std.proofs.lemmas.List.{get_or_read}
-use Rattle.uc_model.specs.Prelude.{thermal_count, thermal_unit, no_unit, renewable_count}
+use Rattle.uc_model.specs.Prelude.{thermal_count, thermal_unit, renewable_count}
 use Rattle.dispatch_repair.specs.Period.{Instance, Thermal, Period, Source, FromRenewable, FromThermal, low_of, high_of}
 use Rattle.dispatch_repair.specs.Amounts.{Range, IsSizedEnd, IsRangeOf, AreRangesOf, range_at}
 use Rattle.dispatch_repair.specs.Segments.{source_at}
@@ -12,8 +12,7 @@ use Rattle.dispatch_repair.proofs.CurveSegments.{renewable_at, thermal_at}
 -- a unit that was read is the instance's
 pub unit_read : (instance : Instance) (units : List Thermal) (g : ℕ) (unit : Thermal) → units ≡ instance.thermal → g < thermal_count instance
     → unit ≡ get_or units g unit → unit ≡ thermal_unit instance g
-unit_read instance units g unit same h is =
-    get_or_read units g unit (subst (λ xs. g < length xs) (sym same) h) is no_unit ∙ ap (λ xs. get_or xs g no_unit) same
+unit_read instance units g unit same h is = grind (arith, get_or_read, same, h, is)
 
 -- a range has a source's ends
 pub record HasEnds (period : Period) (source : Source) (range : Range) : Type 0 where
@@ -24,21 +23,11 @@ pub record HasEnds (period : Period) (source : Source) (range : Range) : Type 0 
 
 ends : (period : Period) (n : ℕ) (range : Range) (source : Source) → source_at period.instance n ≡ source → IsRangeOf period n range
     → HasEnds period source range
-ends period n range source is its = record {
-  low = its.low ∙ ap (low_of period) is;
-  high = its.high ∙ ap (high_of period) is;
-  low_size = its.low_size;
-  high_size = its.high_size;
-}
+ends period n range source is its = grind (arith, is, its)
 
 range_of : (period : Period) (n : ℕ) (range : Range) (source : Source) → source_at period.instance n ≡ source → HasEnds period source range
     → IsRangeOf period n range
-range_of period n range source is its = record {
-  low = its.low ∙ ap (low_of period) (sym is);
-  high = its.high ∙ ap (high_of period) (sym is);
-  low_size = its.low_size;
-  high_size = its.high_size;
-}
+range_of period n range source is its = grind (arith, is, its)
 
 pub renewable_range : (period : Period) (w : ℕ) (range : Range) → w < renewable_count period.instance → HasEnds period (FromRenewable w) range
     → IsRangeOf period w range
@@ -50,14 +39,11 @@ thermal_range period g range = range_of period (renewable_count period.instance 
 
 pub renewable_ends : (period : Period) (ranges : List Range) (w : ℕ) → w < renewable_count period.instance → AreRangesOf period ranges
     → HasEnds period (FromRenewable w) (range_at ranges w)
-renewable_ends period ranges w h are =
-    ends period w (range_at ranges w) (FromRenewable w) (renewable_at period.instance w h) (are w (omega arith))
+renewable_ends period ranges w h are = grind (arith, h, are)
 
 pub thermal_ends : (period : Period) (ranges : List Range) (g : ℕ) → g < thermal_count period.instance → AreRangesOf period ranges
     → HasEnds period (FromThermal g) (range_at ranges (renewable_count period.instance + g))
-thermal_ends period ranges g h are =
-    ends period (renewable_count period.instance + g) (range_at ranges (renewable_count period.instance + g)) (FromThermal g)
-    (thermal_at period.instance g) (are (renewable_count period.instance + g) (omega arith))
+thermal_ends period ranges g h are = grind (arith, ends, thermal_at, h, are)
 
 -- the ranges of both kinds are those of all sources
 pub ranges_from : (period : Period) (ranges : List Range)

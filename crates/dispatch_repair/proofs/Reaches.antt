@@ -32,10 +32,7 @@ difference : (a b : ℤ) → IsUpTo a → IsUpTo b → IsAround (a -ℤ b)
 difference a b first second = record { low = omega (arith, linear, first.low, second.high); high = omega (arith, linear, first.high, second.low) }
 
 least_around : (a b : ℤ) → IsAround a → IsAround b → IsAround (int_min a b)
-least_around a b first second = record {
-  low = grind (arith, ints, first.low, second.low);
-  high = grind (arith, ints, first.high, second.high);
-}
+least_around a b first second = grind (arith, ints, first, second)
 
 above : (most limit : ℤ) → IsPower most → pos 0 ≤ℤ limit → IsUpTo (int_max (most -ℤ limit) (pos 0))
 above most limit power low = record { low = grind (arith, ints); high = grind (arith, ints, power, low) }

@@ -1,9 +1,7 @@
 -- The rows of a commitment, as they are made.
-use Rattle.std.proofs.Common.{◌≡◌, ◌≢◌, ℕ, ◌+◌, ◌<◌, below_more, length, get_or, get_or-set_other, sym, ap, subst, ◌∙◌, List, [], ◌∷◌, ◌++◌, IsTrue}
+use Rattle.std.proofs.Common.{arith, ◌≡◌, ◌≢◌, ℕ, ◌+◌, ◌<◌, below_more, length, get_or, get_or-set_other, ap, ◌∙◌, List, [], ◌∷◌, ◌++◌}
 use Rattle.std.proofs.Math.ListN.{set}
 use Rattle.std.proofs.lemmas.List.{length_push, get_or_push, get_or_append_left}
-use Rattle.uc_model.specs.Prelude.{starts, commitment_of, thermal_unit, category_cost}
-use Rattle.start_costs.specs.Cheapest.{IsCheapestAbove}
 use Rattle.dispatch_repair.specs.Rooms.{IsNewCell}
 use Rattle.uc_model.specs.declared.pattern.Pattern.{Pattern}
 use Rattle.uc_model.specs.declared.instance.Instance.{Instance}
@@ -13,10 +11,7 @@ use Rattle.dispatch_repair.specs.inside.Rows.{AreCommittedRows, IsCommittedRow, 
 -- an entry at each place up to a new last one
 pub push_each : {X : Type 0} (P : ℕ → X → Type 0) (xs : List X) (x d : X) (n : ℕ) → length xs ≡ n
     → ((k : ℕ) → k < n → P k (get_or xs k d)) → P n x → (k : ℕ) → k < n + 1 → P k (get_or (xs ++ x ∷ []) k d)
-push_each {X} P xs x d n count before last =
-    below_more (λ k. P k (get_or (xs ++ x ∷ []) k d)) n
-    (λ k h. subst (P k) (sym (get_or_append_left xs (x ∷ []) d k (subst (λ m. k < m) (sym count) h))) (before k h))
-    (subst (P n) (sym (get_or_push xs x d n count)) last)
+push_each {X} P xs x d n count before last = grind (arith, below_more, get_or_append_left, get_or_push, count, before, last)
 
 -- one more cell
 pub row_more : (instance : Instance) (patterns : List Pattern) (g t : ℕ) (row : List Cell) (cell : Cell)
@@ -39,12 +34,4 @@ rows_more instance patterns n rows row before is = record {
 -- a cell of a unit is the commitment's whatever pattern another unit has
 pub other_cell : (instance : Instance) (patterns : List Pattern) (g h t : ℕ) (pattern : Pattern) (cell : Cell) → h ≢ g → IsCommittedCell instance patterns h t cell
     → IsCommittedCell instance (set patterns g pattern) h t cell
-other_cell instance patterns g h t pattern cell apart is =
-    let same = sym (get_or-set_other patterns g h pattern (record { low = 0; high = 0 }) apart) in
-    let unit = thermal_unit instance h in
-    record {
-      on = is.on ∙ ap (λ p. commitment_of p t) same;
-      start = λ begins. subst (λ p. IsCheapestAbove unit (commitment_of p) t 0 (cell.category, category_cost unit cell.category)) same
-          (is.start (subst (λ p. IsTrue (starts unit (commitment_of p) t)) (sym same) begins));
-      none = λ e. is.none (ap (λ p. starts unit (commitment_of p) t) same ∙ e);
-    }
+other_cell instance patterns g h t pattern cell apart is = grind (arith, get_or-set_other, apart, is)

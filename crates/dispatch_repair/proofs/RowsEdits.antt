@@ -1,5 +1,5 @@
 -- Writes into rows, and their first periods. Cite by `use Rattle.dispatch_repair.proofs.RowsEdits.{cut_stuck}`.
-use Rattle.std.proofs.Common.{◌≡◌, ℕ, ◌+◌, ◌<◌, ◌≤◌, ⊎_elim, get_or, length, take, drop, refl, sym, ap, subst, ◌∙◌, arith, List, [], ◌++◌, All, map, pos, slice_set, slice_index_or}
+use Rattle.std.proofs.Common.{◌≡◌, ℕ, ◌+◌, ◌<◌, ◌≤◌, get_or, length, take, drop, refl, sym, ap, subst, ◌∙◌, arith, List, [], ◌++◌, All, map, pos, slice_set, slice_index_or}
 use Rattle.std.specs.Vec.{with_item}
 use Rattle.std.specs.declared.alloc.Global.{Global}
 use Rattle.std.specs.declared.vec.Vec.{Vec}
@@ -15,16 +15,13 @@ use Rattle.dispatch_repair.specs.inside.Rows.{row_at}
 -- the row that is read is the one at its place
 pub row_read : {X : Type 0} (rows : List (Vec X Global)) (i : ℕ) (row : Vec X Global) → i < length rows
     → row ≡ slice_index_or rows i row → row.items ≡ row_at (rows_of rows) i
-row_read {X} rows i row within is =
-    ap (λ (v : Vec X Global). v.items) is ∙ sym (get_or-map (λ (v : Vec X Global). v.items) rows i row [] within)
+row_read {X} rows i row within is = grind (arith, get_or-map, within, is)
 
 -- a write into a row
 pub row_set : {X : Type 0} (rows : List (Vec X Global)) (i t : ℕ) (row : Vec X Global) (x : X) → i < length rows
     → row ≡ slice_index_or rows i row
     → rows_of (slice_set rows i (with_item row t x)) ≡ slice_set (rows_of rows) i (slice_set (row_at (rows_of rows) i) t x)
-row_set {X} rows i t row x within is =
-    map-set (λ (v : Vec X Global). v.items) rows i (with_item row t x)
-    ∙ ap (λ (items : List X). slice_set (rows_of rows) i (slice_set items t x)) (row_read rows i row within is)
+row_set {X} rows i t row x within is = grind (arith, map-set, slice_set, row_read, within, is)
 
 -- one more row is cut
 pub cut_more : {X : Type 0} (rows : List (Vec X Global)) (start : List (List X)) (n i : ℕ) (row cut : Vec X Global)
@@ -69,12 +66,7 @@ cut_shape instance n printed shape h = record {
 
 -- the entries of the first periods stay
 kept_entry : {X : Type 0} (rows : List (List X)) (n g k : ℕ) (d : X) → k < n → get_or (get_or (map (take n) rows) g []) k d ≡ get_or (get_or rows g []) k d
-kept_entry {X} rows n g k d h = ⊎_elim
-    (λ (within : g < length rows).
-    ap (λ (row : List X). get_or row k d) (get_or-map (take n) rows g [] [] within) ∙ get_or-take n (get_or rows g []) k d h)
-    (λ past. ap (λ (row : List X). get_or row k d)
-    (get_or-eq_default (map (take n) rows) [] (omega (arith, length-map rows (take n))) ∙ sym (get_or-eq_default rows [] past)))
-    (cases_lt g (length rows))
+kept_entry {X} rows n g k d h = grind (arith, get_or-map, get_or-take, get_or-eq_default, length-map, cases_lt, h)
 
 pub cut_same : (n : ℕ) (printed : Printed) → AreSameBelow n printed (cut_at n printed)
 cut_same n printed = record {

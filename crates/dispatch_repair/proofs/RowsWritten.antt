@@ -1,7 +1,7 @@
 -- The rows of cells, as a period is written into them.
-use Rattle.std.proofs.Common.{◌≡◌, ℕ, suc, ◌+◌, ◌*◌, ◌<◌, ◌≤◌, length, sym, ap, subst, ◌∙◌, arith, List, [], ℤ, pos, ◌+ℤ◌, ◌-ℤ◌, ◌≤ℤ◌, slice_set, unsigned_abs}
+use Rattle.std.proofs.Common.{◌≡◌, ℕ, suc, ◌+◌, ◌*◌, ◌<◌, ◌≤◌, length, sym, ap, subst, ◌∙◌, arith, List, [], ℤ, pos, ◌+ℤ◌, ◌-ℤ◌, ◌≤ℤ◌, slice_set}
 use Rattle.std.specs.Int.{int_min, int_max}
-use Rattle.std.proofs.lemmas.Int.{ints, clamps, to_z-of_z, fits_signed_from_abs}
+use Rattle.std.proofs.lemmas.Int.{ints, clamps, to_z-of_z}
 use mir.Syntax.{w64}
 use mir.Val.{SFits, to_z, of_z}
 use Rattle.uc_model.specs.declared.limits.TheConstants.{MAX_POWER, MAX_UNITS}
@@ -16,9 +16,7 @@ abbrev most_left : ℕ
 most_left = MAX_POWER + MAX_UNITS * (5 * MAX_POWER)
 
 fits : (z : ℤ) → pos 0 ≤ℤ (z +ℤ pos most_left) → z ≤ℤ pos most_left → SFits w64 z
-fits z low high =
-    let small : unsigned_abs z ≤ most_left = abs_of_within z most_left (record { low = omega (arith, linear); high = high }) in
-    fits_signed_from_abs w64 z (omega arith)
+fits z low high = grind (arith, ints, low, high)
 
 left_fits : (left : ℤ) → IsLeft MAX_UNITS left → SFits w64 left
 left_fits left is = fits left (omega (arith, linear, is.low)) is.high
@@ -62,12 +60,7 @@ left_more n left output end before sized_output sized_end =
 -- what is left where a reserve is taken of it
 pub left_taken : (left output end : ℤ) → IsLeft MAX_UNITS left → IsSizedOutput output → IsSizedEnd end
     → to_z w64 (of_z w64 (left -ℤ reserve_of output end left)) ≡ left -ℤ reserve_of output end left
-left_taken left output end is sized_output sized_end =
-    let rest = left -ℤ reserve_of output end left in
-    let most = MAX_POWER + suc MAX_UNITS * (5 * MAX_POWER) in
-    let more = left_more MAX_UNITS left output end is sized_output sized_end in
-    let small = abs_of_within rest most (record { low = omega (arith, linear, more.low); high = more.high }) in
-    narrow rest most small (omega arith)
+left_taken left output end is sized_output sized_end = grind (arith, ints, left_more, abs_of_within, narrow, is, sized_output, sized_end)
 
 -- ---- the rows so far
 -- the first n rows are written, and what is left is the need without their reserves

@@ -22,5 +22,4 @@ pub fewest-must_run : (periods : ℕ) (unit : Thermal) (answer : Option Pattern)
     → MatchOption answer (HasNoAllowedPattern periods unit) (λ pattern. IsMostOn periods unit (commitment_of pattern))
     → MatchOption answer (HasNoAllowedPattern periods unit) (λ pattern. IsFewestOn periods unit (commitment_of pattern))
 fewest-must_run periods unit None must none = none
-fewest-must_run periods unit (Some pattern) must most =
-    fewest-from_lowest periods unit (commitment_of pattern) (lowest-must_run periods unit (commitment_of pattern) must most.allowed)
+fewest-must_run periods unit (Some pattern) must most = grind (arith, fewest-from_lowest, lowest-must_run, must, most)

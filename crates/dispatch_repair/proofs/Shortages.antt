@@ -30,24 +30,10 @@ high_same period shed short (FromRenewable w) = refl
 high_same period shed short (FromThermal g) = refl
 
 pub ranges_served : (period : Period) (shed short : ℤ) (ranges : List Range) → AreRangesOf period ranges → AreRangesOf (served period shed short) ranges
-ranges_served period shed short ranges are = λ n h.
-    let is = are n h in
-    record {
-      low = is.low ∙ sym (low_same period shed short _);
-      high = is.high ∙ sym (high_same period shed short _);
-      low_size = is.low_size;
-      high_size = is.high_size;
-    }
+ranges_served period shed short ranges are = grind (arith, ints, are)
 
 pub totals_served : (period : Period) (shed short : ℤ) (totals : Totals) → AreTotalsOf period totals → AreTotalsOf (served period shed short) totals
-totals_served period shed short totals are = record {
-  minimums = are.minimums;
-  thermal_low = are.thermal_low;
-  thermal_high = are.thermal_high;
-  heads = are.heads;
-  renewable_low = are.renewable_low;
-  renewable_high = are.renewable_high;
-}
+totals_served period shed short totals are = grind (arith, ints, are)
 
 -- ---- numbers
 -- the room for reserve beside an output, and the reserve that lacks it
@@ -99,10 +85,7 @@ made_room tops lows given need part e h = ⊎_elim
 
 made_above : (tops lows given need part : ℤ) → part ≡ lack need (room tops lows given) → need ≤ℤ (tops -ℤ lows)
     → (part ≡ pos 0) ⊎ (lows ≤ℤ (given -ℤ part))
-made_above tops lows given need part e h = ⊎_elim
-    (λ (none : (part ≡ pos 0) × (need ≤ℤ room tops lows given)). inl none.0)
-    (λ (left : given -ℤ part ≡ tops -ℤ need). inr (omega (arith, linear, left, h)))
-    (made tops lows given need part e h)
+made_above tops lows given need part e h = grind (arith, ints, made, e, h)
 
 -- the same demand leaves the same room
 same_room : (tops lows given other need : ℤ) → other ≡ given → need ≤ℤ room tops lows given → (need -ℤ pos 0) ≤ℤ room tops lows other

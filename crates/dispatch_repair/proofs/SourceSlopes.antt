@@ -1,6 +1,6 @@
 -- The slopes of a source beside an output: they are there, have a width, and rise.
-use Rattle.std.proofs.Common.{ℕ, ◌-◌, arith, refl, sym, subst, List, length, ℤ, pos, ◌+ℤ◌, ◌-ℤ◌, ◌*ℤ◌, ◌≤ℤ◌, ◌<ℤ◌}
-use Rattle.uc_model.specs.Prelude.{output_of, rise, run, thermal_unit}
+use Rattle.std.proofs.Common.{ℕ, ◌-◌, arith, refl, List, length, ℤ, pos, ◌+ℤ◌, ◌-ℤ◌, ◌*ℤ◌, ◌≤ℤ◌, ◌<ℤ◌}
+use Rattle.uc_model.specs.Prelude.{rise, run, thermal_unit}
 use Rattle.uc_model.specs.declared.instance.Point.{Point}
 use Rattle.uc_model.proofs.Common.{linear, pair_there, is_segment}
 use Rattle.cost_curves.specs.LeastCost.{IsLeftSlope, IsRightSlope}
@@ -41,10 +41,7 @@ right-there points p lawful low high =
 -- the slope on the right of an output is at most that on the left of a greater one
 pub right-le-left : (points : List Point) (p q : ℤ) (right left : Slope) → p <ℤ q → IsRightSlope points p right → IsLeftSlope points q left
     → (right.rise *ℤ left.run) ≤ℤ (left.rise *ℤ right.run)
-right-le-left points p q right left less a b =
-    let begins : output_of points a.left <ℤ output_of points b.right = omega (arith, linear, less, a.begins, b.reaches) in
-    let rises = slopes_rise points b.left b.right a.left a.right b.segment.right_within a.segment.left_within b.segment.segment a.segment.segment begins in
-    subst (λ z. z) (λ i. (sym a.segment.rise i *ℤ sym b.segment.run i) ≤ℤ (sym b.segment.rise i *ℤ sym a.segment.run i)) rises
+right-le-left points p q right left less a b = grind (arith, linear, slopes_rise, less, a, b)
 
 -- ---- a source's slopes
 -- its next watt has a slope over a width
@@ -58,13 +55,7 @@ next_run instance n = source_run instance (source_at instance n)
 -- its last watt is the next one of a watt less
 pub next_of : (instance : Instance) (s : Source) (amount : ℤ) (slope : Slope) → HasLastSlope instance s amount slope → HasNextSlope instance s (amount -ℤ pos 1) slope
 next_of instance (FromRenewable w) amount slope h = h
-next_of instance (FromThermal g) amount slope h = record {
-  left = h.left;
-  right = h.right;
-  segment = h.segment;
-  begins = omega (arith, linear, h.begins);
-  reaches = omega (arith, linear, h.reaches);
-}
+next_of instance (FromThermal g) amount slope h = grind (arith, linear, g, h)
 
 -- ---- slopes one after another
 pub at_most_trans : (x y z : Slope) → pos 0 <ℤ x.run → pos 0 <ℤ y.run → pos 0 <ℤ z.run → IsAtMost x y → IsAtMost y z → IsAtMost x z

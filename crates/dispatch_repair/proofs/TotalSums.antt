@@ -3,8 +3,8 @@
 use Rattle.std.proofs.Common.{◌≡◌, ℕ, ◌+◌, ◌-◌, ◌<◌, arith, sym, ap, subst, ◌∙◌, List, length, take, drop, ℤ, pos, to_z, of_z, length-take, length-drop, get_or-take, get_or-drop}
 use Rattle.std.specs.Int.{w64}
 use Rattle.uc_model.specs.Prelude.{thermal_count, renewable_count, sum_below}
-use Rattle.uc_model.proofs.Common.{narrow, sum_below-same}
-use Rattle.dispatch_repair.specs.Period.{Period, Source, FromRenewable, FromThermal, head_of, heads, renewable_sum, thermal_sum}
+use Rattle.uc_model.proofs.Common.{sum_below-same}
+use Rattle.dispatch_repair.specs.Period.{Period, Source, FromRenewable, FromThermal, heads, renewable_sum, thermal_sum}
 use Rattle.dispatch_repair.specs.Amounts.{Range, AreHeadsOf, AreRangesOf, amount_at, range_at}
 use Rattle.dispatch_repair.specs.Segments.{source_count}
 use Rattle.dispatch_repair.specs.Totals.{IsSizedSum, IsSum}
@@ -16,8 +16,7 @@ no_range = record { low = pos 0; high = pos 0 }
 -- a sum over a list's entries, by how many there are and what each is
 part_sum : (part : List Range) (count : ℕ) (pick : Range → ℤ) (f : ℕ → ℤ) → length part ≡ count
     → ((k : ℕ) → k < count → pick (range_at part k) ≡ f k) → sum_below (length part) (λ k. pick (range_at part k)) ≡ sum_below count f
-part_sum part count pick f long each =
-    ap (λ m. sum_below m (λ k. pick (range_at part k))) long ∙ sum_below-same count (λ k. pick (range_at part k)) f each
+part_sum part count pick f long each = grind (arith, sum_below-same, long, each)
 
 -- the ranges of the renewable units come first
 pub renewable_part : (period : Period) (ranges : List Range) (n : ℕ) (pick : Range → ℤ) (end : Source → ℤ)
@@ -53,12 +52,8 @@ thermal_part period ranges n pick end is long first are =
 
 pub heads_sum : (period : Period) (numbers : List ℤ) → length numbers ≡ thermal_count period.instance → AreHeadsOf period numbers
     → sum_below (length numbers) (amount_at numbers) ≡ heads period
-heads_sum period numbers long are =
-    ap (λ m. sum_below m (amount_at numbers)) long
-    ∙ sum_below-same (thermal_count period.instance) (amount_at numbers) (head_of period) (λ g h. (are g h).is)
+heads_sum period numbers long are = grind (arith, sum_below-same, long, are)
 
 -- a sum as its bits
 pub summed : (number total : ℤ) → IsSizedSum number → number ≡ total → IsSum (to_z w64 (of_z w64 number)) total
-summed number total size is =
-    let same = narrow number _ size (omega arith) in
-    record { is = same ∙ is; size = subst IsSizedSum (sym same) size }
+summed number total size is = grind (arith, size, is)

@@ -1,19 +1,14 @@
 -- What agreement with a node says of each unit.
-use Rattle.std.proofs.Common.{◌≡◌, ℕ, ◌<◌, List, [], ◌∷◌, false, not, ◌==◌, refl, ap, subst, ⊎_elim, ◌≤◌, IsTrue}
+use Rattle.std.proofs.Common.{arith, ℕ, ◌<◌, List, [], ◌∷◌, refl, ◌≤◌, IsTrue}
 use Rattle.std.specs.List.{list_all}
-use Rattle.std.proofs.lemmas.Bool.{and_parts, and_from, or_left, or_right, cases_Bool, eqb-true}
+use Rattle.std.proofs.lemmas.Bool.{and_parts, and_from}
 use Rattle.uc_model.specs.Prelude.{Schedule, thermal_unit, thermal_count, Obeys, IsLawfulThermal}
 use Rattle.uc_model.proofs.Common.{is_allowed-obeying}
 use Rattle.dual_model.specs.Fixings.{Fixing, Instance, Node, keeps, keeps_of, unit_agrees, agrees, IsPatternAt}
 
 kept_by_unit : (x : Schedule) (g : ℕ) (fixing : Fixing) → IsTrue (keeps fixing (x.thermal fixing.g).on)
     → IsTrue (keeps_of g (x.thermal g).on fixing)
-kept_by_unit x g fixing kept = ⊎_elim
-    (λ (own : IsTrue (fixing.g == g)).
-    or_right (not (fixing.g == g)) (keeps fixing (x.thermal g).on)
-    (subst (λ k. IsTrue (keeps fixing (x.thermal k).on)) (eqb-true fixing.g g own) kept))
-    (λ (other : (fixing.g == g) ≡ false). or_left (not (fixing.g == g)) (keeps fixing (x.thermal g).on) (ap not other))
-    (cases_Bool (fixing.g == g))
+kept_by_unit x g fixing kept = grind (arith, kept)
 
 each_kept : (x : Schedule) (g : ℕ) (fixings : List Fixing) → IsTrue (list_all (λ fixing. keeps fixing (x.thermal fixing.g).on) fixings)
     → IsTrue (list_all (keeps_of g (x.thermal g).on) fixings)

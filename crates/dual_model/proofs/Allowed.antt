@@ -1,9 +1,9 @@
 -- A commitment is a pattern, allowed and as decided, exactly where each move of its way may be made.
-use Rattle.std.proofs.Common.{◌≡◌, ℕ, zero, suc, ◌+◌, ◌-◌, ◌<◌, ◌≤◌, ⊎_elim, min, Bool, true, false, not, ◌&&◌, ◌||◌, refl, sym, ap, subst, ◌∙◌, arith, ℤ, pos, ◌≤ℤ◌, IsTrue, Option, Some, None, nat_lt, int_le, if◌then◌else◌}
+use Rattle.std.proofs.Common.{◌≡◌, ℕ, zero, suc, ◌-◌, ◌<◌, ◌≤◌, ⊎_elim, min, Bool, true, false, not, ◌&&◌, ◌||◌, refl, sym, subst, ◌∙◌, arith, ℤ, pos, ◌≤ℤ◌, IsTrue, Option, Some, None, nat_lt, int_le, if◌then◌else◌}
 use mathlib.Core.Bool.{not-not}
 use Rattle.std.proofs.lemmas.Bool.{and_parts, and_from, or_cases, or_left, or_right, true≢false, not-true, not_from_false, ltb-true, lt-ltb, cond-true, cond-false}
-use Rattle.uc_model.specs.Prelude.{bit, all_below, Commitment, state_before, was_on, starts, stops, keeps_minimum_at, must_run_at, initial_up_at, initial_down_at, minimum_up_at, minimum_down_at, cap, is_allowed_at, initial_stop_holds, commitment_of, IsLawfulThermal, period_count, term_at, has_lasted}
-use Rattle.uc_model.proofs.Common.{linear, sum_below-same, int_le-true, le-int_le, all_below-at, all_below-from}
+use Rattle.uc_model.specs.Prelude.{all_below, Commitment, state_before, was_on, starts, stops, keeps_minimum_at, must_run_at, initial_up_at, initial_down_at, minimum_up_at, minimum_down_at, cap, is_allowed_at, initial_stop_holds, commitment_of, IsLawfulThermal, period_count, term_at, has_lasted}
+use Rattle.uc_model.proofs.Common.{linear, int_le-true, le-int_le, all_below-at, all_below-from}
 use Rattle.dual_model.specs.UnitTerms.{Terms, Thermal, AreSizedTerms, IsSized}
 use Rattle.dual_model.specs.PatternValue.{IsPattern, is_followed}
 use Rattle.dual_model.specs.Moves.{Fix, holds_initially, initial_limit, hour_cost}
@@ -24,17 +24,10 @@ record AllowedAt (periods : ℕ) (unit : Thermal) (on : Commitment) (t : ℕ) : 
   pub capped : IsTrue (not (on t) || int_le (pos 0) (cap periods unit on t))
 
 allowed_parts : (periods : ℕ) (unit : Thermal) (on : Commitment) (t : ℕ) → IsTrue (is_allowed_at periods unit on t) → AllowedAt periods unit on t
-allowed_parts periods unit on t h =
-    let p5 = and_parts _ _ h in
-    let p4 = and_parts _ _ p5.0 in
-    let p3 = and_parts _ _ p4.0 in
-    let p2 = and_parts _ _ p3.0 in
-    let p1 = and_parts _ _ p2.0 in
-    record { must_run = p1.0; up = p1.1; down = p2.1; minimum_up = p3.1; minimum_down = p4.1; capped = p5.1 }
+allowed_parts periods unit on t h = grind (arith, linear, and_parts, h)
 
 allowed_from : (periods : ℕ) (unit : Thermal) (on : Commitment) (t : ℕ) → AllowedAt periods unit on t → IsTrue (is_allowed_at periods unit on t)
-allowed_from periods unit on t a =
-    and_from _ _ (and_from _ _ (and_from _ _ (and_from _ _ (and_from _ _ a.must_run a.up) a.down) a.minimum_up) a.minimum_down) a.capped
+allowed_from periods unit on t a = grind (arith, linear, a)
 
 -- ---- M1 and what is decided, over plain bits
 on_bits : (known bit_is now : Bool) → (IsTrue known → now ≡ bit_is) → now ≡ true → IsTrue (not known || bit_is)
@@ -117,16 +110,11 @@ since_after-off false from false t = refl
 
 since-off : (unit : Thermal) (on : Commitment) (t : ℕ) → since (not unit.on0) (off_state on) t ≡ since unit.on0 on t
 since-off unit on zero = refl
-since-off unit on (suc t) =
-    (λ i. since_after (before-off unit on t i) (since-off unit on t i) (not (on t)) t)
-    ∙ since_after-off (was_on unit on t) (since unit.on0 on t) (on t) t
+since-off unit on (suc t) = grind (arith, linear, (since-off unit on t))
 
 keeps-same : (window : ℕ) (changes others state : Commitment) (t : ℕ) → ((k : ℕ) → changes k ≡ others k)
     → keeps_minimum_at window changes state t ≡ keeps_minimum_at window others state t
-keeps-same window changes others state t same =
-    ap (λ z. nat_lt (suc t) window || int_le z (bit (state t)))
-    (sum_below-same window (λ i. bit (changes (suc t - window + i))) (λ i. bit (others (suc t - window + i)))
-    (λ k h. ap bit (same (suc t - window + k))))
+keeps-same window changes others state t same = grind (arith, linear, same)
 
 starts_in_time : (periods : ℕ) (unit : Thermal) (on : Commitment) → ((t : ℕ) → t < periods → AllowedAt periods unit on t)
     → LeavesInTime (not unit.on0) (off_state on) periods (unit.dt - unit.dt0) unit.dt

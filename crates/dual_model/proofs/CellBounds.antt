@@ -3,7 +3,7 @@
 -- the reserve that is left, and a point at or left of the cap with one right of it that together meet the cap.
 --
 -- Over plain functions of the point: f is its reduced cost, d how far it lies left of the cap.
-use Rattle.std.proofs.Common.{◌≡◌, ℕ, ◌<◌, true, false, cond, refl, sym, ap, subst, ◌∙◌, arith, ℤ, pos, ◌+ℤ◌, ◌-ℤ◌, ◌*ℤ◌, neg_ℤ, ◌≤ℤ◌, ◌<ℤ◌, int_le}
+use Rattle.std.proofs.Common.{◌≡◌, ℕ, ◌<◌, true, false, cond, refl, ap, subst, ◌∙◌, arith, ℤ, pos, ◌+ℤ◌, ◌-ℤ◌, ◌*ℤ◌, neg_ℤ, ◌≤ℤ◌, ◌<ℤ◌, int_le}
 use Rattle.std.proofs.lemmas.Int.{ints, by_lt_z}
 use Rattle.uc_model.specs.Prelude.{sum_below}
 use Rattle.uc_model.proofs.Common.{linear, spread, mul_comm, mul_assoc, mul_nonneg, sub_nonneg, mul-zero, zero-mul, mul-le-mul_left, mul-le-mul_turned, le_from_mul, pos_nonneg, mul-add, add-mul, neg-mul, one-mul, sub-mul, sum_below-same, sum_below-zero, sum_below-add, sum_below-sub, sum_below-neg, sum_below_nonneg, sum_below-mul_left, sum_below-mul_right, term-le-sum_below}
@@ -137,11 +137,7 @@ excess_sum n f w m q total =
 
 -- four factors change places
 crossed : (a b c e : ℤ) → (a *ℤ b) *ℤ (c *ℤ e) ≡ (b *ℤ e) *ℤ (a *ℤ c)
-crossed a b c e =
-    ap (λ z. z *ℤ (c *ℤ e)) (mul_comm a b)
-    ∙ mul_assoc b a (c *ℤ e)
-    ∙ ap (λ z. b *ℤ z) (sym (mul_assoc a c e) ∙ mul_comm (a *ℤ c) e)
-    ∙ sym (mul_assoc b e (a *ℤ c))
+crossed a b c e = grind (arith, ints, mul_comm, mul_assoc)
 
 -- a pair of points, one on each side, with its weights
 pair_nonneg : (dl dj gl gj wl wj : ℤ) → pos 0 ≤ℤ wl → pos 0 ≤ℤ wj → (pos 0 ≤ℤ dl → dj <ℤ pos 0 → pos 0 ≤ℤ (neg_ℤ dj *ℤ gl +ℤ dl *ℤ gj))

@@ -1,6 +1,6 @@
 -- The caps of an allowed pattern's cells are those that the terms are of.
 -- Cite from a crate above by `use Rattle.dual_model.proofs.CellCaps.{cell_cap-cap}`.
-use Rattle.std.proofs.Common.{◌≡◌, ℕ, zero, suc, Bool, true, false, not, ◌&&◌, refl, sym, ap, ◌∙◌, arith, ℤ, pos, ◌-ℤ◌, ◌*ℤ◌, ◌≤ℤ◌, ◌==◌, nat_lt, ne_eqb, if◌then◌else◌}
+use Rattle.std.proofs.Common.{◌≡◌, ℕ, zero, suc, Bool, true, false, not, ◌&&◌, refl, sym, ap, ◌∙◌, arith, ℤ, pos, ◌-ℤ◌, ◌*ℤ◌, ◌≤ℤ◌, ◌==◌, nat_lt, if◌then◌else◌}
 use Rattle.std.specs.Int.{int_min}
 use Rattle.std.proofs.lemmas.Int.{ints}
 use Rattle.uc_model.specs.Prelude.{bit, Commitment, starts, stops, start_reduction, stop_reduction, cap, cell_cap}
@@ -13,20 +13,8 @@ min_of_more a b h = grind (arith, ints)
 
 -- a start in the first period is one of a unit that is off initially
 start_counts : (unit : Thermal) (on : Commitment) (t : ℕ) → (starts unit on t && not (unit.on0 && (t == 0))) ≡ starts unit on t
-start_counts unit on zero = first unit.on0 (on 0)
-  where
-    first : (a b : Bool) → ((not a && b) && not (a && true)) ≡ (not a && b)
-    first true b = refl
-    first false true = refl
-    first false false = refl
-start_counts unit on (suc t) =
-    ap (λ b. starts unit on (suc t) && not (unit.on0 && b)) (ne_eqb (suc t) 0 (λ e. omega arith)) ∙ later unit.on0 (starts unit on (suc t))
-  where
-    later : (a b : Bool) → (b && not (a && false)) ≡ b
-    later true true = refl
-    later true false = refl
-    later false true = refl
-    later false false = refl
+start_counts unit on zero = grind (arith, ints, zero)
+start_counts unit on (suc t) = grind (arith, ints)
 
 followed_counts : (a b : Bool) → ((a && b) && b) ≡ (a && b)
 followed_counts true true = refl

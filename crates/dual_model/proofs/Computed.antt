@@ -1,13 +1,13 @@
 -- Values of nodes by computing them.
-use Rattle.std.proofs.Common.{◌≡◌, ℕ, length, subst, ℤ, Bool, ◌&&◌, IsTrue, nat_lt, Some, None}
+use Rattle.std.proofs.Common.{arith, ◌≡◌, ℕ, length, ℤ, Bool, ◌&&◌, IsTrue, nat_lt, Some, None}
 use Rattle.std.proofs.lemmas.Bool.{and_parts, ltb-true}
 use Rattle.uc_model.specs.Prelude.{all_below, thermal_unit, thermal_count}
 use Rattle.uc_model.proofs.Common.{all_below-at}
 use Rattle.dual_model.specs.Fixings.{Instance, Node, HasEmptyUnit}
 use Rattle.dual_model.specs.NodeValue.{Table, IsNodeValue}
 use Rattle.dual_model.specs.UnitValue.{IsUnitValue}
-use Rattle.dual_model.proofs.UnitValues.{unit_value_of, IsUnitAnswer, unit_value_is}
-use Rattle.dual_model.proofs.NodeValues.{HasPoints, IsNodeAnswer, node_value_of, node_value_is}
+use Rattle.dual_model.proofs.UnitValues.{unit_value_of, unit_value_is}
+use Rattle.dual_model.proofs.NodeValues.{HasPoints, node_value_of, node_value_is}
 
 -- what a value needs of the instance, as a test
 abbrev pub has_points : Instance → Bool
@@ -25,17 +25,13 @@ points_from instance h =
 
 pub computed_value : {instance : Instance} {node : Node} {table : Table} {v : ℤ} → IsTrue (has_points instance)
     → node_value_of instance node table ≡ Some v → IsNodeValue instance node table v
-computed_value {instance} {node} {table} points same =
-    subst (IsNodeAnswer instance node table) same (node_value_is instance node table (points_from instance points))
+computed_value {instance} {node} {table} points same = grind (arith, node_value_is, points_from, points, same)
 
 pub computed_empty : {instance : Instance} {node : Node} (table : Table) → IsTrue (has_points instance)
     → node_value_of instance node table ≡ None → HasEmptyUnit instance node
-computed_empty {instance} {node} table points same =
-    subst (IsNodeAnswer instance node table) same (node_value_is instance node table (points_from instance points))
+computed_empty {instance} {node} table points same = grind (arith, node_value_is, points_from, points, same)
 
 -- the same of a unit
 pub computed_unit_value : {instance : Instance} {node : Node} {table : Table} {g : ℕ} {v : ℤ} → IsTrue (has_points instance)
     → IsTrue (nat_lt g (thermal_count instance)) → unit_value_of instance node table g ≡ Some v → IsUnitValue instance node table g v
-computed_unit_value {instance} {node} {table} {g} points within same =
-    let has = points_from instance points in
-    subst (IsUnitAnswer instance node table g) same (unit_value_is instance node table g has.some (has.each g (ltb-true _ _ within)))
+computed_unit_value {instance} {node} {table} {g} points within same = grind (arith, points_from, unit_value_is, ltb-true, points, within, same)

@@ -1,12 +1,12 @@
 -- Covers: every schedule agrees with exactly one leaf, so what each leaf claims of its own schedules holds of all.
-use Rattle.std.proofs.Common.{◌≡◌, ℕ, ◌+◌, List, [], ◌∷◌, Bool, true, false, not, ◌&&◌, cond, refl, ap, subst, ◌∙◌, arith, ⊎_elim, ℤ, pos, ◌*ℤ◌, ◌≤ℤ◌, ◌<ℤ◌, IsTrue, Option, Some, None, slice_get, All}
+use Rattle.std.proofs.Common.{◌≡◌, ℕ, ◌+◌, List, Bool, true, false, not, ◌&&◌, cond, refl, ap, ◌∙◌, arith, ⊎_elim, ℤ, pos, ◌*ℤ◌, ◌≤ℤ◌, ◌<ℤ◌, IsTrue, Option, Some, None, slice_get, All}
 use Rattle.std.proofs.lemmas.Bool.{and_from, cases_Bool}
 use Rattle.std.proofs.lemmas.List.Folds.{list_all-append}
 use Rattle.std.proofs.lemmas.Option.{get_or_from_slice_get, slice_get_within}
 use Rattle.uc_model.specs.Prelude.{Schedule, cost, Obeys, IsLawfulInstance}
 use Rattle.uc_model.proofs.Common.{linear, le_from_mul, mul-le-mul_right, mul_left_comm, mul_comm, scale-le-scale}
 use Rattle.dual_model.specs.Prices.{Instance, Table, IsLawfulTable}
-use Rattle.dual_model.specs.Fixings.{Fixing, Node, keeps, agrees}
+use Rattle.dual_model.specs.Fixings.{Node, keeps, agrees}
 use Rattle.dual_model.specs.ValueKind.{HasBlockedUnit}
 use Rattle.dual_model.specs.Tree.{Tree, Ends, Splits, root, child, agreeing_leaves, EachLeaf}
 use Rattle.dual_model.specs.Cover.{Leaf, Bound, Ray, Empty, IsExcluded, LeafHolds, HasBoundOf, HasPositiveValue}
@@ -17,9 +17,7 @@ use Rattle.dual_model.proofs.ValueKinds.{weak_duality, rays_exclude, not_blocked
 -- ---- the leaves part the schedules
 child_agrees : (x : Schedule) (node : Node) (g t : ℕ) (on : Bool)
     → agrees (child node g t on) x ≡ (agrees node x && (keeps (record { g = g; t = t; on = on }) (x.thermal g).on && true))
-child_agrees x node g t on =
-    list_all-append (λ (fixing : Fixing). keeps fixing (x.thermal fixing.g).on) node.fixings
-    ((record { g = g; t = t; on = on }) ∷ [])
+child_agrees x node g t on = grind (arith, linear, list_all-append)
 
 one_of_two : (a b : Bool) → cond (a && (not b && true)) 1 0 + cond (a && (b && true)) 1 0 ≡ cond a 1 0
 one_of_two true true = refl
@@ -29,9 +27,7 @@ one_of_two false b = refl
 pub agreeing_below : {A : Type 0} (x : Schedule) (node : Node) (tree : Tree A) → agreeing_leaves x node tree ≡ cond (agrees node x) 1 0
 agreeing_below x node (Ends leaf) = refl
 agreeing_below x node (Splits g t off on) =
-    (λ i. agreeing_below x (child node g t false) off i + agreeing_below x (child node g t true) on i)
-    ∙ (λ i. cond (child_agrees x node g t false i) 1 0 + cond (child_agrees x node g t true i) 1 0)
-    ∙ one_of_two (agrees node x) ((x.thermal g).on t)
+    grind (arith, linear, child_agrees, one_of_two, g, t, off, on, (agreeing_below x (child node g t false) off), (agreeing_below x (child node g t true) on))
 
 pub leaves_part : LeavesPart
 leaves_part x tree = agreeing_below x root tree
@@ -127,9 +123,7 @@ covers_exclude instance tables tree lawful tabled excluded q x obeys =
 -- a table of a list of lawful ones is lawful
 listed : (instance : Instance) (tables : List Table) → All (IsLawfulTable instance) tables → (number : ℕ) (table : Table)
     → slice_get tables number ≡ Some table → IsLawfulTable instance table
-listed instance tables each number table is_table =
-    subst (λ t. IsLawfulTable instance t) (get_or_from_slice_get tables number table table is_table)
-    (each number table (slice_get_within tables number table is_table))
+listed instance tables each number table is_table = grind (arith, linear, get_or_from_slice_get, slice_get_within, each, is_table)
 
 -- where all tables are lawful, those of the leaves are
 tables_lawful : (instance : Instance) (tables : List Table) → All (IsLawfulTable instance) tables → (node : Node) (tree : Tree Leaf)

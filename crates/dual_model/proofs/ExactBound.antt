@@ -1,9 +1,9 @@
 -- Weak duality of exact values: a schedule that obeys gives each unit a schedule of its own, whose value is at most K
 -- times what the unit costs by least starts, less what its output and reserve are paid.
-use Rattle.std.proofs.Common.{◌≡◌, ℕ, zero, suc, ◌-◌, ◌<◌, ◌⊎◌, Bool, true, false, not, cond, refl, sym, ap, subst, ◌∙◌, arith, ⊎_elim, ℤ, pos, ◌+ℤ◌, ◌-ℤ◌, ◌*ℤ◌, ◌≤ℤ◌, IsTrue, nat_lt, int_le, unsigned_abs}
+use Rattle.std.proofs.Common.{◌≡◌, ℕ, zero, suc, ◌-◌, ◌<◌, ◌⊎◌, Bool, true, false, cond, refl, sym, ap, subst, ◌∙◌, arith, ⊎_elim, ℤ, pos, ◌+ℤ◌, ◌-ℤ◌, ◌*ℤ◌, ◌≤ℤ◌, IsTrue, unsigned_abs}
 use Rattle.std.specs.Int.{int_max}
 use Rattle.std.proofs.lemmas.Int.{ints, clamps}
-use Rattle.std.proofs.lemmas.Bool.{cases_Bool, cond-true, cond-false, or_cases, not_from_true, true≢false, lt-ltb}
+use Rattle.std.proofs.lemmas.Bool.{cases_Bool, cond-true, cond-false}
 use Rattle.uc_model.specs.Prelude.{sum_below, bit, starts, start_cap, stop_cap, last_stop, sigma, Row, Schedule, thermal_unit, thermal_count, point_count, p_at, p_before, weight_sum, output_of, production_cost, Production, StartCap, StopCap, RampUp, RampDown, Obeys, stop_cap_at, thermal_output, IsLawfulThermal}
 use Rattle.uc_model.proofs.Common.{linear, mul-le-mul_right, mul_nonneg, mul_comm, mul-one, mul-zero, mul-add, pos_nonneg, sum_below-le, sum_below-sub, sum_below-mul_left, int_le-true, abs_is, rule_at, Produces, production_parts, point_p_nonneg, p_at_nonneg, Rises, outputs_rise}
 use Rattle.dual_model.specs.Prices.{pi_at, mu_at}
@@ -39,8 +39,7 @@ most_output unit row t q lawful total =
     omega (arith, linear, each, times, mul_comm most q)
 
 width_nonneg : (unit : Thermal) → IsLawfulThermal unit → pos 0 ≤ℤ greatest_output unit.points
-width_nonneg unit lawful = point_p_nonneg unit lawful (point_count unit - 1)
-    (let some = lawful.points.0 in omega (arith, some))
+width_nonneg unit lawful = grind (arith, ints, point_p_nonneg, lawful)
 
 before_is : (q t : ℕ) (unit : Thermal) (row : Row) → IsLawfulThermal unit → output_before q unit (own unit row) t ≡ p_before q unit row t
 before_is q zero unit row lawful = refl
@@ -49,29 +48,18 @@ before_is q (suc t) unit row lawful = abs_is (p_at unit row t) (p_at_nonneg unit
 -- M10 before the last period
 stopped : (periods q : ℕ) (unit : Thermal) (row : Row) (t : ℕ) → IsTrue (stop_cap_at periods q unit row t) → suc t < periods
     → (p_at unit row t +ℤ row.reserve t) ≤ℤ (pos q *ℤ stop_cap unit row.on t)
-stopped periods q unit row t holds before = ⊎_elim
-    (λ (last : IsTrue (not (nat_lt (suc t) periods))). absurd
-    (true≢false (sym last ∙ not_from_true _ (lt-ltb (suc t) periods before))))
-    (λ (below : IsTrue (int_le (p_at unit row t +ℤ row.reserve t) (pos q *ℤ stop_cap unit row.on t))).
-    int_le-true _ _ below)
-    (or_cases _ _ holds)
+stopped periods q unit row t holds before = grind (arith, ints, holds, before)
 
 -- ---- a period, over plain numbers: what a cell adds, K times its start, and what it is paid
 on_period : (q k pi mu floored made p r pmin start least u cell : ℤ) → cell ≡ floored -ℤ pi *ℤ (p +ℤ q *ℤ pmin) -ℤ mu *ℤ r
     → u ≡ pos 1 → floored ≤ℤ (k *ℤ made) → start ≡ k *ℤ (q *ℤ least)
     → (cell +ℤ start) ≤ℤ (k *ℤ (made +ℤ q *ℤ least) -ℤ (pi *ℤ (p +ℤ q *ℤ pmin *ℤ u) +ℤ mu *ℤ r))
-on_period q k pi mu floored made p r pmin start least u cell is is_on below begun =
-    let parts = mul-add k made (q *ℤ least) in
-    rw (is, is_on, mul-one (q *ℤ pmin)) (omega (arith, linear, below, begun, parts))
+on_period q k pi mu floored made p r pmin start least u cell is is_on below begun = grind (arith, ints, mul-add, mul-one, is, is_on, below, begun)
 
 off_period : (q k pi mu made p r pmin start least u : ℤ) → u ≡ pos 0 → made ≡ pos 0 → p ≡ pos 0 → r ≡ pos 0
     → start ≡ k *ℤ (q *ℤ least)
     → (pos 0 +ℤ start) ≤ℤ (k *ℤ (made +ℤ q *ℤ least) -ℤ (pi *ℤ (p +ℤ q *ℤ pmin *ℤ u) +ℤ mu *ℤ r))
-off_period q k pi mu made p r pmin start least u is_off none p_none r_none begun =
-    let nothing = mul-zero pi in
-    let parts = mul-add k (pos 0) (q *ℤ least) in
-    rw (is_off, none, p_none, r_none, mul-zero (q *ℤ pmin), mul-zero mu)
-    (omega (arith, linear, begun, nothing, parts, mul-zero k))
+off_period q k pi mu made p r pmin start least u is_off none p_none r_none begun = grind (arith, ints, mul-zero, mul-add, is_off, none, p_none, r_none, begun)
 
 scaled_cond : (q : ℤ) (b : Bool) (z : ℤ) → cond b (q *ℤ z) (pos 0) ≡ q *ℤ cond b z (pos 0)
 scaled_cond q true z = refl
@@ -196,10 +184,7 @@ max_is : (a b : ℤ) → (int_max a b ≡ a) ⊎ (int_max a b ≡ b)
 max_is a b = grind (arith, ints, clamps)
 
 greater_bound : (q a b c : ℤ) → (q *ℤ a) ≤ℤ c → (q *ℤ b) ≤ℤ c → (q *ℤ int_max a b) ≤ℤ c
-greater_bound q a b c h k = ⊎_elim
-    (λ (first : int_max a b ≡ a). subst (λ z. (q *ℤ z) ≤ℤ c) (sym first) h)
-    (λ (second : int_max a b ≡ b). subst (λ z. (q *ℤ z) ≤ℤ c) (sym second) k)
-    (max_is a b)
+greater_bound q a b c h k = grind (arith, ints, h, k)
 
 -- the greater of both bounds takes the unit's part
 pub exact_least_starts : WeakDualityOfLeastStarts true

@@ -1,19 +1,19 @@
 -- A unit has an exact value, or no schedule of its own: its schedules in whole watts are finitely many as far as its
 -- periods go, and the least value of one of them is E.
-use Rattle.std.proofs.Common.{◌≡◌, ℕ, zero, suc, ◌+◌, ◌*◌, ◌/◌, ◌%◌, ◌<◌, ◌≤◌, ◌⊎◌, inl, inr, ⊎_elim, Bool, true, false, cond, nat_lt, refl, sym, ap, subst, ◌∙◌, arith, ℤ, pos, ◌+ℤ◌, ◌-ℤ◌, ◌*ℤ◌, ◌≤ℤ◌, ◌<ℤ◌, IsTrue, unsigned_abs, if◌then◌else◌}
+use Rattle.std.proofs.Common.{◌≡◌, ℕ, zero, suc, ◌+◌, ◌*◌, ◌/◌, ◌%◌, ◌<◌, ◌≤◌, ◌⊎◌, inl, inr, ⊎_elim, Bool, true, false, cond, nat_lt, refl, sym, ap, subst, ◌∙◌, arith, ℤ, pos, ◌+ℤ◌, ◌-ℤ◌, ◌*ℤ◌, ◌≤ℤ◌, IsTrue, unsigned_abs, if◌then◌else◌}
 use Rattle.std.specs.Int.{int_max}
 use Rattle.std.proofs.lemmas.Int.{ints, clamps}
 use Rattle.std.proofs.lemmas.Nat.{div-mul-add, mod-mul-add}
 use Rattle.std.proofs.lemmas.Bool.{cases_Bool, true≢false, and_parts, and_from, cond-true, cond-false, lt-ltb, ltb-true}
-use Rattle.uc_model.specs.Prelude.{bit, Commitment, starts, start_cap, stop_cap, start_reduction, stop_reduction, thermal_unit, thermal_count, IsLawfulThermal, IsLawfulInstance}
-use Rattle.uc_model.proofs.Common.{linear, le_or_lt, mul-one, mul-zero, one-mul, sum_below-same, abs_is}
+use Rattle.uc_model.specs.Prelude.{bit, Commitment, starts, start_cap, stop_cap, start_reduction, thermal_unit, thermal_count, IsLawfulThermal, IsLawfulInstance}
+use Rattle.uc_model.proofs.Common.{linear, one-mul, sum_below-same, abs_is}
 use Rattle.dual_model.specs.Prices.{pi_at, mu_at}
 use Rattle.dual_model.specs.Fixings.{HasEmptyUnit}
 use Rattle.dual_model.specs.NodeValue.{IsNodeValue}
 use Rattle.dual_model.specs.ExactValue.{Thermal, Instance, Node, Table, UnitSchedule, greatest_output, floored_cost, output_before, IsUnitScheduleAt, IsUnitSchedule, HasNoUnitSchedule, HasUnscheduledUnit, unit_schedule_value, IsExactUnitValue, IsLeastWholeValue, exact_part, parts_total, IsExactNodeValue}
 use Rattle.dual_model.specs.Tree.{child}
 use Rattle.dual_model.specs.Laws.{LeastWholeValuesAreExact, ExactValuesAreLeast, ExactUnitValuesExist, ValuesExist, ValuesExistAtSchedules, ChildBound}
-use Rattle.dual_model.proofs.Locality.{SameBelow, starts-same, stops-same, sigma-same, is_allowed-same, kept-same}
+use Rattle.dual_model.proofs.Locality.{SameBelow, starts-same, sigma-same, is_allowed-same, kept-same}
 use Rattle.dual_model.proofs.UnitValues.{is_pattern_at, last_period}
 use Rattle.dual_model.proofs.NodeValues.{values_exist}
 use Rattle.dual_model.proofs.WholeWatts.{whole_watts_bound, whole_watts_exist}
@@ -28,8 +28,7 @@ both (inl a) (inr lacks) = inr (λ h. lacks h.1)
 both (inr lacks) other = inr (λ h. lacks h.0)
 
 at_most : (a b : ℤ) → (a ≤ℤ b) ⊎ ¬ (a ≤ℤ b)
-at_most a b = ⊎_elim (λ (le : a ≤ℤ b). inl le)
-    (λ (lt : b <ℤ a). inr (λ (le : a ≤ℤ b). absurd (omega (arith, linear, lt, le)))) (le_or_lt a b)
+at_most a b = grind (arith, ints)
 
 -- an implication from a fact that is decided
 given : {A B : Type 0} → A ⊎ ¬ A → B ⊎ ¬ B → (A → B) ⊎ ¬ (A → B)
@@ -42,10 +41,7 @@ nought zero = inl refl
 nought (suc n) = inr (λ e. absurd (omega (arith, e)))
 
 less : (m n : ℕ) → (m < n) ⊎ ¬ (m < n)
-less m n = ⊎_elim
-    (λ (h : m < n). inl h)
-    (λ (h : n ≤ m). inr (λ (k : m < n). absurd (omega (arith, h, k))))
-    (grind arith)
+less m n = grind (arith, ints)
 
 is_off : (b : Bool) → (b ≡ false) ⊎ ¬ (b ≡ false)
 is_off true = inr true≢false
@@ -123,14 +119,11 @@ record IsSame (last periods : ℕ) (x y : UnitSchedule) : Type 0 where
 
 start_cap-same : (n : ℕ) (unit : Thermal) (on other : Commitment) → SameBelow n on other → (t : ℕ) → t < n
     → start_cap unit on t ≡ start_cap unit other t
-start_cap-same n unit on other h t l = λ i.
-    (unit.pmax -ℤ unit.pmin) *ℤ bit (h.same t l i) -ℤ start_reduction unit *ℤ bit (starts-same n unit on other h t l i)
+start_cap-same n unit on other h t l = grind (arith, ints, h, l)
 
 stop_cap-same : (n : ℕ) (unit : Thermal) (on other : Commitment) → SameBelow n on other → (t : ℕ) → suc t < n
     → stop_cap unit on t ≡ stop_cap unit other t
-stop_cap-same n unit on other h t l = λ i.
-    (unit.pmax -ℤ unit.pmin) *ℤ bit (h.same t (omega (arith, l)) i)
-    -ℤ stop_reduction unit *ℤ bit (stops-same n unit on other h (suc t) l i)
+stop_cap-same n unit on other h t l = grind (arith, ints, h, l)
 
 before-same : (periods q : ℕ) (unit : Thermal) (x y : UnitSchedule) → ((t : ℕ) → t < periods → x.p t ≡ y.p t) → (t : ℕ) → t < periods
     → output_before q unit x t ≡ output_before q unit y t
@@ -139,24 +132,7 @@ before-same periods q unit x y h (suc t) l = ap pos (h t (omega (arith, l)))
 
 at-same : (periods q : ℕ) (unit : Thermal) (x y : UnitSchedule) → IsSame periods periods x y → (t : ℕ) → t < periods
     → IsUnitScheduleAt periods q unit x t → IsUnitScheduleAt periods q unit y t
-at-same periods q unit x y same t l h =
-    let p = same.p t l in
-    let r = same.r t l in
-    let before = before-same periods q unit x y same.p t l in
-    record {
-      off = λ off. let none = h.off (same.on.same t l ∙ off) in (sym p ∙ none.0, sym r ∙ none.1);
-      width = subst (λ n. pos n ≤ℤ (pos q *ℤ greatest_output unit.points)) p h.width;
-      start_cap =
-          let cap = ap (λ c. pos q *ℤ c) (start_cap-same periods unit x.on y.on same.on t l) in
-          let below = h.start_cap in
-          omega (arith, linear, p, r, cap, below);
-      stop_cap = λ later.
-          let cap = ap (λ c. pos q *ℤ c) (stop_cap-same periods unit x.on y.on same.on t later) in
-          let below = h.stop_cap later in
-          omega (arith, linear, p, r, cap, below);
-      ramp_up = let below = h.ramp_up in omega (arith, linear, p, r, before, below);
-      ramp_down = let below = h.ramp_down in omega (arith, linear, p, before, below);
-    }
+at-same periods q unit x y same t l h = grind (arith, ints, same, l, h)
 
 module _ (instance : Instance) (node : Node) (g : ℕ) (some : 0 < instance.periods) where
   abbrev unit : Thermal
@@ -227,24 +203,12 @@ decoded last periods x = record {
 -- functions that are the same on the numbers of the periods stand for schedules that are
 decode-same : (last periods : ℕ) (s other : ℕ → ℕ) → periods ≤ last → Agrees (3 * last) s other
     → IsSame last periods (decode s) (decode other)
-decode-same last periods s other within h = record {
-  on = record { same = λ t l. ap (λ n. nat_lt 0 n) (h.same (t * 3 + 0) (omega (arith, l))) };
-  p = λ t l. h.same (t * 3 + 1) (omega (arith, l, within));
-  r = λ t l. h.same (t * 3 + 2) (omega (arith, l, within));
-}
+decode-same last periods s other within h = grind (arith, ints, within, h)
 
 -- ---- how large the numbers are
 cap_below : (room reduction : ℤ) (now change : Bool) → pos 0 ≤ℤ room → pos 0 ≤ℤ reduction
     → (room *ℤ bit now -ℤ reduction *ℤ bit change) ≤ℤ room
-cap_below room reduction now change wide sign = omega (arith, linear, low now, high change)
-  where
-    low : (b : Bool) → (room *ℤ bit b) ≤ℤ room
-    low true = let one = mul-one room in omega (arith, linear, one)
-    low false = let none = mul-zero room in omega (arith, linear, none, wide)
-
-    high : (b : Bool) → pos 0 ≤ℤ (reduction *ℤ bit b)
-    high true = let one = mul-one reduction in omega (arith, linear, one, sign)
-    high false = let none = mul-zero reduction in omega (arith, linear, none)
+cap_below room reduction now change wide sign = grind (arith, ints, wide, sign)
 
 max_nonneg : (a : ℤ) → pos 0 ≤ℤ int_max a (pos 0)
 max_nonneg a = omega (arith, ints, clamps)
@@ -353,16 +317,7 @@ module _ (instance : Instance) (node : Node) (table : Table) (g : ℕ) (some : 0
 
 -- it is the exact value
 pub least_whole_values_are_exact : LeastWholeValuesAreExact
-least_whole_values_are_exact instance node table g e is = record {
-  q = 1;
-  x = is.x;
-  is_schedule = is.is_schedule;
-  bound = whole_watts_bound instance node table g e is.least;
-  greatest = λ m below.
-      let here = below 1 is.x is.is_schedule in
-      let reached = is.reached in
-      omega (arith, linear, here, reached, one-mul m);
-}
+least_whole_values_are_exact instance node table g e is = grind (arith, ints, whole_watts_bound, one-mul, instance, node, table, g, e, is)
 
 -- so a unit has one, or no schedule of its own
 pub exact_unit_values_exist : ExactUnitValuesExist

@@ -13,8 +13,7 @@ use Rattle.dual_model.proofs.NodeValues.{unit_value_unique, parent_agrees, child
 
 -- ---- there is one at most
 pub exact_unit_values_are_unique : ExactUnitValuesAreUnique
-exact_unit_values_are_unique instance node table g e f first second =
-    le_antisymm e f (second.greatest e first.bound) (first.greatest f second.bound)
+exact_unit_values_are_unique instance node table g e f first second = grind (arith, ints, le_antisymm, instance, node, table, g, e, f, first, second)
 
 pub exact_values_are_unique : ValuesAreUnique true
 exact_values_are_unique instance node table v w first second =
@@ -59,11 +58,7 @@ exact_values_reach instance node table v w value exact =
 -- a child's schedules are its parent's
 to_parent : (instance : Instance) (node : Node) (g t : ℕ) (on : Bool) (k q : ℕ) (x : UnitSchedule)
     → IsUnitSchedule instance (child node g t on) k q x → IsUnitSchedule instance node k q x
-to_parent instance node g t on k q x is = record {
-  denominator = is.denominator;
-  pattern = record { allowed = is.pattern.allowed; agrees = parent_agrees node g t on k x.on is.pattern.agrees };
-  each = is.each;
-}
+to_parent instance node g t on k q x is = grind (arith, ints, parent_agrees, is)
 
 child_exact_bound : (instance : Instance) (node : Node) (g t : ℕ) (on : Bool) (table : Table) (k : ℕ) (e f : ℤ)
     → IsExactUnitValue instance node table k e → IsExactUnitValue instance (child node g t on) table k f → e ≤ℤ f

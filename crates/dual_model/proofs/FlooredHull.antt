@@ -1,12 +1,12 @@
 -- K times the cost of weights on a unit's points is at least q*L(p/q) at their output p: along the hull, from one whole
 -- watt to the next, L rises no faster than K times the hull, and no weights cost less than the hull.
-use Rattle.std.proofs.Common.{◌≡◌, ℕ, zero, suc, ◌+◌, ◌-◌, ◌*◌, ◌/◌, ◌<◌, ◌≤◌, ◌≢◌, ⊎_elim, refl, sym, ap, subst, ◌∙◌, arith, List, length, ℤ, pos, ◌+ℤ◌, ◌-ℤ◌, ◌*ℤ◌, neg_ℤ, ◌≤ℤ◌, ◌<ℤ◌, Some, ◌==◌, if◌then◌else◌}
+use Rattle.std.proofs.Common.{◌≡◌, ℕ, zero, suc, ◌+◌, ◌-◌, ◌*◌, ◌/◌, ◌<◌, ◌≤◌, ◌≢◌, ⊎_elim, refl, sym, ap, subst, ◌∙◌, arith, List, length, ℤ, pos, ◌+ℤ◌, ◌-ℤ◌, ◌*ℤ◌, neg_ℤ, ◌≤ℤ◌, ◌<ℤ◌, ◌==◌, if◌then◌else◌}
 use Rattle.std.proofs.Math.Nat.{le-max_left}
 use Rattle.std.proofs.lemmas.Nat.{div-mul-add}
 use Rattle.std.proofs.lemmas.Bool.{cond-true, cond-false, eq-eqb, ne_eqb}
-use Rattle.uc_model.specs.Prelude.{sum_below, quotient_up, point_of, output_of, weighted_total, weighted_output, weighted_cost, run, rise, Segment, segment_width, from_left, segment_cost, hull_cost}
+use Rattle.uc_model.specs.Prelude.{sum_below, quotient_up, point_of, output_of, weighted_total, weighted_output, weighted_cost, run, rise, Segment, hull_cost}
 use Rattle.uc_model.proofs.Common.{linear, spread, mul_comm, mul_assoc, mul_left_comm, mul-add, mul-sub, mul-zero, zero-mul, one-mul, mul-le-mul_left, mul-le-mul_right, le_from_mul, pos_of_nonneg, pos_nonneg, sum_below-same, sum_below-le, sum_below-sub, sum_below-mul_left, sum_below-split, sum_below-const, sum_below-pair, IsFloor-int_div_euclid, width_is, Rises, outputs_rise, IsUnder, Steps, step_there, Begins, begin_there}
-use Rattle.dual_model.specs.ExactValue.{Point, floored_slope, slope_from, floored_cost}
+use Rattle.dual_model.specs.ExactValue.{Point, slope_from, floored_cost}
 use Rattle.dual_model.proofs.Hermite.{small}
 
 -- ---- sums of the slopes
@@ -90,18 +90,7 @@ up_none a b some none = ap (λ z. quotient_up z (pos b)) none ∙ ap (λ n. neg_
 
 -- the hull's value at 0 is the cost of its left end
 hull_start : (points : List Point) (s : Segment) → Begins points s → hull_cost points 1 (pos 0) ≡ (point_of points s.left).cost
-hull_start points s begins =
-    let cost = (point_of points s.left).cost in
-    let start = begins.start in
-    let width : 0 < 1 * segment_width points s =
-    let some : 1 ≤ segment_width points s = le-max_left 1 _ in omega (arith, some) in
-    let here : from_left points 1 (pos 0) s ≡ pos 0 =
-    let one = one-mul (output_of points s.left) in omega (arith, linear, start, one) in
-    let none : rise points s.left s.right *ℤ from_left points 1 (pos 0) s ≡ pos 0 =
-    ap (λ z. rise points s.left s.right *ℤ z) here ∙ mul-zero (rise points s.left s.right) in
-    let up = up_none (rise points s.left s.right *ℤ from_left points 1 (pos 0) s)
-    (1 * segment_width points s) width none in
-    ap (segment_cost points 1 (pos 0)) begins.at ∙ omega (arith, linear, up)
+hull_start points s begins = grind (arith, linear, le-max_left, one-mul, mul-zero, up_none, begins)
 
 -- weights of no output cost at least that
 pub start_below : (points : List Point) → Rises points → (q : ℕ) (weight : ℕ → ℕ) → weighted_total points weight ≡ pos q
@@ -225,14 +214,7 @@ bounds-start points k rises sign q p weight total output h =
 -- the slope of a step is at most K times the segment's
 slope_below : (points : List Point) (k : ℤ) (x : ℕ) (s : Segment) → Steps points x s
     → (slope_from points k x *ℤ run points s.left s.right) ≤ℤ (k *ℤ rise points s.left s.right)
-slope_below points k x s step =
-    let width = width_is (run points s.left s.right) step.under.wide in
-    let positive : pos 0 <ℤ pos (segment_width points s) =
-    let wide = step.under.wide in omega (arith, linear, width, wide) in
-    let floor = IsFloor-int_div_euclid (k *ℤ rise points s.left s.right) (pos (segment_width points s)) positive in
-    let slope = ap (floored_slope points k) step.at in
-    subst (λ z. (z *ℤ run points s.left s.right) ≤ℤ (k *ℤ rise points s.left s.right)) (sym slope)
-    (subst (λ z. (floored_slope points k (Some s) *ℤ z) ≤ℤ (k *ℤ rise points s.left s.right)) width floor.below)
+slope_below points k x s step = grind (arith, linear, width_is, IsFloor-int_div_euclid, step)
 
 -- weights whose output lies between x and x + 1
 between : (points : List Point) (k : ℤ) (x : ℕ) (s : Segment) → Steps points x s → pos 0 ≤ℤ k → Bounds points k x
@@ -299,8 +281,7 @@ bounds-next points k x rises sign most before q p weight total output h = ⊎_el
 bounds : (points : List Point) (k : ℤ) (x : ℕ) → Rises points → pos 0 ≤ℤ k
     → pos x ≤ℤ output_of points (length points - 1) → Bounds points k x
 bounds points k zero rises sign most = bounds-start points k rises sign
-bounds points k (suc x) rises sign most =
-    bounds-next points k x rises sign most (bounds points k x rises sign (omega (arith, linear, most)))
+bounds points k (suc x) rises sign most = grind (arith, linear, bounds-next, rises, sign, most, (bounds points k x rises sign (omega (arith, linear, most))))
 
 -- q*L(p/q) is at most K times the cost of weights of output p over q
 pub floored_cost-le : (points : List Point) (k : ℤ) (q p : ℕ) (weight : ℕ → ℕ) → Rises points → pos 0 ≤ℤ k

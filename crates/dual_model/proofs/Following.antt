@@ -1,13 +1,13 @@
 -- The way that choices lead costs what the first one says, where each costs the least.
 -- Cite from a crate above by `use Rattle.dual_model.proofs.Following.{followed, forced-to, lasting-split, may-enter_on}`.
-use Rattle.std.proofs.Common.{◌≡◌, ◌≢◌, ℕ, zero, suc, ◌+◌, ◌-◌, ◌<◌, ◌≤◌, ⊎_elim, Bool, true, false, not, ◌&&◌, ◌==◌, refl, sym, ap, subst, ◌∙◌, arith, ℤ, Option, Some, None, IfSome, if◌then◌else◌}
+use Rattle.std.proofs.Common.{◌≡◌, ◌≢◌, ℕ, zero, suc, ◌+◌, ◌-◌, ◌<◌, ◌≤◌, ⊎_elim, Bool, true, false, not, ◌==◌, refl, sym, ap, subst, ◌∙◌, arith, ℤ, Option, Some, None, IfSome, if◌then◌else◌}
 use Rattle.std.proofs.lemmas.Bool.{and_parts, cases_lt, cond-true, cond-false, eq-eqb, ne_eqb}
-use Rattle.uc_model.specs.Prelude.{Commitment, commitment_of, may_start, may_stop}
+use Rattle.uc_model.specs.Prelude.{Commitment, commitment_of, may_start}
 use Rattle.dual_model.specs.Bellman.{EndCosts, MoveCosts, least_cost, lesser_of, since_after, total_of, way_cost}
 use Rattle.dual_model.specs.Choices.{Choice, choice_cost, ends_at, next_after}
-use Rattle.dual_model.specs.Moves.{Fix, Thermal, allowed, holds_initially, may_be_off, may_be_on, may_move}
+use Rattle.dual_model.specs.Moves.{Fix, Thermal, allowed, may_be_off, may_be_on, may_move}
 use Rattle.dual_model.specs.Traces.{AreLeast, Choices, IsAttained, IsTraced, Stretch, Trace, lasting, stretch, stretch_behind}
-use Rattle.dual_model.proofs.Costs.{lesser-none, total-assoc, total-zero, zero-total}
+use Rattle.dual_model.proofs.Costs.{lesser-none, total-assoc, total-zero}
 use Rattle.dual_model.proofs.Optimum.{total_of-parts}
 use Rattle.dual_model.proofs.Ways.{through}
 
@@ -16,17 +16,14 @@ pub may-turn_on : (unit : Thermal) (fix : Fix) (t since : ℕ) → may_move unit
 may-turn_on unit fix t since may = (and_parts (may_be_on fix t) (may_start unit since t) may).0
 
 pub may-turn_off : (unit : Thermal) (fix : Fix) (t since : ℕ) → may_move unit fix t true since false ≡ true → may_be_off unit fix t ≡ true
-may-turn_off unit fix t since may =
-    (and_parts (may_be_off unit fix t) (holds_initially unit t true)
-    (and_parts (may_be_off unit fix t && holds_initially unit t true) (may_stop unit since t) may).0).0
+may-turn_off unit fix t since may = grind (arith, may)
 
 pub may-enter_on : (unit : Thermal) (fix : Fix) (costs : MoveCosts) (t since : ℕ) (v : ℤ) → allowed unit fix costs t false since true ≡ Some v → may_be_on fix t ≡ true
 may-enter_on unit fix costs t since v e = may-turn_on unit fix t since (through (may_move unit fix t false since true) (costs t false since true) v e).0
 
 pub may-enter_off : (unit : Thermal) (fix : Fix) (costs : MoveCosts) (t since : ℕ) (v : ℤ) → allowed unit fix costs t true since false ≡ Some v
     → may_be_off unit fix t ≡ true
-may-enter_off unit fix costs t since v e =
-    may-turn_off unit fix t since (through (may_move unit fix t true since false) (costs t true since false) v e).0
+may-enter_off unit fix costs t since v e = grind (arith, e)
 
 -- ---- one period more
 by-case : (choices : Choices) (t : ℕ) (start stop : Option Choice) (on : Bool) → choices t true ≡ start → choices t false ≡ stop
@@ -41,9 +38,7 @@ stretch-kept choices end t until on h = sym (cond-false (t == until) _ _ (ne_eqb
 pub stretch-turned : (choices : Choices) (end t until next : ℕ) (on : Bool) (start stop : Option Choice) → choices t true ≡ start → choices t false ≡ stop
     → t ≡ until → next ≡ next_after (if not on then start else stop) end
     → record { on = not on; until = next } ≡ stretch_behind choices end t (record { on = on; until = until })
-stretch-turned choices end t until next on start stop a b h e =
-    (λ i. record { on = not on; until = (e ∙ ap (λ o. next_after o end) (by-case choices t start stop (not on) a b)) i })
-    ∙ sym (cond-true (t == until) _ _ (eq-eqb t until h))
+stretch-turned choices end t until next on start stop a b h e = grind (arith, a, b, h, e)
 
 pub traced-more : (choices : Choices) (on : Bool) (first : Choice) (t : ℕ) (old new : Trace) → new.end ≡ old.end
     → record { on = new.on; until = new.until } ≡ stretch_behind choices old.end t (record { on = old.on; until = old.until })
@@ -68,8 +63,7 @@ traced-more choices on first t old new end is here others traced =
 -- ---- a state that lasts
 pub lasting-split : (move : MoveCosts) (was : Bool) (since t m n : ℕ)
     → lasting move was since t (m + n) ≡ total_of (lasting move was since t m) (lasting move was since (t + m) n)
-lasting-split move was since t m zero =
-    ap (lasting move was since t) (let e : m + 0 ≡ m = omega arith in e) ∙ sym (zero-total (lasting move was since t m))
+lasting-split move was since t m zero = grind (arith, zero)
 lasting-split move was since t m (suc n) =
     let count : m + suc n ≡ suc (m + n) = omega arith in
     let at : t + (m + n) ≡ (t + m) + n = omega arith in

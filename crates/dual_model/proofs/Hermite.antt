@@ -2,8 +2,8 @@
 -- adds up too.
 -- Source: Graham, Knuth and Patashnik, Concrete Mathematics, section 3.4.
 -- Cite from a crate above by `use Rattle.dual_model.proofs.Hermite.{counted, floors}`.
-use Rattle.std.proofs.Common.{◌≡◌, ℕ, zero, suc, ◌+◌, ◌*◌, ◌/◌, ◌%◌, ◌<◌, ◌≤◌, sym, ap, ◌∙◌, arith, ℤ, pos, ◌+ℤ◌, ◌-ℤ◌, ◌*ℤ◌, ◌≤ℤ◌}
-use Rattle.std.proofs.lemmas.Nat.{div-mul-add, div-add-mod', mod_below, le-div}
+use Rattle.std.proofs.Common.{◌≡◌, ℕ, zero, suc, ◌+◌, ◌/◌, ◌<◌, ◌≤◌, sym, ap, ◌∙◌, arith, ℤ, pos, ◌+ℤ◌, ◌-ℤ◌, ◌*ℤ◌, ◌≤ℤ◌}
+use Rattle.std.proofs.lemmas.Nat.{div-mul-add}
 use Rattle.uc_model.specs.Prelude.{sum_below, IsFloor}
 use Rattle.uc_model.proofs.Common.{linear, mul_comm, mul-one, sum_below-same, sum_below-zero, sum_below-first, sum_below-const, IsFloor-greatest, IsFloor-add}
 
@@ -19,16 +19,12 @@ pub div_one : (n : ℕ) → n / 1 ≡ n
 div_one n = ap (λ m. m / 1) (omega arith) ∙ div-mul-add n 1 0 (omega arith)
 
 div_next : (p q : ℕ) → 0 < q → (p + q) / q ≡ suc (p / q)
-div_next p q some =
-    let parts = div-add-mod' p q in
-    let whole : p + q ≡ suc (p / q) * q + p % q = omega arith in
-    ap (λ n. n / q) whole ∙ div-mul-add (suc (p / q)) q (p % q) (mod_below p q some)
+div_next p q some = grind (arith, linear, some)
 
 -- ---- sums
 -- what is summed up to the floors of (p + j)/q is what is summed at the floors of y/q below p
 pub counted : (q p : ℕ) (f : ℕ → ℤ) → 0 < q → sum_below q (λ j. sum_below ((p + j) / q) f) ≡ sum_below p (λ y. f (y / q))
-counted q zero f some = sum_below-zero q (λ j. sum_below ((0 + j) / q) f)
-    (λ j l. ap (λ n. sum_below n f) (small_sum j q l))
+counted q zero f some = grind (arith, linear, sum_below-zero, small_sum, zero, some)
 counted q (suc p) f some =
     let up = λ (j : ℕ). sum_below ((p + j) / q) f in
     let first = sum_below-first q up in
@@ -51,10 +47,7 @@ floors q p some =
 
 -- ---- orders
 nat_floor : (m q : ℕ) → 0 < q → IsFloor (pos m) (pos q) (pos (m / q))
-nat_floor m q some =
-    let parts = div-add-mod' m q in
-    let rest = mod_below m q some in
-    record { below = omega (arith, linear); next = omega (arith, linear) }
+nat_floor m q some = grind (arith, linear, some)
 
 -- a limit on a difference is kept by the floors
 pub difference : (q a b j : ℕ) (c : ℤ) → 0 < q → (pos a -ℤ pos b) ≤ℤ (pos q *ℤ c) → (pos ((a + j) / q) -ℤ pos ((b + j) / q)) ≤ℤ c
@@ -69,10 +62,7 @@ difference q a b j c some h =
 
 -- and one on a number
 pub above_none : (q a j : ℕ) (c : ℤ) → 0 < q → j < q → pos a ≤ℤ (pos q *ℤ c) → pos ((a + j) / q) ≤ℤ c
-above_none q a j c some within h =
-    let found = difference q a 0 j c some (omega (arith, linear, h)) in
-    let none : (0 + j) / q ≡ 0 = small_sum j q within in
-    omega (arith, linear, found, none)
+above_none q a j c some within h = grind (arith, linear, some, within, h)
 
 -- and one from below
 pub below_floor : (q a j : ℕ) (c : ℤ) → 0 < q → (pos q *ℤ c) ≤ℤ pos a → c ≤ℤ pos ((a + j) / q)
@@ -82,6 +72,4 @@ below_floor q a j c some h =
 
 -- the floors keep the order
 pub floor_mono : (q a b : ℕ) → 0 < q → a ≤ b → a / q ≤ b / q
-floor_mono q a b some h =
-    let parts = div-add-mod' a q in
-    le-div (a / q) b q some (omega (arith, parts, h))
+floor_mono q a b some h = grind (arith, linear, some, h)

@@ -2,7 +2,7 @@
 -- multiplier, is added to the cost, and the sums are regrouped by unit and period.
 use Rattle.std.proofs.Common.{◌≡◌, ℕ, zero, suc, ◌<◌, sym, ap, ◌∙◌, arith, ℤ, pos, ◌+ℤ◌, ◌-ℤ◌, ◌*ℤ◌, neg_ℤ, ◌≤ℤ◌}
 use Rattle.uc_model.specs.Prelude.{sum_below}
-use Rattle.uc_model.proofs.Common.{linear, spread, mul-le-mul_left, mul_left_comm, mul-add, mul-neg, zero-mul, sum_below-le, sum_below-add, sum_below-sub, sum_below-neg, sum_below-mul_left, sum_below-same, sum_below-swap}
+use Rattle.uc_model.proofs.Common.{linear, spread, mul-le-mul_left, mul_left_comm, mul-add, mul-neg, sum_below-le, sum_below-add, sum_below-sub, sum_below-neg, sum_below-mul_left, sum_below-same, sum_below-swap}
 
 -- ---- steps over numbers
 -- a sum of products with the period before is one with the period itself, the factors shifted
@@ -27,9 +27,7 @@ ramp_priced q up down ru rd p r before hu hd rise fall =
 
 -- past the last period nothing is priced
 unpriced : (u d before : ℤ) → u ≡ pos 0 → d ≡ pos 0 → (u -ℤ d) *ℤ before ≡ pos 0
-unpriced u d before no_up no_down =
-    let none : u -ℤ d ≡ pos 0 = omega (arith, linear) in
-    ap (λ x. x *ℤ before) none ∙ zero-mul before
+unpriced u d before no_up no_down = grind (arith, linear, no_up, no_down)
 
 -- the given output before the first period
 initial : (u d before q p0 : ℤ) → before ≡ q *ℤ p0 → (u -ℤ d) *ℤ before ≡ neg_ℤ (q *ℤ ((d -ℤ u) *ℤ p0))

@@ -1,8 +1,8 @@
 -- Least start costs in place of the categories': each is at most its category's, so a schedule that obeys costs no less
 -- than it does by them.
 use Rattle.std.proofs.Common.{◌≡◌, ℕ, ◌<◌, cond, sym, ap, ◌∙◌, arith, ℤ, pos, ◌*ℤ◌, ◌≤ℤ◌, IsTrue, Bool, true, false}
-use Rattle.std.proofs.lemmas.Bool.{cond_both, cond-true, cond-false, eqb-true}
-use Rattle.uc_model.specs.Prelude.{Commitment, starts, sigma, last_stop, category_cost, is_category_allowed, category_holds_at, Schedule, thermal_unit, thermal_count, cell_cost, unit_cost, cost, Category, Obeys}
+use Rattle.std.proofs.lemmas.Bool.{cond-true, cond-false, eqb-true}
+use Rattle.uc_model.specs.Prelude.{Commitment, category_cost, category_holds_at, Schedule, thermal_unit, thermal_count, cell_cost, unit_cost, cost, Category, Obeys}
 use Rattle.uc_model.proofs.Common.{linear, scale-le-scale, mul_left_comm, mul-zero, sum_below-le, rule_at, sigma-le-allowed}
 use Rattle.dual_model.specs.Prices.{Instance}
 use Rattle.dual_model.specs.UnitValue.{Thermal}
@@ -17,15 +17,7 @@ start_scaled k q false least = mul-zero q ∙ sym (ap (λ z. k *ℤ z) (mul-zero
 -- it is at most what the category costs
 pub least_start-category : (unit : Thermal) (on : Commitment) (category : ℕ → ℕ) (t : ℕ)
     → IsTrue (category_holds_at unit on category t) → least_start_cost unit on t ≤ℤ category_cost unit (category t)
-least_start-category unit on category t holds =
-    cond_both (starts unit on t) (sigma unit (last_stop unit on t) t) (pos 0) (λ s. s ≤ℤ category_cost unit (category t))
-    (λ start.
-    let allowed : IsTrue (is_category_allowed unit on (category t) t) = sym (cond-true _ _ _ start) ∙ holds in
-    sigma-le-allowed unit on (category t) t start allowed)
-    (λ none.
-    let zero_category = eqb-true _ _ (sym (cond-false _ _ _ none) ∙ holds) in
-    let free : category_cost unit (category t) ≡ pos 0 = ap (λ c. category_cost unit c) zero_category in
-    omega (arith, linear, free))
+least_start-category unit on category t holds = grind (arith, linear, cond-true, sigma-le-allowed, eqb-true, cond-false, holds)
 
 -- ---- a schedule that obeys
 module _ (instance : Instance) (q : ℕ) (x : Schedule) (obeys : Obeys instance q x) where

@@ -1,8 +1,7 @@
 -- A unit's rules and costs depend on its commitment in the periods of the instance alone.
-use Rattle.std.proofs.Common.{◌≡◌, ℕ, zero, suc, ◌+◌, ◌-◌, ◌<◌, ◌≤◌, Bool, true, false, not, ◌&&◌, ◌||◌, cond, refl, ap, arith, List, [], ◌∷◌, pos, ◌-ℤ◌, ◌*ℤ◌, nat_lt, nat_le, int_le, min, max, Some, ◌==◌, ltb-true, ltb-false}
+use Rattle.std.proofs.Common.{◌≡◌, ℕ, zero, suc, ◌-◌, ◌<◌, ◌≤◌, Bool, true, false, not, ◌&&◌, ◌||◌, cond, refl, ap, arith, List, [], ◌∷◌, pos, nat_lt, int_le, min, max, ◌==◌, ltb-false}
 use Rattle.std.specs.List.{list_all}
-use Rattle.std.specs.Int.{int_min}
-use Rattle.uc_model.specs.Prelude.{sum_below, all_below, any_below, bit, Commitment, was_on, starts, stops, keeps_minimum_at, start_cap, stop_cap, cap, is_allowed_at, is_allowed, initial_stop_holds, stop_reduction, start_reduction, last_stop, sigma, category_lag, category_count, is_barred, is_category_allowed}
+use Rattle.uc_model.specs.Prelude.{all_below, any_below, Commitment, was_on, starts, stops, keeps_minimum_at, cap, is_allowed_at, is_allowed, initial_stop_holds, last_stop, sigma, is_category_allowed}
 use Rattle.uc_model.specs.declared.instance.Thermal.{Thermal}
 use Rattle.uc_model.proofs.Common.{sum_below-same}
 use Rattle.dual_model.specs.Fixings.{Fixing, keeps, keeps_of}
@@ -43,28 +42,11 @@ stops-same n unit on other h t l = λ i. was_on-same n unit on other h t (omega 
 pub keeps_minimum-same : (n window : ℕ) (changes changes' state state' : Commitment) → SameBelow n changes changes'
     → SameBelow n state state' → (t : ℕ) → t < n
     → keeps_minimum_at window changes state t ≡ keeps_minimum_at window changes' state' t
-keeps_minimum-same n window changes changes' state state' hc hs t l =
-    or_same (nat_lt (suc t) window) _ _ (λ inside.
-    let whole : window ≤ suc t = ltb-false (suc t) window inside in
-    let sums : sum_below window (λ i. bit (changes (suc t - window + i)))
-    ≡ sum_below window (λ i. bit (changes' (suc t - window + i))) =
-    sum_below-same window _ _ (λ i hi. ap bit (hc.same (suc t - window + i) (omega arith))) in
-    λ i. int_le (sums i) (bit (hs.same t l i)))
+keeps_minimum-same n window changes changes' state state' hc hs t l = grind (arith, or_same, ltb-false, sum_below-same, int_le, hc, hs, l)
 
 pub cap-same : (periods : ℕ) (unit : Thermal) (on other : Commitment) → SameBelow periods on other → (t : ℕ) → t < periods
     → cap periods unit on t ≡ cap periods unit other t
-cap-same periods unit on other h t l =
-    let start : start_cap unit on t ≡ start_cap unit other t =
-    λ i. (unit.pmax -ℤ unit.pmin) *ℤ bit (h.same t l i)
-    -ℤ start_reduction unit *ℤ bit (starts-same periods unit on other h t l i) in
-    cond_same (nat_lt (suc t) periods) _ _ _ _
-    (λ inside.
-    let before : suc t < periods = ltb-true (suc t) periods inside in
-    let stop : stop_cap unit on t ≡ stop_cap unit other t =
-    λ i. (unit.pmax -ℤ unit.pmin) *ℤ bit (h.same t l i)
-    -ℤ stop_reduction unit *ℤ bit (stops-same periods unit on other h (suc t) before i) in
-    λ i. int_min (start i) (stop i))
-    (λ last. start)
+cap-same periods unit on other h t l = grind (arith, h, l)
 
 allowed_at-same : (periods : ℕ) (unit : Thermal) (on other : Commitment) → SameBelow periods on other → (t : ℕ) → t < periods
     → is_allowed_at periods unit on t ≡ is_allowed_at periods unit other t
@@ -82,24 +64,17 @@ allowed_at-same periods unit on other h t l =
 
 pub initial_stop-same : (periods : ℕ) (unit : Thermal) (on other : Commitment) → SameBelow periods on other → 0 < periods
     → initial_stop_holds unit on ≡ initial_stop_holds unit other
-initial_stop-same periods unit on other h some =
-    ap (λ b. int_le (bit unit.on0 *ℤ (unit.p0 -ℤ unit.pmin))
-    (bit unit.on0 *ℤ (unit.pmax -ℤ unit.pmin) -ℤ stop_reduction unit *ℤ bit b))
-    (stops-same periods unit on other h 0 some)
+initial_stop-same periods unit on other h some = grind (arith, h, some)
 
 -- the same patterns are allowed
 pub is_allowed-same : (periods : ℕ) (unit : Thermal) (on other : Commitment) → 0 < periods → SameBelow periods on other
     → is_allowed periods unit on ≡ is_allowed periods unit other
-is_allowed-same periods unit on other some h =
-    λ i. initial_stop-same periods unit on other h some i
-    && all_below-same periods _ _ (allowed_at-same periods unit on other h) i
+is_allowed-same periods unit on other some h = grind (arith, initial_stop-same, all_below-same, allowed_at-same, some, h)
 
 last_stop-same : (n : ℕ) (unit : Thermal) (on other : Commitment) → SameBelow n on other → (t : ℕ) → t ≤ n
     → last_stop unit on t ≡ last_stop unit other t
 last_stop-same n unit on other h zero l = refl
-last_stop-same n unit on other h (suc t) l =
-    λ i.
-    cond (stops-same n unit on other h t (omega arith) i) (Some t) (last_stop-same n unit on other h t (omega arith) i)
+last_stop-same n unit on other h (suc t) l = grind (arith, h, l, (last_stop-same n unit on other h t (omega arith)))
 
 -- a start costs the same by the last stop
 pub sigma-same : (n : ℕ) (unit : Thermal) (on other : Commitment) → SameBelow n on other → (t : ℕ) → t ≤ n
@@ -110,11 +85,7 @@ sigma-same n unit on other h t l = ap (λ last. sigma unit last t) (last_stop-sa
 pub category_allowed-same : (n : ℕ) (unit : Thermal) (on other : Commitment) → SameBelow n on other → (s t : ℕ) → t < n
     → is_category_allowed unit on s t ≡ is_category_allowed unit other s t
 category_allowed-same n unit on other h zero t l = refl
-category_allowed-same n unit on other h (suc s) t l =
-    let lag = category_lag unit (suc (suc s)) in
-    ap (λ stopped. (suc s == category_count unit)
-    || (nat_lt (suc s) (category_count unit) && cond (nat_le lag (suc t)) stopped (not (is_barred unit.dt0 lag t))))
-    (any_below-same lag _ _ (λ i hi. ap (λ b. nat_le (category_lag unit (suc s)) i && b) (stops-same n unit on other h (t - i) (omega arith))))
+category_allowed-same n unit on other h (suc s) t l = grind (arith, h, l)
 
 -- ---- fixings
 -- one more than the last period of which the fixings speak

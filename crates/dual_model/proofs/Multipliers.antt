@@ -1,5 +1,5 @@
 -- The look-ups of a table: its multipliers keep the signs of its lists, and are 0 past the last period.
-use Rattle.std.proofs.Common.{◌≡◌, ℕ, suc, ◌<◌, ◌≤◌, List, [], ◌∷◌, length, refl, sym, ap, subst, arith, ⊎_elim, ℤ, pos, ◌≤ℤ◌, ◌&&◌, ◌==◌, All, slice_index_or}
+use Rattle.std.proofs.Common.{◌≡◌, ℕ, suc, ◌<◌, ◌≤◌, List, [], ◌∷◌, length, refl, ap, arith, ℤ, pos, ◌≤ℤ◌, ◌&&◌, ◌==◌, All, slice_index_or}
 use Rattle.std.proofs.lemmas.Bool.{and_parts, cond_both, eqb-true}
 use Rattle.std.proofs.lemmas.List.{get_or_past}
 use Rattle.uc_model.proofs.Common.{le_refl}
@@ -7,10 +7,7 @@ use Rattle.dual_model.specs.Prices.{RampRow, Table, mu_at, up_at, down_at, row_o
 
 -- what holds of each element and of the default holds of each look-up
 pub look_up : (P : ℤ → Type 0) (xs : List ℤ) (d : ℤ) (k : ℕ) → All P xs → P d → P (slice_index_or xs k d)
-look_up P xs d k each other = ⊎_elim
-    (λ (within : k < length xs). each k d within)
-    (λ (past : length xs ≤ k). subst P (sym (get_or_past xs k d past)) other)
-    (grind arith)
+look_up P xs d k each other = grind (arith, get_or_past, each, other)
 
 pub mu_at_nonneg : (table : Table) → HasLawfulSigns table → (t : ℕ) → pos 0 ≤ℤ mu_at table t
 mu_at_nonneg table signs t = look_up (λ n. pos 0 ≤ℤ n) table.mu (pos 0) t signs.mu (le_refl (pos 0))

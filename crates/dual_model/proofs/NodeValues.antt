@@ -1,11 +1,11 @@
 -- The value of a node: it is unique, it exists where each unit has a pattern, it bounds the cost of each of the node's
 -- schedules, and a child's is at least its parent's.
-use Rattle.std.proofs.Common.{◌≡◌, ℕ, zero, suc, ◌<◌, ◌≤◌, ◌⊎◌, inl, inr, [], ◌∷◌, length, Bool, false, refl, sym, ap, subst, ◌∙◌, arith, ⊎_elim, ℤ, pos, ◌+ℤ◌, ◌≤ℤ◌, IsTrue, Option, Some, None, option_map, unwrap_or}
+use Rattle.std.proofs.Common.{◌≡◌, ℕ, zero, suc, ◌<◌, ◌≤◌, ◌⊎◌, inl, inr, length, Bool, false, refl, sym, ap, subst, ◌∙◌, arith, ⊎_elim, ℤ, pos, ◌+ℤ◌, ◌≤ℤ◌, IsTrue, Option, Some, None, option_map, unwrap_or}
 use Rattle.std.proofs.lemmas.Bool.{and_parts}
 use Rattle.std.proofs.lemmas.List.Folds.{list_all-append}
 use Rattle.uc_model.specs.Prelude.{sum_below, Commitment, Schedule, thermal_unit, thermal_count, IsLawfulInstance}
 use Rattle.uc_model.proofs.Common.{linear, le_antisymm, sum_below-same, sum_below-le}
-use Rattle.dual_model.specs.Fixings.{Instance, Node, keeps_of, unit_agrees, HasEmptyUnit}
+use Rattle.dual_model.specs.Fixings.{Instance, Node, unit_agrees, HasEmptyUnit}
 use Rattle.dual_model.specs.UnitValue.{IsUnitValue}
 use Rattle.dual_model.specs.NodeValue.{Table, constant_at, unit_part, system_value, renewables_value, IsNodeValue}
 use Rattle.dual_model.specs.Tree.{child}
@@ -157,9 +157,7 @@ least_starts instance node table v q x lawful bounds is_value schedule =
 -- what agrees with a child agrees with its parent
 pub parent_agrees : (node : Node) (g t : ℕ) (on : Bool) (k : ℕ) (pattern : Commitment) → IsTrue (unit_agrees (child node g t on) k pattern)
     → IsTrue (unit_agrees node k pattern)
-parent_agrees node g t on k pattern kept =
-    let both = list_all-append (keeps_of k pattern) node.fixings ((record { g = g; t = t; on = on }) ∷ []) in
-    (and_parts _ _ (sym both ∙ kept)).0
+parent_agrees node g t on k pattern kept = grind (arith, linear, list_all-append, and_parts, kept)
 
 pub child_unit_bound : (instance : Instance) (node : Node) (g t : ℕ) (on : Bool) (table : Table) (k : ℕ) (v w : ℤ)
     → IsUnitValue instance node table k v → IsUnitValue instance (child node g t on) table k w → v ≤ℤ w

@@ -1,9 +1,8 @@
 -- Bellman's recursion gives the least cost of a way, at any costs of moves: each commitment's way costs at least that, and one attains it.
 -- Cite from a crate above by `use Rattle.dual_model.proofs.Optimum.{way-at_most, attained}`.
 use Rattle.std.proofs.Common.{◌≡◌, ℕ, zero, suc, ◌≤◌, ◌⊎◌, inl, inr, ⊎_elim, Bool, true, false, refl, sym, ap, ◌∙◌, arith, ℤ, ◌+ℤ◌, ◌≤ℤ◌, Option, Some, None, ◌==◌, if◌then◌else◌}
-use Rattle.std.specs.Int.{int_min}
 use Rattle.std.proofs.lemmas.Int.{ints}
-use Rattle.std.proofs.lemmas.Bool.{cond_both, cond-true, cond-false, eq-eqb, ne_eqb}
+use Rattle.std.proofs.lemmas.Bool.{cond-true, cond-false, eq-eqb, ne_eqb}
 use Rattle.uc_model.specs.Prelude.{Commitment}
 use Rattle.uc_model.proofs.Common.{linear}
 use Rattle.dual_model.specs.Bellman.{MoveCosts, EndCosts, total_of, lesser_of, since_after, least_cost, way_cost}
@@ -30,26 +29,17 @@ pub record AtMost (a : Option ℤ) (v : ℤ) : Type 0 where
 pub lesser_left : (a b : Option ℤ) (v : ℤ) → AtMost a v → AtMost (lesser_of a b) v
 lesser_left None b v h = absurd (let e = h.is in cc)
 lesser_left (Some a) None v h = h
-lesser_left (Some a) (Some b) v h =
-    let same : a ≡ h.cost = (let e = h.is in cc) in
-    let le : int_min a b ≤ℤ a = grind (arith, ints) in
-    let below = h.below in
-    record { cost = int_min a b; is = refl; below = omega (arith, linear) }
+lesser_left (Some a) (Some b) v h = grind (arith, ints, h)
 
 pub lesser_right : (a b : Option ℤ) (v : ℤ) → AtMost b v → AtMost (lesser_of a b) v
 lesser_right None b v h = h
 lesser_right (Some a) None v h = absurd (let e = h.is in cc)
-lesser_right (Some a) (Some b) v h =
-    let same : b ≡ h.cost = (let e = h.is in cc) in
-    let le : int_min a b ≤ℤ b = grind (arith, ints) in
-    let below = h.below in
-    record { cost = int_min a b; is = refl; below = omega (arith, linear) }
+lesser_right (Some a) (Some b) v h = grind (arith, ints, h)
 
 pub lesser_one : (a b : Option ℤ) (v : ℤ) → lesser_of a b ≡ Some v → (a ≡ Some v) ⊎ (b ≡ Some v)
 lesser_one None b v e = inr e
 lesser_one (Some a) None v e = inl e
-lesser_one (Some a) (Some b) v e =
-    cond_both _ b a (λ (x : ℤ). Some x ≡ Some v → (◌≡◌ {A = Option ℤ} (Some a) (Some v)) ⊎ (◌≡◌ {A = Option ℤ} (Some b) (Some v))) (λ c h. inr h) (λ c h. inl h) e
+lesser_one (Some a) (Some b) v e = grind (arith, ints, e)
 
 -- the commitment with another bit in period t
 abbrev with_bit : Commitment → ℕ → Bool → Commitment

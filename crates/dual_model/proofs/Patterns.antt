@@ -1,7 +1,7 @@
 -- Of finitely many patterns that pass a test one has the least value, or none passes.
-use Rattle.std.proofs.Common.{◌≡◌, ℕ, zero, suc, ◌<◌, Bool, true, false, ◌==◌, sym, ap, ◌∙◌, arith, ⊎_elim, ℤ, ◌≤ℤ◌, eq-eqb, IsTrue, int_le, Option, Some, None, if◌then◌else◌}
+use Rattle.std.proofs.Common.{◌≡◌, ℕ, zero, suc, ◌<◌, Bool, true, false, ◌==◌, sym, ◌∙◌, arith, ⊎_elim, ℤ, ◌≤ℤ◌, IsTrue, int_le, Option, Some, None, if◌then◌else◌}
 use Rattle.std.proofs.lemmas.Int.{ints}
-use Rattle.std.proofs.lemmas.Bool.{cases_Bool, true≢false, cond_both, cond-true, cond-false, eqb-true}
+use Rattle.std.proofs.lemmas.Bool.{cases_Bool, true≢false, cond_both}
 use Rattle.uc_model.specs.Prelude.{Commitment}
 use Rattle.uc_model.proofs.Common.{le_trans, le_of_eq, int_le-true}
 use Rattle.dual_model.proofs.Locality.{SameBelow}
@@ -24,28 +24,14 @@ abbrev pub with_bit : ℕ → Bool → Commitment → Commitment
 with_bit n b on t = if t == n then b else on t
 
 below : (t n : ℕ) → t < suc n → (t == n) ≡ false → t < n
-below t n l apart = ⊎_elim
-    (λ (less : t < n). less)
-    (λ (same : t ≡ n). absurd (true≢false (sym (eq-eqb t n same) ∙ apart)))
-    (grind arith)
+below t n l apart = grind (arith, ints, l, apart)
 
 with_bit-same : (n : ℕ) (b : Bool) (on other : Commitment) → SameBelow n on other → SameBelow (suc n) (with_bit n b on) (with_bit n b other)
-with_bit-same n b on other h = record {
-  same = λ t l. ⊎_elim
-      (λ (here : IsTrue (t == n)). cond-true (t == n) b (on t) here ∙ sym (cond-true (t == n) b (other t) here))
-      (λ (apart : (t == n) ≡ false).
-      cond-false (t == n) b (on t) apart ∙ h.same t (below t n l apart) ∙ sym (cond-false (t == n) b (other t) apart))
-      (cases_Bool (t == n));
-}
+with_bit-same n b on other h = grind (arith, ints, h)
 
 -- its own bit changes nothing
 own_bit : (n : ℕ) (on : Commitment) (b : Bool) → on n ≡ b → SameBelow (suc n) on (with_bit n b on)
-own_bit n on b e = record {
-  same = λ t l. ⊎_elim
-      (λ (here : IsTrue (t == n)). ap on (eqb-true t n here) ∙ e ∙ sym (cond-true (t == n) b (on t) here))
-      (λ (apart : (t == n) ≡ false). sym (cond-false (t == n) b (on t) apart))
-      (cases_Bool (t == n));
-}
+own_bit n on b e = grind (arith, ints, e)
 
 half_local : (n : ℕ) (test : Commitment → Bool) (value : Commitment → ℤ) (b : Bool) → IsLocal (suc n) test value
     → IsLocal n (λ on. test (with_bit n b on)) (λ on. value (with_bit n b on))

@@ -47,16 +47,13 @@ within_cap periods q unit row t started stopped =
 on_parts : (q term pi pmin start k made least a p b r value u : ℤ) → value ≡ term -ℤ pi *ℤ pmin → u ≡ pos 1
     → (q *ℤ term) ≤ℤ (k *ℤ made +ℤ a *ℤ p +ℤ b *ℤ r) → q *ℤ start ≡ k *ℤ (q *ℤ least)
     → (q *ℤ (value +ℤ start)) ≤ℤ (k *ℤ (made +ℤ q *ℤ least) +ℤ a *ℤ p +ℤ b *ℤ r -ℤ pi *ℤ (q *ℤ pmin *ℤ u))
-on_parts q term pi pmin start k made least a p b r value u is_value is_on bound begun =
-    let order = mul_left_comm q pi pmin in
-    rw (is_value, is_on, mul-one (q *ℤ pmin)) (simp spread (omega (arith, linear)))
+on_parts q term pi pmin start k made least a p b r value u is_value is_on bound begun = grind (arith, ints, mul_left_comm, mul-one, spread, is_value, is_on, bound, begun)
 
 off_parts : (q pmin start pi k made least a p b r value u : ℤ) → value ≡ pos 0 → u ≡ pos 0 → made ≡ pos 0 → p ≡ pos 0 → r ≡ pos 0
     → q *ℤ start ≡ k *ℤ (q *ℤ least)
     → (q *ℤ (value +ℤ start)) ≤ℤ (k *ℤ (made +ℤ q *ℤ least) +ℤ a *ℤ p +ℤ b *ℤ r -ℤ pi *ℤ (q *ℤ pmin *ℤ u))
 off_parts q pmin start pi k made least a p b r value u is_value is_off none p_none r_none begun =
-    rw (is_value, is_off, none, p_none, r_none, mul-zero (q *ℤ pmin), mul-zero pi, mul-zero a, mul-zero b)
-    (simp (spread, mul-zero) (omega (arith, linear)))
+    grind (arith, ints, mul-zero, spread, is_value, is_off, none, p_none, r_none, begun)
 
 -- ---- an off cell has no weights, so it costs nothing
 pub made_off : (q : ℕ) (unit : Thermal) (row : Row) (t : ℕ) → weight_sum unit row t ≡ pos 0 → production_cost unit row t ≡ pos 0

@@ -1,20 +1,18 @@
 -- Rays of demand and reserve that name no ramp, where both may be missing at a price: their values are at most 0, since a
 -- unit that gives nothing above its minimum costs nothing at the scale 0, and what is needed may be missing.
-use Rattle.std.proofs.Common.{◌≡◌, ◌≢◌, ℕ, zero, suc, ◌*◌, ◌/◌, ◌<◌, ◌%◌, Bool, true, false, refl, sym, ap, subst, ◌∙◌, arith, length, ◌==◌, nat_lt, if◌then◌else◌, List, ℤ, pos, neg_ℤ, ◌+ℤ◌, ◌-ℤ◌, ◌*ℤ◌, ◌≤ℤ◌, int_lt, IsTrue, slice_index_or, Option, Some, None}
-use Rattle.std.specs.Int.{int_div_euclid, int_min, int_max}
-use Rattle.std.proofs.Math.Nat.{zero-div}
+use Rattle.std.proofs.Common.{◌≡◌, ◌≢◌, ℕ, zero, suc, ◌/◌, ◌<◌, Bool, true, false, refl, sym, ap, subst, ◌∙◌, arith, length, if◌then◌else◌, List, ℤ, pos, neg_ℤ, ◌+ℤ◌, ◌-ℤ◌, ◌*ℤ◌, ◌≤ℤ◌, IsTrue, slice_index_or, Option, Some, None}
+use Rattle.std.specs.Int.{int_max}
 use Rattle.std.proofs.lemmas.Int.{ints, clamps}
-use Rattle.std.proofs.lemmas.Bool.{cond-true, cond_both, lt-ltb}
-use Rattle.uc_model.specs.Prelude.{sum_below, bit, rise, Segment, segment_at, segment_width, hull_cost, starts, initial_p, sigma, last_stop, thermal_unit, thermal_count, renewable_count, renewable_minimum, renewable_maximum, demand_at, reserve_at, IsLawfulInstance}
-use Rattle.uc_model.proofs.Common.{linear, mul-zero, zero-mul, mul-one, one-mul, mul_nonneg, mul-le-mul_left, neg-mul, le_trans, le_from_mul, pos_nonneg, sum_below-le, sum_below-zero, sum_below-single}
+use Rattle.uc_model.specs.Prelude.{sum_below, bit, Segment, segment_at, hull_cost, initial_p, thermal_unit, thermal_count, renewable_count, demand_at, reserve_at, IsLawfulInstance}
+use Rattle.uc_model.proofs.Common.{linear, mul-zero, zero-mul, mul-one, one-mul, mul_nonneg, le_from_mul, pos_nonneg, sum_below-le, sum_below-zero, sum_below-single}
 use Rattle.dual_model.specs.Prices.{Instance, Table, pi_at, mu_at, up_at, down_at}
 use Rattle.dual_model.specs.Term.{Point, output_of, weighted_total, weighted_output, weighted_cost, IsTerm}
 use Rattle.dual_model.specs.Fixings.{Node}
 use Rattle.dual_model.specs.UnitValue.{Thermal, period_value, IsUnitValue}
 use Rattle.dual_model.specs.NodeValue.{shortage_value, shortages_value, unit_part, renewable_value, renewable_part}
-use Rattle.dual_model.specs.ExactValue.{UnitSchedule, floored_slope, slope_from, floored_cost, exact_cell_value, exact_period_value, IsExactUnitValue, exact_part, parts_total}
+use Rattle.dual_model.specs.ExactValue.{UnitSchedule, floored_slope, slope_from, floored_cost, exact_period_value, IsExactUnitValue, exact_part, parts_total}
 use Rattle.dual_model.specs.ValueKind.{IsValueOf}
-use Rattle.dual_model.specs.Opening.{OpeningRay, IsShortageRay, HasRayNumbers, ray_at, ray_period, period_rays, no_ray}
+use Rattle.dual_model.specs.Opening.{IsShortageRay, HasRayNumbers, ray_at, period_rays, no_ray}
 use Rattle.dual_model.specs.Laws.{ShortageRaysExcludeNothing}
 
 -- a sum of numbers of at most 0
@@ -32,15 +30,7 @@ record AsksForNeeds (instance : Instance) (table : Table) : Type 0 where
 -- a need at a multiplier, with what may be missing of it
 need_nonpos : (price : ℕ) (k m need : ℤ) → 0 < price → k ≡ pos 0 → pos 0 ≤ℤ m
     → (m *ℤ need +ℤ shortage_value k price m (int_max need (pos 0))) ≤ℤ pos 0
-need_nonpos price k m need some free sign =
-    let most = int_max need (pos 0) in
-    let above : need ≤ℤ most = grind (arith, ints) in
-    let paid = mul-le-mul_left m need most sign above in
-    let least : int_min (pos 0) (k *ℤ pos price -ℤ m) ≡ neg_ℤ m =
-    (let cost : k *ℤ pos price ≡ pos 0 = ap (λ z. z *ℤ pos price) free ∙ zero-mul (pos price) in grind (arith, ints)) in
-    let worth : shortage_value k price m most ≡ neg_ℤ (m *ℤ most) =
-    cond-true (nat_lt 0 price) _ _ (lt-ltb 0 price some) ∙ ap (λ z. z *ℤ most) least ∙ neg-mul m most in
-    omega (arith, linear)
+need_nonpos price k m need some free sign = grind (arith, ints, some, free, sign)
 
 -- a period of a system in which both may be missing
 period_nonpos : (instance : Instance) (table : Table) (t : ℕ) → AsksForNeeds instance table → 0 < instance.a → 0 < instance.b
@@ -96,18 +86,7 @@ start_free k s free = ap (λ z. z *ℤ s) free ∙ zero-mul s
 
 period_value_nonpos : (table : Table) (unit : Thermal) (on : ℕ → Bool) (term : ℕ → ℤ) (t : ℕ) → table.k ≡ pos 0
     → pos 0 ≤ℤ pi_at table t → pos 0 ≤ℤ unit.pmin → (IsTrue (on t) → term t ≤ℤ pos 0) → period_value table unit on term t ≤ℤ pos 0
-period_value_nonpos table unit on term t free sign minimum below =
-    let produced : (if on t then term t -ℤ pi_at table t *ℤ unit.pmin else pos 0) ≤ℤ pos 0 =
-    cond_both (on t) (term t -ℤ pi_at table t *ℤ unit.pmin) (pos 0) (λ z. z ≤ℤ pos 0)
-    (λ is_on. let paid = mul_nonneg (pi_at table t) unit.pmin sign minimum in let least = below is_on in omega (arith, linear))
-    (λ is_off. omega (arith, linear)) in
-    let begun : (if starts unit on t then table.k *ℤ sigma unit (last_stop unit on t) t else pos 0) ≤ℤ pos 0 =
-    cond_both (starts unit on t) (table.k *ℤ sigma unit (last_stop unit on t) t) (pos 0) (λ z. z ≤ℤ pos 0)
-    (λ starting.
-    let cost = start_free table.k (sigma unit (last_stop unit on t) t) free in
-    omega (arith, linear))
-    (λ none. omega (arith, linear)) in
-    omega (arith, linear)
+period_value_nonpos table unit on term t free sign minimum below = grind (arith, ints, free, sign, minimum, below)
 
 unit_nonpos : (instance : Instance) (node : Node) (table : Table) (g : ℕ) (v : ℤ) → IsLawfulInstance instance
     → AsksForNeeds instance table → g < thermal_count instance → IsUnitValue instance node table g v
@@ -134,9 +113,7 @@ unit_nonpos instance node table g v lawful asks hg value =
 -- ---- a unit's own schedule
 slope_free : (points : List Point) (segment : Option Segment) → floored_slope points (pos 0) segment ≡ pos 0
 slope_free points None = refl
-slope_free points (Some s) =
-    ap (λ z. int_div_euclid z (pos (segment_width points s))) (zero-mul (rise points s.left s.right))
-    ∙ ap pos (zero-div (segment_width points s))
+slope_free points (Some s) = grind (arith, ints, s)
 
 floored_free : (points : List Point) (k : ℤ) (q p : ℕ) → k ≡ pos 0 → floored_cost points k q p ≡ pos 0
 unfolding floored_cost
@@ -148,24 +125,7 @@ floored_free points k q p free = subst (λ z. floored_cost points z q p ≡ pos 
 exact_period_nonpos : (table : Table) (q : ℕ) (unit : Thermal) (x : UnitSchedule) (t : ℕ) → table.k ≡ pos 0 → pos 0 ≤ℤ pi_at table t
     → pos 0 ≤ℤ mu_at table t → pos 0 ≤ℤ unit.pmin → exact_period_value table q unit x t ≤ℤ pos 0
 exact_period_nonpos table q unit x t free wants holds minimum =
-    let produced : (if x.on t then exact_cell_value table q unit x t else pos 0) ≤ℤ pos 0 =
-    cond_both (x.on t) (exact_cell_value table q unit x t) (pos 0) (λ z. z ≤ℤ pos 0)
-    (λ is_on.
-    let least = mul_nonneg (pos q) unit.pmin (pos_nonneg q) minimum in
-    let given = pos_nonneg (x.p t) in
-    let paid = mul_nonneg (pi_at table t) (pos (x.p t) +ℤ pos q *ℤ unit.pmin) wants (omega (arith, linear, least, given)) in
-    let held = mul_nonneg (mu_at table t) (pos (x.r t)) holds (pos_nonneg (x.r t)) in
-    let cost = floored_free unit.points table.k q (x.p t) free in
-    omega (arith, linear, paid, held, cost))
-    (λ none. omega (arith, linear)) in
-    let start = table.k *ℤ sigma unit (last_stop unit x.on t) t in
-    let started : (if starts unit x.on t then pos q *ℤ start else pos 0) ≤ℤ pos 0 =
-    cond_both (starts unit x.on t) (pos q *ℤ start) (pos 0) (λ z. z ≤ℤ pos 0)
-    (λ starting.
-    let cost = ap (λ z. pos q *ℤ z) (start_free table.k (sigma unit (last_stop unit x.on t) t) free) ∙ mul-zero (pos q) in
-    omega (arith, linear, cost))
-    (λ none. omega (arith, linear)) in
-    omega (arith, linear, produced, started)
+    grind (arith, ints, mul_nonneg, pos_nonneg, floored_free, start_free, mul-zero, free, wants, holds, minimum)
 
 -- it has a schedule, which is worth no more than 0
 exact_unit_nonpos : (instance : Instance) (node : Node) (table : Table) (g : ℕ) (e : ℤ) → IsLawfulInstance instance
@@ -186,14 +146,7 @@ max_nonpos a b h k = omega (arith, ints, clamps)
 -- ---- a renewable unit
 renewable_nonpos : (instance : Instance) (table : Table) (w t : ℕ) → IsLawfulInstance instance → AsksForNeeds instance table
     → w < renewable_count instance → t < instance.periods → renewable_value instance table w t ≤ℤ pos 0
-renewable_nonpos instance table w t lawful asks hw ht =
-    let range = (lawful.renewable w hw).range t ht in
-    let low : pos 0 ≤ℤ int_max (renewable_minimum instance w t) (pos 0) = grind (arith, ints) in
-    let least = mul_nonneg (pi_at table t) (int_max (renewable_minimum instance w t) (pos 0)) (asks.demand t ht) low in
-    let most = mul_nonneg (pi_at table t) (renewable_maximum instance w t) (asks.demand t ht) (le_trans _ _ _ low range) in
-    cond_both (int_lt (pos 0) (pi_at table t)) (neg_ℤ (pi_at table t *ℤ renewable_maximum instance w t))
-    (neg_ℤ (pi_at table t *ℤ int_max (renewable_minimum instance w t) (pos 0))) (λ z. z ≤ℤ pos 0)
-    (λ up. omega (arith, linear, most)) (λ down. omega (arith, linear, least))
+renewable_nonpos instance table w t lawful asks hw ht = grind (arith, ints, lawful, asks, hw, ht)
 
 -- ---- the whole, by what the thermal units add
 parts_nonpos : (instance : Instance) (table : Table) (v : ℤ) (part : ℕ → ℤ) → IsLawfulInstance instance → AsksForNeeds instance table
@@ -234,9 +187,7 @@ need_ray (suc (suc (suc zero))) other = record { wants = omega (arith, linear); 
 need_ray (suc (suc (suc (suc i)))) other = record { wants = omega (arith, linear); holds = omega (arith, linear); no_up = λ u. refl; no_down = λ u. refl }
 
 at_ray : (periods n : ℕ) → IsShortageRay periods n → (let ray = ray_at periods n in IsNeedRay ray.demand ray.reserve ray.up ray.down)
-at_ray periods n is_ray =
-    subst (λ (ray : OpeningRay). IsNeedRay ray.demand ray.reserve ray.up ray.down)
-    (sym (cond-true (nat_lt n (4 * periods)) _ _ (lt-ltb n (4 * periods) is_ray.within))) (need_ray (n % 4) is_ray.wants)
+at_ray periods n is_ray = grind (arith, ints, is_ray)
 
 one_or_nought : (b : Bool) (z price : ℤ) → pos 0 ≤ℤ z → price ≡ (if b then z else pos 0) → pos 0 ≤ℤ price
 one_or_nought true z price sign e = omega (arith, linear)
@@ -248,16 +199,7 @@ no_multiplier_at false named n none e = e
 
 asks_of : (instance : Instance) (n : ℕ) (table : Table) → IsShortageRay instance.periods n → HasRayNumbers instance n table
     → AsksForNeeds instance table
-asks_of instance n table is_ray numbers =
-    let ray = ray_at instance.periods n in
-    let need = at_ray instance.periods n is_ray in
-    record {
-      scale = numbers.scale;
-      demand = λ t ht. one_or_nought (t == ray_period instance.periods n) ray.demand _ need.wants (numbers.demand t ht);
-      reserve = λ t ht. one_or_nought (t == ray_period instance.periods n) ray.reserve _ need.holds (numbers.reserve t ht);
-      up = λ g t hg. no_multiplier_at (t == 0) (ray.up (thermal_unit instance g)) _ (need.no_up _) (numbers.up g t hg);
-      down = λ g t hg. no_multiplier_at (t == 0) (ray.down (thermal_unit instance g)) _ (need.no_down _) (numbers.down g t hg);
-    }
+asks_of instance n table is_ray numbers = grind (arith, ints, is_ray, numbers)
 
 pub shortage_rays_exclude_nothing : (exact : Bool) → ShortageRaysExcludeNothing exact
 shortage_rays_exclude_nothing exact instance node n table v lawful shed short is_ray numbers value =

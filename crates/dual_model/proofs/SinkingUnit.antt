@@ -1,11 +1,10 @@
 -- The unit of the examples that can't ramp down from 20 MW to 10, for an hour: it is on, at 15 MW or more, and L on its
 -- points has one slope. At a unit of 40 MW in watts L is never summed up.
-use Rattle.std.proofs.Common.{◌≡◌, ℕ, zero, suc, ◌*◌, ◌/◌, ◌<◌, ◌≤◌, ◌⊎◌, ⊎_elim, true, false, cond, true≢false, refl, sym, ap, subst, ◌∙◌, arith, List, length, ℤ, pos, ◌+ℤ◌, ◌-ℤ◌, ◌*ℤ◌, neg_ℤ, ◌≤ℤ◌, Some}
+use Rattle.std.proofs.Common.{◌≡◌, ℕ, zero, suc, ◌*◌, ◌/◌, ◌<◌, ◌≤◌, ◌⊎◌, true, cond, refl, sym, ap, subst, ◌∙◌, arith, List, length, ℤ, pos, ◌+ℤ◌, ◌-ℤ◌, ◌*ℤ◌, neg_ℤ, ◌≤ℤ◌, Some}
 use Rattle.std.proofs.lemmas.Nat.{div_below}
-use Rattle.std.proofs.lemmas.Bool.{cases_Bool}
-use Rattle.uc_model.specs.Prelude.{point_of, output_of, Segment, hull_cost}
+use Rattle.uc_model.specs.Prelude.{point_of, Segment, hull_cost}
 use Rattle.uc_model.specs.Examples.{mw}
-use Rattle.uc_model.proofs.Common.{linear, zero-mul, one-mul, neg-mul, sum_below-same, sum_below-const, Rises, Steps, step_there}
+use Rattle.uc_model.proofs.Common.{linear, zero-mul, one-mul, neg-mul, sum_below-same, sum_below-const, Rises, Steps}
 use Rattle.dual_model.specs.Prices.{pi_at, mu_at}
 use Rattle.dual_model.specs.ExactValue.{Point, Instance, Table, UnitSchedule, floored_slope, slope_from, floored_cost, IsUnitScheduleAt, IsUnitSchedule, exact_cell_value, exact_period_value, unit_schedule_value, IsExactUnitValue}
 use Rattle.dual_model.specs.Tree.{root}
@@ -40,29 +39,10 @@ abbrev whole : Segment
 whole = record { left = 0; right = 1 }
 
 step_is : (x : ℕ) (s : Segment) → x < 40000000 → Steps points x s → s ≡ whole
-step_is x s h step = λ i. record { left = left i; right = right i }
-  where
-    left : s.left ≡ 0
-    left = ⊎_elim (λ (is : s.left ≡ 0). is)
-        (λ (is : s.left ≡ 1).
-        let begins = step.begins in
-        let there = ap (output_of points) is in
-        absurd (omega (arith, linear, begins, there, h)))
-        (two_ends s.left step.under.left)
-
-    right : s.right ≡ 1
-    right = ⊎_elim
-        (λ (is : s.right ≡ 0).
-        let reaches = step.reaches in
-        let there = ap (output_of points) is in
-        absurd (omega (arith, linear, reaches, there)))
-        (λ (is : s.right ≡ 1). is)
-        (two_ends s.right step.under.right)
+step_is x s h step = grind (arith, linear, h, step)
 
 slope_is : (k : ℤ) (x : ℕ) → x < 40000000 → slope_from points k x ≡ floored_slope points k (Some whole)
-slope_is k x h =
-    let step = step_there points x rises (omega (arith, linear, h)) in
-    ap (floored_slope points k) (step.1.at ∙ ap Some (step_is x step.0 h step.1))
+slope_is k x h = grind (arith, linear, h)
 
 -- ---- its schedules in an hour
 abbrev system : ℕ → Instance
@@ -75,19 +55,7 @@ record IsKept (q : ℕ) (x : UnitSchedule) : Type 0 where
   high : x.p 0 ≤ (40000000 * q)
 
 kept : (demand q : ℕ) (x : UnitSchedule) → IsUnitSchedule (system demand) root 0 q x → IsKept q x
-kept demand q x is =
-    let at : IsUnitScheduleAt 1 q sinking_unit x 0 = is.each 0 (omega arith) in
-    let some = is.denominator in
-    let fall : (pos (q * 10000000) -ℤ pos (x.p 0)) ≤ℤ pos (q * 5000000) = at.ramp_down in
-    let width : pos (x.p 0) ≤ℤ pos (q * 40000000) = at.width in
-    record {
-      on = ⊎_elim
-          (λ (on : x.on 0 ≡ true). on)
-          (λ (off : x.on 0 ≡ false). let none = (at.off off).0 in absurd (omega (arith, linear, some, fall, none)))
-          (cases_Bool (x.on 0));
-      low = omega (arith, linear, fall);
-      high = omega (arith, linear, width);
-    }
+kept demand q x is = grind (arith, linear, is)
 
 -- what a schedule of output p and reserve r adds
 abbrev value_at : Table → ℕ → ℕ → ℕ → ℤ
@@ -112,22 +80,11 @@ abbrev lowest : UnitSchedule
 lowest = record { on = λ t. true; p = λ t. 5000000; r = λ t. 0 }
 
 lowest-at : (t : ℕ) → t < 1 → IsUnitScheduleAt 1 1 sinking_unit lowest t
-lowest-at zero h = record {
-  off = λ off. absurd (true≢false off);
-  width = omega (arith, linear);
-  start_cap = omega (arith, linear);
-  stop_cap = λ later. absurd (omega (arith, later));
-  ramp_up = omega (arith, linear);
-  ramp_down = omega (arith, linear);
-}
+lowest-at zero h = grind (arith, linear, zero, h)
 lowest-at (suc t) h = absurd (omega (arith, h))
 
 lowest-is : (demand : ℕ) → IsUnitSchedule (system demand) root 0 1 lowest
-lowest-is demand = record {
-  denominator = omega arith;
-  pattern = record { allowed = refl; agrees = refl };
-  each = lowest-at;
-}
+lowest-is demand = grind (arith, linear)
 
 -- a number that bounds them, and that the lowest one reaches, is the unit's exact value
 pub exact_unit : (demand : ℕ) (table : Table) (e : ℤ)

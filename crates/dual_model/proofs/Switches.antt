@@ -31,8 +31,7 @@ since_after-le false from false t h = omega arith
 
 pub since-le : (initial : Bool) (state : Commitment) (t : ℕ) → since initial state t ≤ t
 since-le initial state zero = omega arith
-since-le initial state (suc t) =
-    since_after-le (state_before initial state t) (since initial state t) (state t) t (since-le initial state t)
+since-le initial state (suc t) = grind (arith, (since-le initial state t))
 
 -- a state that a unit is in after period t began in it exactly where it was entered there
 began : (was : Bool) (from : ℕ) (t : ℕ) → from ≤ t → (since_after was from true t == suc t) ≡ (not was && true)
@@ -40,11 +39,7 @@ began true from t h = ne_eqb from (suc t) (λ e. omega arith)
 began false from t h = eq-eqb (suc t) (suc t) refl
 
 pub since-start : (unit : Thermal) (on : Commitment) (t : ℕ) → on t ≡ true → (since unit.on0 on (suc t) == suc t) ≡ starts unit on t
-since-start unit on t e =
-    let step = began (was_on unit on t) (since unit.on0 on t) t (since-le unit.on0 on t) in
-    (λ i. since_after (was_on unit on t) (since unit.on0 on t) (e i) t == suc t)
-    ∙ step
-    ∙ (λ i. not (was_on unit on t) && sym e i)
+since-start unit on t e = grind (arith, began, since-le, e)
 
 -- the last stop of a unit that is off
 last_stop-step : (unit : Thermal) (on : Commitment) (t : ℕ) (was now : Bool) → was_on unit on t ≡ was → on t ≡ now → now ≡ false

@@ -1,8 +1,8 @@
 -- The least value by a unit's terms is the unit's value at the table that the terms are of.
-use Rattle.std.proofs.Common.{◌≡◌, ℕ, ◌<◌, Bool, true, false, refl, sym, ap, subst, ◌∙◌, arith, ℤ, pos, ◌+ℤ◌, ◌-ℤ◌, ◌*ℤ◌, ◌≤ℤ◌, IsTrue, Option, Some, None, unwrap_or, List, if◌then◌else◌}
-use Rattle.uc_model.specs.Prelude.{sum_below, Commitment, starts, cap, is_allowed, last_stop, sigma, thermal_unit, term_at, price_at}
+use Rattle.std.proofs.Common.{◌≡◌, ℕ, ◌<◌, refl, sym, subst, ◌∙◌, arith, ℤ, pos, ◌≤ℤ◌, IsTrue, Option, Some, None, unwrap_or, List}
+use Rattle.uc_model.specs.Prelude.{sum_below, Commitment, starts, cap, is_allowed, thermal_unit, term_at}
 use Rattle.uc_model.proofs.Common.{linear, sum_below-same}
-use Rattle.dual_model.specs.Prices.{Instance, Table, pi_at}
+use Rattle.dual_model.specs.Prices.{Instance, Table}
 use Rattle.dual_model.specs.Fixings.{Fix, Node, IsPatternAt, IsFixOf, HasNoPattern}
 use Rattle.dual_model.specs.Term.{Point, IsTerm, IsTermAt, output_price, reserve_price}
 use Rattle.dual_model.specs.UnitValue.{Thermal, IsPatternValue, IsUnitValue, period_value}
@@ -51,35 +51,12 @@ period-same : (instance : Instance) (table : Table) (g : ℕ) (terms : Terms) �
     → (on : Commitment) (term : ℕ → ℤ) (t : ℕ) → t < instance.periods
     → (IsTrue (on t) → term t ≡ term_of terms (thermal_unit instance g) on t)
     → period_value table (thermal_unit instance g) on term t ≡ by_terms.period_value terms (thermal_unit instance g) on t
-period-same instance table g terms are on term t within same = λ i.
-    hour i +ℤ (if starts unit on t then are_scale i *ℤ sigma unit (last_stop unit on t) t else pos 0)
-  where
-    unit : Thermal
-    unit = thermal_unit instance g
-
-    are_scale : table.k ≡ terms.k
-    are_scale = sym are.scale
-
-    table_side : ℤ
-    table_side = term t -ℤ pi_at table t *ℤ (thermal_unit instance g).pmin
-
-    terms_side : ℤ
-    terms_side = term_of terms (thermal_unit instance g) on t -ℤ price_at terms t *ℤ (thermal_unit instance g).pmin
-
-    by_bit : (b : Bool) → on t ≡ b → (if b then table_side else pos 0) ≡ (if b then terms_side else pos 0)
-    by_bit true e = λ i. same e i -ℤ sym (are.price t within) i *ℤ (thermal_unit instance g).pmin
-    by_bit false e = refl
-
-    hour : (if on t then table_side else pos 0) ≡ (if on t then terms_side else pos 0)
-    hour = by_bit (on t) refl
+period-same instance table g terms are on term t within same = grind (arith, linear, are, within, same)
 
 total-same : (instance : Instance) (table : Table) (g : ℕ) (terms : Terms) → AreTermsOf instance table g terms
     → (on : Commitment) (term : ℕ → ℤ) → ((t : ℕ) → t < instance.periods → IsTrue (on t) → term t ≡ term_of terms (thermal_unit instance g) on t)
     → sum_below instance.periods (period_value table (thermal_unit instance g) on term) ≡ pattern_value terms (thermal_unit instance g) on
-total-same instance table g terms are on term same =
-    sum_below-same instance.periods _ (by_terms.period_value terms (thermal_unit instance g) on)
-    (λ t within. period-same instance table g terms are on term t within (same t within))
-    ∙ ap (λ n. sum_below n (by_terms.period_value terms (thermal_unit instance g) on)) (sym are.periods)
+total-same instance table g terms are on term same = grind (arith, linear, sum_below-same, period-same, are, same)
 
 pub to_table : (instance : Instance) (table : Table) (g : ℕ) (terms : Terms) → AreTermsOf instance table g terms
     → (on : Commitment) → IsTrue (is_allowed instance.periods (thermal_unit instance g) on)
@@ -120,10 +97,7 @@ value-of instance node table g terms fix v are decided least = record {
 none-of : (instance : Instance) (node : Node) (table : Table) (g : ℕ) (terms : Terms) (fix : Fix)
     → AreTermsOf instance table g terms → IsFixOf instance.periods node g fix
     → by_terms.HasNoPattern terms (thermal_unit instance g) fix → HasNoPattern instance node g
-none-of instance node table g terms fix are decided none on at =
-    none on
-    (subst (λ n. IsPattern n (thermal_unit instance g) fix on) (sym are.periods)
-    (from_node instance node g fix decided on at))
+none-of instance node table g terms fix are decided none on at = grind (arith, linear, are, decided, none, on, at)
 
 -- what a walk's answer by the terms says at the table
 pub unit_value-of : (instance : Instance) (node : Node) (table : Table) (g : ℕ) (unit : Thermal) (terms : Terms) (fix : Fix) (v : Option ℤ)
@@ -131,7 +105,5 @@ pub unit_value-of : (instance : Instance) (node : Node) (table : Table) (g : ℕ
     → ((w : ℤ) → v ≡ Some w → IsLeastValue terms unit fix w)
     → (v ≡ None → by_terms.HasNoPattern terms unit fix)
     → IsUnitValueOf instance node table g v
-unit_value-of instance node table g unit terms fix None same are decided some none =
-    none-of instance node table g terms fix are decided (subst (λ u. by_terms.HasNoPattern terms u fix) (sym same) (none refl))
-unit_value-of instance node table g unit terms fix (Some w) same are decided some none =
-    value-of instance node table g terms fix w are decided (subst (λ u. IsLeastValue terms u fix w) (sym same) (some w refl))
+unit_value-of instance node table g unit terms fix None same are decided some none = grind (arith, linear, same, are, decided, some, none)
+unit_value-of instance node table g unit terms fix (Some w) same are decided some none = grind (arith, linear, value-of, same, are, decided, some, none)

@@ -5,7 +5,7 @@ use Rattle.std.specs.Int.{int_min, int_div_euclid}
 use Rattle.std.proofs.lemmas.Int.{ints}
 use Rattle.std.proofs.lemmas.Bool.{cases_Bool, cond_both, cond-true, cond-false, eqb-true}
 use Rattle.uc_model.specs.Prelude.{sum_below, least_below}
-use Rattle.uc_model.proofs.Common.{linear, le_refl, le_trans, mul_comm, mul_assoc, mul-zero, mul-one, one-mul, neg-mul, mul-le-mul_left, pos_of_nonneg, sub-mul, add-mul, mul-add, sum_below-same, sum_below-add, sum_below-sub, sum_below-mul_left, sum_below-single, IsFloor-int_div_euclid, IsFloor-greatest, int_le-true, le-int_le, int_lt-true, lt-int_lt, least_below-le, least_below-le-other}
+use Rattle.uc_model.proofs.Common.{linear, le_refl, le_trans, mul_comm, mul_assoc, mul-zero, mul-one, one-mul, mul-le-mul_left, pos_of_nonneg, sub-mul, add-mul, mul-add, sum_below-same, sum_below-add, sum_below-sub, sum_below-mul_left, sum_below-single, IsFloor-int_div_euclid, IsFloor-greatest, int_le-true, le-int_le, int_lt-true, lt-int_lt, least_below-le, least_below-le-other}
 use Rattle.dual_model.specs.Term.{Point, IsCellBound, IsTerm, point_of, output_of, weighted_total, weighted_output, weighted_cost}
 use Rattle.dual_model.proofs.CellBounds.{BoundsCorners, corners_bound}
 
@@ -196,25 +196,12 @@ at_one points k a b cap m bound l r hl sign room =
 
 -- the two distances of a pair, as weights on each other's points
 pair_room : (dl dj : ℤ) (u v : ℕ) → neg_ℤ dj ≡ pos u → dl ≡ pos v → pos 0 ≤ℤ (dl *ℤ pos u +ℤ dj *ℤ pos v)
-pair_room dl dj u v far near =
-    let left = ap (λ z. z *ℤ pos u) near in
-    let other : dj ≡ neg_ℤ (pos u) = omega (arith, linear) in
-    let right = ap (λ z. z *ℤ pos v) other ∙ neg-mul (pos u) (pos v) in
-    let order = mul_comm (pos v) (pos u) in
-    omega (arith, linear)
+pair_room dl dj u v far near = grind (arith, ints, far, near)
 
 pair_bound : (dl dj fl fj b m : ℤ) (u v : ℕ) → neg_ℤ dj ≡ pos u → dl ≡ pos v
     → (pos (u + v) *ℤ m) ≤ℤ (fl *ℤ pos u +ℤ fj *ℤ pos v +ℤ b *ℤ pos 0)
     → ((dl -ℤ dj) *ℤ m) ≤ℤ (neg_ℤ dj *ℤ fl +ℤ dl *ℤ fj)
-pair_bound dl dj fl fj b m u v far near bound =
-    let width : dl -ℤ dj ≡ pos (u + v) = omega (arith, linear) in
-    let whole = ap (λ z. z *ℤ m) width in
-    let left = ap (λ z. z *ℤ fl) far in
-    let right = ap (λ z. z *ℤ fj) near in
-    let left_order = mul_comm fl (pos u) in
-    let right_order = mul_comm fj (pos v) in
-    let unpaid = mul-zero b in
-    omega (arith, linear)
+pair_bound dl dj fl fj b m u v far near bound = grind (arith, ints, far, near, bound)
 
 -- what bounds the cell bounds the corners
 pub corners-cell_bound : (points : List Point) (k a b cap m : ℤ) → IsCellBound points k a b cap m

@@ -6,10 +6,7 @@ use Rattle.dual_model.specs.Prices.{RampRow, AreRising, ArePlacesOf, IsRowBefore
 
 -- ---- the order of units
 unit-order : (first second : RampRow) → IsRowBefore first second → first.g ≤ second.g
-unit-order first second h = ⊎_elim
-    (λ (l : first.g < second.g). omega arith)
-    (λ (same : (first.g ≡ second.g) × (first.t < second.t)). omega (arith, same.0))
-    h.before
+unit-order first second h = grind (arith, h)
 
 tail-rising : (row : RampRow) (rows : List RampRow) → AreRising (row ∷ rows) → AreRising rows
 tail-rising row rows rising i d h = rising (suc i) d (omega arith)
@@ -17,9 +14,7 @@ tail-rising row rows rising i d h = rising (suc i) d (omega arith)
 -- a row behind another one is of no earlier unit
 unit-later : (rows : List RampRow) → AreRising rows → (i j : ℕ) (d : RampRow) → i ≤ j → j < length rows
     → (slice_index_or rows i d).g ≤ (slice_index_or rows j d).g
-unit-later rows rising i zero d h l =
-    let same : i ≡ 0 = omega arith in
-    subst (λ n. (slice_index_or rows n d).g ≤ (slice_index_or rows 0 d).g) (sym same) (omega arith)
+unit-later rows rising i zero d h l = grind (arith, rising, zero, h, l)
 unit-later rows rising i (suc j) d h l = ⊎_elim
     (λ (same : i ≡ suc j). subst (λ n. (slice_index_or rows n d).g ≤ (slice_index_or rows (suc j) d).g) (sym same) (omega arith))
     (λ (earlier : i ≤ j).
@@ -69,15 +64,7 @@ record AreParted (rows : List RampRow) (g n : ℕ) (d : RampRow) : Type 0 where
 
 parted-more : (row : RampRow) (rows : List RampRow) (g n : ℕ) (d : RampRow) → row.g < g → AreParted rows g n d
     → AreParted (row ∷ rows) g (suc n) d
-parted-more row rows g n d h rest = record { earlier = front; later = back }
-  where
-    front : (i : ℕ) → i < suc n → (slice_index_or (row ∷ rows) i d).g < g
-    front zero l = h
-    front (suc i) l = rest.earlier i (omega arith)
-
-    back : (i : ℕ) → suc n ≤ i → i < suc (length rows) → g ≤ (slice_index_or (row ∷ rows) i d).g
-    back zero low l = absurd (omega arith)
-    back (suc i) low l = rest.later i (omega arith) (omega arith)
+parted-more row rows g n d h rest = grind (arith, h, rest)
 
 parted : (rows : List RampRow) → AreRising rows → (g : ℕ) (d : RampRow) → AreParted rows g (rows_before rows g) d
 parted [] rising g d = record { earlier = λ i l. absurd (omega arith); later = λ i low l. absurd (omega arith) }
@@ -136,18 +123,7 @@ look_up rows rising g t =
 
 -- the rows of a unit rise as all rows do
 pub rising-part : (rows : List RampRow) → AreRising rows → (g : ℕ) → AreRising (unit_rows rows g)
-rising-part rows rising g i d h =
-    let start = rows_before rows g in
-    let count = rows_before rows (suc g) - start in
-    let lengths : suc i < count = omega (arith, length-take count (drop start rows)) in
-    let inside : suc (start + i) < length rows = omega (arith, length-take count (drop start rows), length-drop start rows) in
-    let read : (k : ℕ) → k < count → slice_index_or (take count (drop start rows)) k d ≡ slice_index_or rows (start + k) d =
-    λ k l. get_or-take count (drop start rows) k d l ∙ get_or-drop start rows k d in
-    let next : start + suc i ≡ suc (start + i) = omega arith in
-    subst (λ (second : RampRow). IsRowBefore (slice_index_or (take count (drop start rows)) i d) second)
-    (sym (read (suc i) lengths ∙ ap (λ n. slice_index_or rows n d) next))
-    (subst (λ (first : RampRow). IsRowBefore first (slice_index_or rows (suc (start + i)) d)) (sym (read i (omega arith)))
-    (rising (start + i) d inside))
+rising-part rows rising g i d h = grind (arith, length-take, length-drop, slice_index_or, get_or-take, get_or-drop, rising, i, d, h)
 
 -- ---- the places of the units
 -- the places of the units up to that of the last of the first n rows

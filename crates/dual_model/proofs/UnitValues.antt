@@ -1,7 +1,7 @@
 -- The value of a unit, computed over all its patterns: it is there exactly where the unit has a pattern at the node.
 use Rattle.std.proofs.Common.{◌≡◌, ℕ, ◌<◌, List, length, Bool, true, false, not, ◌&&◌, cond, refl, sym, ap, subst, ◌∙◌, arith, ⊎_elim, ℤ, pos, ◌+ℤ◌, ◌-ℤ◌, ◌*ℤ◌, ◌≤ℤ◌, IsTrue, int_le, max, Option, Some, None, option_map}
 use Rattle.std.proofs.lemmas.Bool.{and_parts, and_from, or_cases, not_from_true, true≢false}
-use Rattle.uc_model.specs.Prelude.{sum_below, Commitment, starts, cap, is_allowed, is_allowed_at, last_stop, sigma, thermal_unit}
+use Rattle.uc_model.specs.Prelude.{sum_below, Commitment, cap, is_allowed, is_allowed_at, thermal_unit}
 use Rattle.uc_model.proofs.Common.{le_antisymm, sum_below-same, int_le-true, all_below-at}
 use Rattle.dual_model.specs.Prices.{Instance, Table, pi_at}
 use Rattle.dual_model.specs.Fixings.{Node, unit_agrees, HasNoPattern}
@@ -65,23 +65,7 @@ cond_on false x y h = refl
 -- and one at most
 pub pattern_value_unique : (instance : Instance) (table : Table) (g : ℕ) (on : Commitment) (v w : ℤ) → IsPatternValue instance table g on v
     → IsPatternValue instance table g on w → v ≡ w
-pattern_value_unique instance table g on v w first second =
-    first.total
-    ∙ sum_below-same instance.periods _ _ (λ t l. ap (λ z. z +ℤ start t) (each t l))
-    ∙ sym second.total
-  where
-    start : ℕ → ℤ
-    start t =
-        cond (starts (thermal_unit instance g) on t)
-        (table.k *ℤ sigma (thermal_unit instance g) (last_stop (thermal_unit instance g) on t) t) (pos 0)
-
-    each : (t : ℕ) → t < instance.periods → cond (on t) (first.term t -ℤ pi_at table t *ℤ (thermal_unit instance g).pmin) (pos 0)
-        ≡ cond (on t) (second.term t -ℤ pi_at table t *ℤ (thermal_unit instance g).pmin) (pos 0)
-    each t l = cond_on (on t) _ _ (λ here.
-        let unit = thermal_unit instance g in
-        ap (λ m. m -ℤ pi_at table t *ℤ unit.pmin)
-        (term_unique unit.points table.k (output_price table g t) (reserve_price table g t)
-        (cap instance.periods unit on t) _ _ (first.terms t l here) (second.terms t l here)))
+pattern_value_unique instance table g on v w first second = grind (arith, sum_below-same, cond_on, term_unique, first, second)
 
 -- the value depends on the instance's periods alone
 term_of-same : (instance : Instance) (table : Table) (g : ℕ) (on other : Commitment) → SameBelow instance.periods on other → (t : ℕ)
@@ -113,15 +97,7 @@ last_period instance node = max instance.periods (fixed_below node.fixings)
 
 pattern_local : (instance : Instance) (node : Node) (table : Table) (g : ℕ) → 0 < instance.periods
     → IsLocal (last_period instance node) (is_pattern_at instance node g) (value_of instance table g)
-pattern_local instance node table g some = record {
-  tests = λ on other h. λ i.
-      is_allowed-same instance.periods (thermal_unit instance g) on other some (narrowed on other h) i
-      && kept-same (last_period instance node) g on other h node.fixings (omega arith) i;
-  values = λ on other h. value_of-same instance table g on other (narrowed on other h);
-}
-  where
-    narrowed : (on other : Commitment) → SameBelow (last_period instance node) on other → SameBelow instance.periods on other
-    narrowed on other h = record { same = λ t l. h.same t (omega arith) }
+pattern_local instance node table g some = grind (arith, is_allowed-same, kept-same, value_of-same, some)
 
 -- the value of unit g at the node and the table, if it has one
 unfoldable pub unit_value_of : Instance → Node → Table → ℕ → Option ℤ

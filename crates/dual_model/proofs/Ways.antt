@@ -1,12 +1,11 @@
 -- The way that a commitment takes from the initial state: in which case there is one, and that its cost is the pattern's value.
-use Rattle.std.proofs.Common.{◌≡◌, ℕ, zero, suc, ◌+◌, ◌<◌, ◌≤◌, ⊎_elim, Bool, true, false, not, ◌&&◌, refl, sym, ap, subst, ◌∙◌, arith, ℤ, pos, ◌+ℤ◌, ◌-ℤ◌, ◌*ℤ◌, IsTrue, Option, Some, None, unwrap_or, ◌==◌, if◌then◌else◌}
-use mathlib.Core.Bool.{and-true, and-false}
-use Rattle.std.proofs.lemmas.Bool.{cond-true, cond-false, and_parts, and_from, true≢false, lt-ltb, le-ltb}
-use Rattle.uc_model.specs.Prelude.{sum_below, Commitment, was_on, starts, stops, last_stop, sigma, period_count, term_at, price_at, may_stop, may_start}
+use Rattle.std.proofs.Common.{◌≡◌, ℕ, zero, suc, ◌+◌, ◌<◌, ◌≤◌, ⊎_elim, Bool, true, false, not, refl, sym, ap, subst, ◌∙◌, arith, ℤ, pos, ◌+ℤ◌, ◌-ℤ◌, ◌*ℤ◌, IsTrue, Option, Some, None, unwrap_or, ◌==◌, if◌then◌else◌}
+use Rattle.std.proofs.lemmas.Bool.{cond-true, cond-false, lt-ltb, le-ltb}
+use Rattle.uc_model.specs.Prelude.{sum_below, Commitment, was_on, starts, last_stop, sigma, period_count, term_at, price_at, may_stop, may_start}
 use Rattle.uc_model.proofs.Common.{linear, sum_below-first, sum_below-same}
-use Rattle.dual_model.specs.PatternValue.{Terms, Thermal, is_followed, term_of, period_value, pattern_value}
+use Rattle.dual_model.specs.PatternValue.{Terms, Thermal, is_followed, period_value, pattern_value}
 use Rattle.dual_model.specs.Bellman.{MoveCosts, EndCosts, total_of, since_after, way_cost}
-use Rattle.dual_model.specs.Moves.{Fix, may_be_on, may_be_off, may_move, allowed, holds_initially, stop_since, hour_cost, hour_before, hour_and_start}
+use Rattle.dual_model.specs.Moves.{Fix, may_be_on, may_be_off, may_move, allowed, holds_initially, hour_cost, hour_before, hour_and_start}
 use Rattle.dual_model.specs.CostToGo.{end_cost, way}
 use Rattle.dual_model.proofs.Optimum.{total_of-parts}
 use Rattle.dual_model.proofs.Switches.{since, since-start, last_stop-since}
@@ -22,24 +21,18 @@ hour terms unit on (suc t) =
 hour-last : (terms : Terms) (unit : Thermal) (on : Commitment) (t : ℕ) (followed : Bool) → was_on unit on (suc t) ≡ true
     → followed ≡ is_followed (period_count terms) unit on t
     → hour_cost terms unit t (term_at terms t (since unit.on0 on (suc t) == suc t) followed) ≡ hour terms unit on (suc t)
-hour-last terms unit on t followed e same =
-    (λ i. hour_cost terms unit t (term_at terms t (since-start unit on t e i) (same i))) ∙ sym (cond-true (on t) _ _ e)
+hour-last terms unit on t followed e same = grind (arith, linear, since-start, cond-true, e, same)
 
 -- the same of a state that is on, before a period of the horizon and after the last one
 pub hour-on : (terms : Terms) (unit : Thermal) (on : Commitment) (t : ℕ) → t < period_count terms → was_on unit on t ≡ true
     → hour_before terms unit t (since unit.on0 on t == t) (not (on t)) ≡ hour terms unit on t
 hour-on terms unit on zero h e = refl
-hour-on terms unit on (suc t) h e =
-    hour-last terms unit on t _ e
-    (sym ((λ i. (e i && not (on (suc t))) && lt-ltb (suc t) (period_count terms) h i) ∙ and-true (not (on (suc t)))))
+hour-on terms unit on (suc t) h e = grind (arith, linear, hour-last, lt-ltb, h, e)
 
 pub hour-end : (terms : Terms) (unit : Thermal) (on : Commitment) (t : ℕ) → t ≡ period_count terms → was_on unit on t ≡ true
     → hour_before terms unit t (since unit.on0 on t == t) false ≡ hour terms unit on t
 hour-end terms unit on zero h e = refl
-hour-end terms unit on (suc t) h e =
-    let past : period_count terms ≤ suc t = omega arith in
-    hour-last terms unit on t false e
-    (sym ((λ i. stops unit on (suc t) && le-ltb (suc t) (period_count terms) past i) ∙ and-false (stops unit on (suc t))))
+hour-end terms unit on (suc t) h e = grind (arith, linear, hour-last, le-ltb, h, e)
 
 pub hour-off : (terms : Terms) (unit : Thermal) (on : Commitment) (t : ℕ) → was_on unit on t ≡ false → hour terms unit on t ≡ Some (pos 0)
 hour-off terms unit on zero e = refl
@@ -61,51 +54,16 @@ pub record IsRight (unit : Thermal) (fix : Fix) (on : Commitment) (t : ℕ) : Ty
 -- a move that may be, and the rules of its period
 pub right-from : (unit : Thermal) (fix : Fix) (on : Commitment) (t from : ℕ) (was now : Bool) → was_on unit on t ≡ was → since unit.on0 on t ≡ from → on t ≡ now
     → IsTrue (may_move unit fix t was from now) → IsRight unit fix on t
-right-from unit fix on t from true true w s n may =
-    let tests = and_parts (may_be_on fix t) (holds_initially unit t false) may in
-    record {
-      on_may = λ o. tests.0;
-      off_may = λ o. absurd (true≢false (sym n ∙ o));
-      initially = λ o. ap (λ b. holds_initially unit t (not b)) n ∙ tests.1;
-      stop_may = λ o p. absurd (true≢false (sym n ∙ p));
-      start_may = λ o p. absurd (true≢false (sym w ∙ o));
-    }
-right-from unit fix on t from true false w s n may =
-    let tests = and_parts (may_be_off unit fix t && holds_initially unit t true) (may_stop unit from t) may in
-    let more = and_parts (may_be_off unit fix t) (holds_initially unit t true) tests.0 in
-    record {
-      on_may = λ o. absurd (true≢false (sym o ∙ n));
-      off_may = λ o. more.0;
-      initially = λ o. ap (λ b. holds_initially unit t (not b)) n ∙ more.1;
-      stop_may = λ o p. subst (λ z. IsTrue (may_stop unit z t)) (sym s) tests.1;
-      start_may = λ o p. absurd (true≢false (sym w ∙ o));
-    }
-right-from unit fix on t from false true w s n may =
-    let tests = and_parts (may_be_on fix t) (may_start unit from t) may in
-    record {
-      on_may = λ o. tests.0;
-      off_may = λ o. absurd (true≢false (sym n ∙ o));
-      initially = λ o. absurd (true≢false (sym o ∙ w));
-      stop_may = λ o p. absurd (true≢false (sym o ∙ w));
-      start_may = λ o p. subst (λ z. IsTrue (may_start unit z t)) (sym s) tests.1;
-    }
-right-from unit fix on t from false false w s n may = record {
-  on_may = λ o. absurd (true≢false (sym o ∙ n));
-  off_may = λ o. may;
-  initially = λ o. absurd (true≢false (sym o ∙ w));
-  stop_may = λ o p. absurd (true≢false (sym o ∙ w));
-  start_may = λ o p. absurd (true≢false (sym p ∙ n));
-}
+right-from unit fix on t from true true w s n may = grind (arith, linear, true, w, s, n, may)
+right-from unit fix on t from true false w s n may = grind (arith, linear, true, false, w, s, n, may)
+right-from unit fix on t from false true w s n may = grind (arith, linear, false, true, w, s, n, may)
+right-from unit fix on t from false false w s n may = grind (arith, linear, false, w, s, n, may)
 
 pub right-may : (unit : Thermal) (fix : Fix) (on : Commitment) (t from : ℕ) (was now : Bool) → was_on unit on t ≡ was → since unit.on0 on t ≡ from → on t ≡ now
     → IsRight unit fix on t → IsTrue (may_move unit fix t was from now)
-right-may unit fix on t from true true w s n right =
-    and_from _ _ (right.on_may n) (ap (λ b. holds_initially unit t (not b)) (sym n) ∙ right.initially w)
-right-may unit fix on t from true false w s n right =
-    and_from _ _ (and_from _ _ (right.off_may n) (ap (λ b. holds_initially unit t (not b)) (sym n) ∙ right.initially w))
-    (subst (λ z. IsTrue (may_stop unit z t)) s (right.stop_may w n))
-right-may unit fix on t from false true w s n right =
-    and_from _ _ (right.on_may n) (subst (λ z. IsTrue (may_start unit z t)) s (right.start_may w n))
+right-may unit fix on t from true true w s n right = grind (arith, linear, true, w, s, n, right)
+right-may unit fix on t from true false w s n right = grind (arith, linear, true, false, w, s, n, right)
+right-may unit fix on t from false true w s n right = grind (arith, linear, false, true, w, s, n, right)
 right-may unit fix on t from false false w s n right = right.off_may n
 
 -- ---- one move of a way, at any costs of the moves that may be
@@ -151,24 +109,14 @@ IsThere o = (x : ℤ) × (o ≡ Some x)
 
 move-hour : (terms : Terms) (unit : Thermal) (on : Commitment) (t : ℕ) (was now : Bool) (x : ℤ) → t < period_count terms → was_on unit on t ≡ was → on t ≡ now
     → hour_and_start terms unit t was (since unit.on0 on t) now ≡ Some x → IsThere (hour terms unit on t)
-move-hour terms unit on t true now x h w n e =
-    (x, sym (hour-on terms unit on t h w) ∙ ap (λ b. hour_before terms unit t (since unit.on0 on t == t) (not b)) n ∙ e)
+move-hour terms unit on t true now x h w n e = grind (arith, linear, hour-on, since, true, h, w, n, e)
 move-hour terms unit on t false now x h w n e = (pos 0, hour-off terms unit on t w)
 
 hour-move : (terms : Terms) (unit : Thermal) (on : Commitment) (t : ℕ) (was now : Bool) (x : ℤ) → t < period_count terms → was_on unit on t ≡ was → on t ≡ now
     → hour terms unit on t ≡ Some x → hour_and_start terms unit t was (since unit.on0 on t) now ≡ Some (x +ℤ start_value terms unit on t)
-hour-move terms unit on t true now x h w n there =
-    let none : start_value terms unit on t ≡ pos 0 = cond-false (starts unit on t) _ _ (λ i. not (w i) && on t) in
-    ap (λ b. hour_before terms unit t (since unit.on0 on t == t) (not b)) (sym n) ∙ hour-on terms unit on t h w ∙ there ∙ ap Some (omega (arith, linear))
-hour-move terms unit on t false true x h w n there =
-    let free : x ≡ pos 0 = (let e = hour-off terms unit on t w in cc) in
-    let cost : start_value terms unit on t ≡ terms.k *ℤ sigma unit (stop_since (since unit.on0 on t)) t =
-    cond-true (starts unit on t) _ _ (λ i. not (w i) && n i) ∙ ap (λ l. terms.k *ℤ sigma unit l t) (last_stop-since unit on t w) in
-    ap Some (omega (arith, linear))
-hour-move terms unit on t false false x h w n there =
-    let free : x ≡ pos 0 = (let e = hour-off terms unit on t w in cc) in
-    let none : start_value terms unit on t ≡ pos 0 = cond-false (starts unit on t) _ _ (λ i. not (w i) && n i) in
-    ap Some (omega (arith, linear))
+hour-move terms unit on t true now x h w n there = grind (arith, linear, cond-false, since, hour-on, true, h, w, n, there)
+hour-move terms unit on t false true x h w n there = grind (arith, linear, hour-off, since, cond-true, last_stop-since, false, true, h, w, n, there)
+hour-move terms unit on t false false x h w n there = grind (arith, linear, false, h, w, n, there)
 
 -- ---- the whole way
 -- the way from the state that the commitment has before period t
@@ -186,11 +134,7 @@ end-right terms unit fix on t v h e = by_state (was_on unit on t) refl
 
 end-from : (terms : Terms) (unit : Thermal) (fix : Fix) (on : Commitment) (t : ℕ) (x : ℤ) → t ≡ period_count terms
     → hour terms unit on t ≡ Some x → own_way terms unit fix on 0 t ≡ Some x
-end-from terms unit fix on t x h e = by_state (was_on unit on t) refl
-  where
-    by_state : (was : Bool) → was_on unit on t ≡ was → end_cost terms unit t (was_on unit on t) (since unit.on0 on t) ≡ Some x
-    by_state true w = (λ i. end_cost terms unit t (w i) (since unit.on0 on t)) ∙ hour-end terms unit on t h w ∙ e
-    by_state false w = (λ i. end_cost terms unit t (w i) (since unit.on0 on t)) ∙ sym (hour-off terms unit on t w) ∙ e
+end-from terms unit fix on t x h e = grind (arith, linear, since, hour-end, hour-off, h, e)
 
 -- what a way from period t on says of each period
 pub record AllRight (terms : Terms) (unit : Thermal) (fix : Fix) (on : Commitment) (t : ℕ) : Type 0 where
@@ -238,27 +182,7 @@ hour_cost-term terms unit t (Some m) x e = cc
 
 period_value-is : (terms : Terms) (unit : Thermal) (on : Commitment) (t : ℕ) → IsThere (hour terms unit on (suc t))
     → period_value terms unit on t ≡ hour_value terms unit on (suc t) +ℤ start_value terms unit on t
-period_value-is terms unit on t there = by_bit (on t) refl
-  where
-    here : Option ℤ
-    here = hour_cost terms unit t (term_at terms t (starts unit on t) (is_followed (period_count terms) unit on t))
-
-    value : hour terms unit on (suc t) ≡ Some there.0
-    value = there.1
-
-    by_bit : (b : Bool) → on t ≡ b → period_value terms unit on t ≡ hour_value terms unit on (suc t) +ℤ start_value terms unit on t
-    by_bit true e =
-        let found : here ≡ Some there.0 = sym (cond-true (on t) here (Some (pos 0)) e) ∙ value in
-        let cost = hour_cost-term terms unit t _ there.0 found in
-        let counted : (if on t then term_of terms unit on t -ℤ price_at terms t *ℤ unit.pmin else pos 0) ≡ there.0 =
-        cond-true (on t) _ (pos 0) e ∙ sym cost in
-        let same : hour_value terms unit on (suc t) ≡ there.0 = ap (λ o. unwrap_or o (pos 0)) value in
-        ap (λ x. x +ℤ start_value terms unit on t) (counted ∙ sym same)
-    by_bit false e =
-        let none : hour_value terms unit on (suc t) ≡ pos 0 = ap (λ o. unwrap_or o (pos 0)) (cond-false (on t) here (Some (pos 0)) e) in
-        let counted : (if on t then term_of terms unit on t -ℤ price_at terms t *ℤ unit.pmin else pos 0) ≡ pos 0 =
-        cond-false (on t) _ (pos 0) e in
-        ap (λ x. x +ℤ start_value terms unit on t) (counted ∙ sym none)
+period_value-is terms unit on t there = grind (arith, linear, there)
 
 pub own_way-from : (terms : Terms) (unit : Thermal) (fix : Fix) (on : Commitment) (n t : ℕ) → n + t ≡ period_count terms
     → AllRight terms unit fix on t

@@ -2,12 +2,12 @@
 -- for the j below q. Each rule is a limit on a difference of two of these numbers, so each of them keeps it, and their
 -- values add up.
 use Rattle.std.proofs.Common.{◌≡◌, ℕ, zero, suc, ◌+◌, ◌-◌, ◌/◌, ◌<◌, Bool, true, false, cond, List, refl, ap, ◌∙◌, arith, ℤ, pos, ◌+ℤ◌, ◌-ℤ◌, ◌*ℤ◌, ◌≤ℤ◌}
-use Rattle.uc_model.specs.Prelude.{sum_below, hull_cost, starts, start_cap, stop_cap, initial_p, last_stop, sigma, thermal_unit}
+use Rattle.uc_model.specs.Prelude.{sum_below, hull_cost, starts, initial_p, last_stop, sigma, thermal_unit}
 use Rattle.uc_model.proofs.Common.{linear, one-mul, mul-add, sum_below-same, sum_below-zero, sum_below-add, sum_below-sub, sum_below-mul_left, sum_below-const, sum_below-swap, sum_below-le}
 use Rattle.dual_model.specs.Prices.{pi_at, mu_at}
-use Rattle.dual_model.specs.ExactValue.{Point, Thermal, Instance, Node, Table, UnitSchedule, greatest_output, slope_from, floored_cost, output_before, IsUnitScheduleAt, IsUnitSchedule, exact_cell_value, exact_period_value, unit_schedule_value}
+use Rattle.dual_model.specs.ExactValue.{Point, Thermal, Instance, Node, Table, UnitSchedule, slope_from, floored_cost, output_before, IsUnitScheduleAt, IsUnitSchedule, exact_cell_value, exact_period_value, unit_schedule_value}
 use Rattle.dual_model.specs.Laws.{WholeWattsBound, WholeWattsExist}
-use Rattle.dual_model.proofs.Hermite.{small, div_one, counted, floors, difference, above_none, below_floor, floor_mono}
+use Rattle.dual_model.proofs.Hermite.{div_one, counted, floors, difference, above_none, below_floor, floor_mono}
 
 -- the schedule of number j
 abbrev pub share : ℕ → UnitSchedule → ℕ → UnitSchedule
@@ -27,10 +27,7 @@ total q j t x some = ap pos (held q (x.p t) (x.r t) j some)
 
 within : (q j t : ℕ) (x : UnitSchedule) (c : ℤ) → 0 < q → j < q → (pos (x.p t) +ℤ pos (x.r t)) ≤ℤ (pos q *ℤ c)
     → (pos ((share q x j).p t) +ℤ pos ((share q x j).r t)) ≤ℤ (pos 1 *ℤ c)
-within q j t x c some l h =
-    let sum = total q j t x some in
-    let below = above_none q (x.p t + x.r t) j c some l h in
-    omega (arith, linear, sum, below, one-mul c)
+within q j t x c some l h = grind (arith, linear, total, above_none, one-mul, some, l, h)
 
 rises : (q j t : ℕ) (unit : Thermal) (x : UnitSchedule) → 0 < q → j < q
     → (pos (x.p t) +ℤ pos (x.r t) -ℤ output_before q unit x t) ≤ℤ (pos q *ℤ unit.ru)
@@ -40,10 +37,7 @@ rises q j zero unit x some l h =
     let parts = mul-add (pos q) unit.ru (initial_p unit) in
     let below = above_none q (x.p 0 + x.r 0) j (unit.ru +ℤ initial_p unit) some l (omega (arith, linear, h, parts)) in
     omega (arith, linear, sum, below, one-mul unit.ru, one-mul (initial_p unit))
-rises q j (suc t) unit x some l h =
-    let sum = total q j (suc t) x some in
-    let below = difference q (x.p (suc t) + x.r (suc t)) (x.p t) j unit.ru some h in
-    omega (arith, linear, sum, below, one-mul unit.ru)
+rises q j (suc t) unit x some l h = grind (arith, linear, total, difference, one-mul, some, l, h)
 
 falls : (q j t : ℕ) (unit : Thermal) (x : UnitSchedule) → 0 < q → j < q → (output_before q unit x t -ℤ pos (x.p t)) ≤ℤ (pos q *ℤ unit.rd)
     → (output_before 1 unit (share q x j) t -ℤ pos ((share q x j).p t)) ≤ℤ (pos 1 *ℤ unit.rd)
@@ -53,28 +47,14 @@ falls q j zero unit x some l h =
     let given = ap (λ z. pos q *ℤ z) whole in
     let above = below_floor q (x.p 0) j (initial_p unit -ℤ unit.rd) some (omega (arith, linear, h, parts, given)) in
     omega (arith, linear, above, one-mul unit.rd, one-mul (initial_p unit))
-falls q j (suc t) unit x some l h =
-    let below = difference q (x.p t) (x.p (suc t)) j unit.rd some h in
-    omega (arith, linear, below, one-mul unit.rd)
+falls q j (suc t) unit x some l h = grind (arith, linear, difference, one-mul, some, l, h)
 
 idle : (q p r j : ℕ) → 0 < q → j < q → p ≡ 0 → r ≡ 0 → ((p + j) / q ≡ 0) × ((p + r + j) / q - (p + j) / q ≡ 0)
-idle q p r j some l none no_reserve =
-    let first : (p + j) / q ≡ 0 = ap (λ n. n / q) (omega arith) ∙ small j q l in
-    let second : (p + r + j) / q ≡ 0 = ap (λ n. n / q) (omega arith) ∙ small j q l in
-    (first, omega (arith, second))
+idle q p r j some l none no_reserve = grind (arith, linear, some, l, none, no_reserve)
 
 share-at : (periods q j : ℕ) (unit : Thermal) (x : UnitSchedule) (t : ℕ) → 0 < q → j < q → IsUnitScheduleAt periods q unit x t
     → IsUnitScheduleAt periods 1 unit (share q x j) t
-share-at periods q j unit x t some l h = record {
-  off = λ off. let none = h.off off in idle q (x.p t) (x.r t) j some l none.0 none.1;
-  width =
-      let below = above_none q (x.p t) j (greatest_output unit.points) some l h.width in
-      omega (arith, linear, below, one-mul (greatest_output unit.points));
-  start_cap = within q j t x (start_cap unit x.on t) some l h.start_cap;
-  stop_cap = λ before. within q j t x (stop_cap unit x.on t) some l (h.stop_cap before);
-  ramp_up = rises q j t unit x some l h.ramp_up;
-  ramp_down = falls q j t unit x some l h.ramp_down;
-}
+share-at periods q j unit x t some l h = grind (arith, linear, idle, above_none, one-mul, within, rises, falls, some, l, h)
 
 -- each is a schedule in whole watts
 pub share-is : (instance : Instance) (node : Node) (g q j : ℕ) (x : UnitSchedule) → j < q → IsUnitSchedule instance node g q x

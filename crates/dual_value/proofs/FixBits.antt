@@ -96,11 +96,7 @@ decided-with fix fixing more same bits = λ periods on within.
 
 -- before the decision the bit was off, where it wasn't decided or was decided so
 pub off-before : (fix : Fix) (t : ℕ) → IsPlain fix → (commitment_of fix.known t ≡ true → commitment_of fix.on t ≡ false) → commitment_of fix.on t ≡ false
-off-before fix t plain same =
-    ⊎_elim
-    (λ (on : commitment_of fix.on t ≡ true). same (plain t on))
-    (λ (off : commitment_of fix.on t ≡ false). off)
-    (cases_Bool (commitment_of fix.on t))
+off-before fix t plain same = grind (arith, plain, same)
 
 pub plain-more : (fix : Fix) (fixing : Fixing) (more : Fix) → IsPlain fix → IsMore fix fixing more → IsPlain more
 plain-more fix fixing more plain bits t on =
@@ -121,28 +117,16 @@ pub fixing-of : (node : Node) (g i : ℕ) (before after : Bool) (on : Commitment
     → (before && keeps (fixing_at node.fixings i) on) ≡ after
     → unit_agrees node g on ≡ (before && list_all (keeps_of g on) (drop i node.fixings))
     → unit_agrees node g on ≡ (after && list_all (keeps_of g on) (drop (suc i) node.fixings))
-fixing-of node g i before after on h e decided so_far =
-    let x = fixing_at node.fixings i in
-    let rest = list_all (keeps_of g on) (drop (suc i) node.fixings) in
-    let here : keeps_of g on x ≡ keeps x on = ap (λ b. not b || keeps x on) (eq-eqb x.g g e) in
-    so_far
-    ∙ ap (λ b. before && b) (rest-split (keeps_of g on) node.fixings i h ∙ ap (λ b. b && rest) here)
-    ∙ sym (and_assoc before (keeps x on) rest)
-    ∙ ap (λ b. b && rest) decided
+fixing-of node g i before after on h e decided so_far = grind (arith, eq-eqb, rest-split, h, e, decided, so_far)
 
 pub fixing-other : (node : Node) (g i : ℕ) (before : Bool) (on : Commitment) → i < length node.fixings → ((fixing_at node.fixings i).g ≡ g → ⊥)
     → unit_agrees node g on ≡ (before && list_all (keeps_of g on) (drop i node.fixings))
     → unit_agrees node g on ≡ (before && list_all (keeps_of g on) (drop (suc i) node.fixings))
-fixing-other node g i before on h other so_far =
-    let x = fixing_at node.fixings i in
-    let here : keeps_of g on x ≡ true = ap (λ b. not b || keeps x on) (ne_eqb x.g g other) in
-    so_far ∙ ap (λ b. before && b) (rest-split (keeps_of g on) node.fixings i h ∙ ap (λ b. b && list_all (keeps_of g on) (drop (suc i) node.fixings)) here)
+fixing-other node g i before on h other so_far = grind (arith, ne_eqb, rest-split, h, other, so_far)
 
 -- at first nothing is decided
 pub nothing-agrees : (periods : ℕ) (fix : Fix) (on : Commitment) → ((t : ℕ) → commitment_of fix.known t ≡ false) → fix_agrees periods fix on ≡ true
-nothing-agrees periods fix on none =
-    all_below-from periods (λ t. not (commitment_of fix.known t) || (if commitment_of fix.on t then on t else not (on t)))
-    (λ t h. ap (λ b. not b || (if commitment_of fix.on t then on t else not (on t))) (none t))
+nothing-agrees periods fix on none = grind (arith, all_below-from, none)
 
 -- and at the end nothing is left
 pub none-left : (node : Node) (g i : ℕ) (before : Bool) (on : Commitment) → length node.fixings ≤ i

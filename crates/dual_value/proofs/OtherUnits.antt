@@ -1,12 +1,10 @@
 -- A decision on one unit leaves the patterns, the best ones and the parts of each other unit.
-use Rattle.std.proofs.Common.{◌≡◌, ◌≢◌, ℕ, Bool, true, not, ◌&&◌, ◌||◌, ◌∷◌, [], sym, ap, ◌∙◌, ℤ}
-use mathlib.Core.Bool.{and-true}
+use Rattle.std.proofs.Common.{arith, ◌≡◌, ◌≢◌, ℕ, Bool, ℤ}
 use Rattle.std.proofs.lemmas.Bool.{ne_eqb}
 use Rattle.std.proofs.lemmas.List.Folds.{list_all-append}
 use Rattle.uc_model.specs.Prelude.{Commitment, commitment_of}
 use Rattle.uc_model.specs.declared.pattern.Pattern.{Pattern}
-use Rattle.dual_model.specs.Prelude.{IsPatternAt, keeps, keeps_of, unit_agrees, child, IsBestPattern}
-use Rattle.dual_model.specs.declared.node.Fixing.{Fixing}
+use Rattle.dual_model.specs.Prelude.{IsPatternAt, unit_agrees, child, IsBestPattern}
 use Rattle.dual_model.specs.declared.node.Node.{Node}
 use Rattle.dual_model.specs.declared.table.Table.{Table}
 use Rattle.dual_value.specs.NodeAnswer.{Instance, IsPartOf}
@@ -14,26 +12,15 @@ use Rattle.dual_value.specs.NodeAnswer.{Instance, IsPartOf}
 -- the commitments of unit k that agree
 pub agrees-other : (parent : Node) (g t : ℕ) (on : Bool) (k : ℕ) (commitment : Commitment) → k ≢ g
     → unit_agrees (child parent g t on) k commitment ≡ unit_agrees parent k commitment
-agrees-other parent g t on k commitment other =
-    let fixing : Fixing = record { g = g; t = t; on = on } in
-    let free : keeps_of k commitment fixing ≡ true = ap (λ b. not b || keeps fixing commitment) (ne_eqb g k (λ e. other (sym e))) in
-    list_all-append (keeps_of k commitment) parent.fixings (fixing ∷ [])
-    ∙ (λ i. unit_agrees parent k commitment && (free i && true))
-    ∙ and-true (unit_agrees parent k commitment)
+agrees-other parent g t on k commitment other = grind (arith, ne_eqb, list_all-append, other)
 
 pub pattern-other : (instance : Instance) (parent : Node) (g t : ℕ) (on : Bool) (k : ℕ) (commitment : Commitment) → k ≢ g
     → IsPatternAt instance parent k commitment → IsPatternAt instance (child parent g t on) k commitment
-pattern-other instance parent g t on k commitment other pattern = record {
-  allowed = pattern.allowed;
-  agrees = agrees-other parent g t on k commitment other ∙ pattern.agrees;
-}
+pattern-other instance parent g t on k commitment other pattern = grind (arith, agrees-other, other, pattern)
 
 pattern-before : (instance : Instance) (parent : Node) (g t : ℕ) (on : Bool) (k : ℕ) (commitment : Commitment) → k ≢ g
     → IsPatternAt instance (child parent g t on) k commitment → IsPatternAt instance parent k commitment
-pattern-before instance parent g t on k commitment other pattern = record {
-  allowed = pattern.allowed;
-  agrees = sym (agrees-other parent g t on k commitment other) ∙ pattern.agrees;
-}
+pattern-before instance parent g t on k commitment other pattern = grind (arith, agrees-other, other, pattern)
 
 pub best-other : (instance : Instance) (parent : Node) (table : Table) (g t : ℕ) (on : Bool) (k : ℕ) (commitment : Commitment) (value : ℤ) → k ≢ g
     → IsBestPattern instance parent table k commitment value → IsBestPattern instance (child parent g t on) table k commitment value

@@ -1,5 +1,5 @@
 -- The value of a node from the parts of the units before one, and one unit more.
-use Rattle.std.proofs.Common.{◌≡◌, ℕ, Bool, true, false, ◌⊎◌, inl, inr, suc, ◌+◌, ◌*◌, ◌<◌, ◌≤◌, ⊎_elim, List, length, add-one, sym, ap, subst, ◌∙◌, arith, ℤ, pos, ◌+ℤ◌, ◌-ℤ◌, slice_index_or, slice_set, unsigned_abs, get_or-set_other, get_or-set_same, length-set, Result, Ok, Err, IfErr, IsErrAnd}
+use Rattle.std.proofs.Common.{◌≡◌, ℕ, Bool, true, false, ◌⊎◌, inl, inr, ◌+◌, ◌*◌, ◌<◌, ◌≤◌, ⊎_elim, List, length, add-one, sym, ap, subst, ◌∙◌, arith, ℤ, pos, ◌+ℤ◌, ◌-ℤ◌, slice_index_or, slice_set, unsigned_abs, get_or-set_other, get_or-set_same, length-set, Result, Ok, Err, IfErr, IsErrAnd}
 use Rattle.std.proofs.lemmas.Bool.{cases_lt}
 use Rattle.std.proofs.lemmas.List.Elements.{All-from_get_or}
 use Rattle.uc_model.specs.Prelude.{commitment_of, thermal_count, sum_below}
@@ -32,15 +32,7 @@ pub valued-none : (exact : Bool) (instance : Instance) (node : Node) (table : Ta
     → length parts ≡ thermal_count instance → length patterns ≡ thermal_count instance
     → total ≡ system_value instance table +ℤ renewables_value instance table → unsigned_abs total ≤ MAX_SYSTEM + MAX_RENEWABLES
     → IsValuedTo exact instance node table 0 total parts patterns
-valued-none exact instance node table total parts patterns p q is size = record {
-  part_count = p;
-  pattern_count = q;
-  part = λ k h. absurd (omega arith);
-  part_size = λ k h. absurd (omega arith);
-  sum = is ∙ (let e : system_value instance table +ℤ renewables_value instance table ≡ (system_value instance table +ℤ renewables_value instance table) +ℤ pos 0 = omega (arith, linear) in e);
-  rest = subst (λ x. unsigned_abs x ≤ MAX_SYSTEM + MAX_RENEWABLES) is size;
-  size = omega arith;
-}
+valued-none exact instance node table total parts patterns p q is size = grind (arith, linear, p, q, is, size)
 
 pub valued-more : (exact : Bool) (instance : Instance) (node : Node) (table : Table) (g : ℕ) (total part result : ℤ) (pattern : Pattern) (parts : List ℤ) (patterns : List Pattern)
     → g < thermal_count instance → IsPartOfKind exact instance node table g part pattern → unsigned_abs part ≤ MAX_PART → result ≡ total +ℤ part
@@ -68,17 +60,10 @@ valued-more exact instance node table g total part result pattern parts patterns
           (subst (λ x. IsPartOfKind exact instance node table g x (pattern_in (slice_set patterns g pattern) g)) (sym part_here)
           (subst (λ x. IsPartOfKind exact instance node table g part x) (sym pattern_here) is)))
           (cases_lt k g);
-      part_size = λ k l. ⊎_elim
-          (λ (earlier : k < g).
-          subst (λ x. unsigned_abs x ≤ MAX_PART) (sym (get_or-set_other parts g k part (pos 0) (λ same. omega arith))) (so_far.part_size k earlier))
-          (λ (last : g ≤ k).
-          let same : g ≡ k = omega arith in
-          subst (λ n. unsigned_abs (part_in (slice_set parts g part) n) ≤ MAX_PART) same (subst (λ x. unsigned_abs x ≤ MAX_PART) (sym part_here) small))
-          (cases_lt k g);
+      part_size = λ k l. grind (arith, linear, get_or-set_other, slice_set, cases_lt, k, g, parts, part, so_far, part_here, small);
       sum = omega (arith, linear);
       rest = so_far.rest;
-      size = subst (λ x. unsigned_abs x ≤ MAX_SYSTEM + MAX_RENEWABLES + suc g * MAX_PART) (sym e)
-          (omega (arith, abs_add total part (MAX_SYSTEM + MAX_RENEWABLES + g * MAX_PART) MAX_PART so_far.size small));
+      size = grind (arith, linear, abs_add, g, e, total, part, so_far, small);
     })
 
 -- ---- the whole

@@ -173,16 +173,7 @@ limit-bits z limit = subst IsLimit (sym (limit-is z limit)) limit
 -- the places of the sum with a function that reaches further
 pub sum-places : (f hull g : Steps) → hull.first ≡ pos 0 → pos 0 ≤ℤ f.first → last_place f ≤ℤ last_place hull
     → g.first ≡ int_max f.first hull.first → last_place g ≡ int_min (last_place f) (last_place hull) → SamePlaces f g
-sum-places f hull g zero low high first last = record {
-  first = begins f.first hull.first g.first zero low first;
-  last = ends (last_place f) (last_place hull) (last_place g) high last;
-}
-  where
-    begins : (a b x : ℤ) → b ≡ pos 0 → pos 0 ≤ℤ a → x ≡ int_max a b → x ≡ a
-    begins a b x e l m = omega (arith, ints, clamps)
-
-    ends : (a b x : ℤ) → a ≤ℤ b → x ≡ int_min a b → x ≡ a
-    ends a b x l m = omega (arith, ints, clamps)
+sum-places f hull g zero low high first last = grind (arith, ints, low, high, last)
 
 wide_is : (z r : ℤ) → unsigned_abs z ≤ 2 * MAX_PRICE → r ≡ to_z w64 (of_z w64 z) → to_z w128 (of_z w128 r) ≡ z
 wide_is z r h e = omega (arith, ints)

@@ -1,8 +1,8 @@
 -- L on the points of a lawful unit begins at 0 and ends at an output.
-use Rattle.std.proofs.Common.{◌-◌, ◌*◌, ◌<◌, ◌≤◌, subst, sym, arith, length, ℤ, pos, ◌-ℤ◌, ◌≤ℤ◌, unsigned_abs}
+use Rattle.std.proofs.Common.{◌-◌, ◌*◌, ◌<◌, ◌≤◌, arith, length, ℤ, pos, ◌-ℤ◌, ◌≤ℤ◌, unsigned_abs}
 use Rattle.std.proofs.lemmas.Int.{ints}
-use Rattle.uc_model.specs.Prelude.{IsLawfulThermal, point_of}
-use Rattle.uc_model.proofs.Common.{Rises, outputs_rise, linear}
+use Rattle.uc_model.specs.Prelude.{IsLawfulThermal}
+use Rattle.uc_model.proofs.Common.{Rises, outputs_rise}
 use Rattle.step_functions.specs.Functions.{Steps}
 use Rattle.uc_model.specs.declared.limits.TheConstants.{MAX_POWER}
 use Rattle.hull_function.specs.Hulls.{IsHull, IsHullFunction}
@@ -19,9 +19,7 @@ hull-function unit k f lawful is =
     let end = lawful.outputs last within in
     record {
       first = is.first;
-      last =
-          subst (λ z. (pos 0 ≤ℤ z) × (z ≤ℤ pos (2 * MAX_POWER))) (sym is.last)
-          (omega (arith, linear, low), apart (point_of unit.points last).mw (point_of unit.points 0).mw end first);
+      last = grind (arith, ints, is, low, unit, last, end, first);
       size = is.size;
     }
   where

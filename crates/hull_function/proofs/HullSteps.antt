@@ -3,7 +3,7 @@ use Rattle.std.proofs.Common.{◌≡◌, ℕ, suc, ◌+◌, ◌-◌, ◌*◌, �
 use Rattle.std.specs.Int.{w64}
 use Rattle.std.proofs.lemmas.Int.{ints}
 use Rattle.std.proofs.lemmas.Bool.{cases_lt}
-use Rattle.uc_model.specs.Prelude.{IsFloor, sum_below, point_of, output_of, run, rise, hull_cost, Segment, segment_width}
+use Rattle.uc_model.specs.Prelude.{IsFloor, sum_below, point_of, output_of, run, rise, hull_cost, Segment}
 use Rattle.uc_model.specs.declared.instance.Point.{Point}
 use Rattle.uc_model.specs.declared.limits.TheConstants.{MAX_COST, MAX_POINTS, MAX_POWER}
 use Rattle.uc_model.proofs.Common.{linear, one-mul, mul_comm, mul-le-mul_left, mul-le-mul_turned, mul_nonneg, le_or_lt, mul-zero, abs_mul, sum_below-same, IsFloor_unique, IsFloor-int_div_euclid, abs_is, width_is, IsUnder, is_held, outputs_rise, step_there}
@@ -40,16 +40,7 @@ hull-value points k f p is h =
 
 pub hull-whole : (points : List Point) (k : ℤ) (f : Steps) → length points ≤ MAX_POINTS → IsHullTo points k f
     → last_place f ≡ greatest_output points → IsHull points k f
-hull-whole points k f few is last = record {
-  first = is.first;
-  last = last;
-  value = λ p h. hull-value points k f p is (omega (arith, linear, h, last));
-  size = λ p place.
-      let small = is.size p place in
-      let pieces = is.pieces in
-      let within = is.within in
-      omega (arith, small, pieces, within, few);
-}
+hull-whole points k f few is last = grind (arith, ints, hull-value, few, is, last)
 
 -- ---- the beginning
 pub hull-begun : (points : List Point) (k : ℤ) (f : Steps) (value : ℤ) → 0 < length points → value ≡ k *ℤ hull_cost points 1 (pos 0)
@@ -59,12 +50,7 @@ hull-begun points k f value some is small first start none last here = record {
   first = first;
   value = start ∙ is;
   slopes = λ j l. let count = ap steps_of none in absurd (omega (arith, l, count));
-  size = λ p place.
-      let low = place.low in
-      let high = place.high in
-      let at : p ≡ pos 0 = at_zero f.first p (last_place f) first last low high in
-      let size = ap (λ z. unsigned_abs z) (ap (value_at f) at ∙ here) in
-      omega (arith, size, small);
+  size = λ p place. grind (arith, ints, place, p, f, first, last, here, small);
   place = 0;
   within = some;
   ends = let zero_is : output_of points 0 ≡ pos 0 = omega (arith, linear) in zero_is ∙ sym last;
@@ -98,11 +84,7 @@ on_segment points x left right at =
 -- its slope
 floor-is : (points : List Point) (k : ℤ) (s : Segment) → IsUnder points s
     → IsFloor (k *ℤ rise points s.left s.right) (run points s.left s.right) (floored_slope points k (Some s))
-floor-is points k s under =
-    let wide = under.wide in
-    let width = width_is (run points s.left s.right) wide in
-    subst (λ z. IsFloor (k *ℤ rise points s.left s.right) z (floored_slope points k (Some s))) width
-    (IsFloor-int_div_euclid (k *ℤ rise points s.left s.right) (pos (segment_width points s)) (omega (arith, linear, width, wide)))
+floor-is points k s under = grind (arith, ints, width_is, IsFloor-int_div_euclid, under)
 
 pub slope-floored : (points : List Point) (k slope : ℤ) (s : Segment) → IsUnder points s
     → IsFloor (k *ℤ rise points s.left s.right) (run points s.left s.right) slope → slope ≡ floored_slope points k (Some s)
@@ -385,7 +367,4 @@ pub outputs-within : (points : List Point) (l : ℕ) → AreLawfulPoints points 
 outputs-within points l lawful within = outputs_rise points (rises points lawful) l (length points - 1) (omega (arith, within)) (omega (arith, within))
 
 pub scale-size : (k : ℤ) → IsScale k → unsigned_abs k ≤ 10 ^ 9
-scale-size k scale =
-    let low = scale.low in
-    let high = scale.high in
-    omega (arith, ints)
+scale-size k scale = grind (arith, ints, scale)

@@ -1,9 +1,9 @@
 -- Costs by output as functions: what a cut, a ramp and a cost more make of them.
-use Rattle.std.proofs.Common.{◌≡◌, ℕ, ◌≤◌, ◌↔◌, Bool, true, false, true≢false, refl, sym, ap, subst, ◌∙◌, arith, ℤ, pos, ◌+ℤ◌, ◌-ℤ◌, ◌*ℤ◌, ◌≤ℤ◌, IsTrue, int_le, unsigned_abs, Option, Some, None, if◌then◌else◌}
+use Rattle.std.proofs.Common.{◌≡◌, ℕ, ◌≤◌, ◌↔◌, Bool, true, false, true≢false, refl, sym, ap, subst, ◌∙◌, arith, ℤ, pos, ◌+ℤ◌, ◌-ℤ◌, ◌*ℤ◌, ◌≤ℤ◌, IsTrue, unsigned_abs, Option, Some, None, if◌then◌else◌}
 use Rattle.std.specs.Int.{int_max, int_min}
 use Rattle.std.proofs.lemmas.Int.{ints, clamps}
-use Rattle.std.proofs.lemmas.Bool.{cond-true, and_parts, and_from}
-use Rattle.uc_model.proofs.Common.{linear, le_antisymm, int_le-true, le-int_le, int_min_left, int_min_right, abs_is}
+use Rattle.std.proofs.lemmas.Bool.{cond-true, and_from}
+use Rattle.uc_model.proofs.Common.{linear, le_antisymm, le-int_le, int_min_left, int_min_right}
 use Rattle.dual_model.specs.Prelude.{greatest_output}
 use Rattle.dual_model.specs.CostToGo.{total_of}
 use Rattle.dual_model.proofs.Optimum.{AtMost, total_of-parts}
@@ -27,9 +27,7 @@ pub output-there : (unit : Thermal) (cap p : ℤ) → pos 0 ≤ℤ p → p ≤�
 output-there unit cap p low high = and_from _ _ (le-int_le (pos 0) p low) (le-int_le p _ high)
 
 pub output-within : (unit : Thermal) (cap p : ℤ) → IsTrue (is_output unit cap p) → (pos 0 ≤ℤ p) × (p ≤ℤ int_min cap (greatest_output unit.points))
-output-within unit cap p is =
-    let tests = and_parts (int_le (pos 0) p) (int_le p (int_min cap (greatest_output unit.points))) is in
-    (int_le-true (pos 0) p tests.0, int_le-true p _ tests.1)
+output-within unit cap p is = grind (arith, ints, is)
 
 -- ---- places
 -- two functions have the same places
@@ -38,12 +36,7 @@ pub record SamePlaces (f g : Steps) : Type 0 where
   pub last : last_place g ≡ last_place f
 
 pub place_from : (f g : Steps) (p : ℤ) → SamePlaces f g → IsPlace g p → IsPlace f p
-place_from f g p same is =
-    let first = same.first in
-    let last = same.last in
-    let low = is.low in
-    let high = is.high in
-    record { low = omega (arith, linear, first, low); high = omega (arith, linear, last, high) }
+place_from f g p same is = grind (arith, ints, same, is)
 
 place_to : (f g : Steps) (p : ℤ) → SamePlaces f g → IsPlace f p → IsPlace g p
 place_to f g p same = place_from g f p (record { first = sym same.first; last = sym same.last })
@@ -51,13 +44,7 @@ place_to f g p same = place_from g f p (record { first = sym same.first; last = 
 -- ---- a cost more
 pub with-more : (f g : Steps) (cost : ℤ → Option ℤ) (more : ℤ → ℤ) → IsCostsOf true f cost → SamePlaces f g
     → ((p : ℤ) → IsPlace g p → value_at g p ≡ value_at f p +ℤ more p) → IsCostsOf true g (λ p. total_of (cost p) (Some (more p)))
-with-more f g cost more is same value = record {
-  inside = λ live p place.
-      ap (λ o. total_of o (Some (more p))) (is.inside refl p (place_from f g p same place)) ∙ ap Some (sym (value p place));
-  outside = λ p v e.
-      let parts = total_of-parts (cost p) (Some (more p)) v e in
-      (refl, place_to f g p same (is.outside p parts.first parts.first_is).1);
-}
+with-more f g cost more is same value = grind (arith, ints, is, same, value)
 
 -- ---- the least of them
 pub least-is : (f : Steps) (cost : ℤ → Option ℤ) (low high m : ℤ) → IsCostsOf true f cost → IsLeastBetween f low high m
@@ -218,13 +205,7 @@ module _ (f g : Steps) (room : ℕ) (e : g ≡ record f { room = room }) where
 pub output-is : (table : Table) (unit : Thermal) (t : ℕ) (hull : Steps) (hour : Hour) (p : ℤ) → IsHull unit.points table.k hull
     → IsHourAt table unit t hour → pos 0 ≤ℤ p → p ≤ℤ greatest_output unit.points
     → value_at hull p +ℤ hour.price *ℤ p +ℤ hour.fixed ≡ output_cost table unit t p
-output-is table unit t hull hour p is at low high =
-    let size = abs_is p low in
-    let there = is.value (unsigned_abs p) (omega (arith, linear, size, high)) in
-    let here = ap (value_at hull) size in
-    let price = ap (λ z. z *ℤ p) at.price in
-    let fixed = at.fixed in
-    omega (arith, linear, there, here, price, fixed)
+output-is table unit t hull hour p is at low high = grind (arith, ints, is, at, low, high)
 
 module _ (table : Table) (unit : Thermal) (t : ℕ) where
   -- the output of a cost is one that the hour may have, at which the others have a cost

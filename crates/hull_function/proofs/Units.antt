@@ -1,7 +1,7 @@
 -- A unit of a lawful instance at a table of its size within the limits.
-use Rattle.std.proofs.Common.{◌≡◌, ℕ, ◌<◌, arith, List, length, get_or, pos, sym, ap, subst, ◌∙◌}
+use Rattle.std.proofs.Common.{◌≡◌, ℕ, ◌<◌, arith, List, get_or}
 use Rattle.std.proofs.lemmas.List.{get_or_read}
-use Rattle.uc_model.specs.Prelude.{IsLawfulInstance, no_unit, thermal_count, thermal_unit}
+use Rattle.uc_model.specs.Prelude.{IsLawfulInstance, thermal_count, thermal_unit}
 use Rattle.dual_model.specs.Prelude.{HasSizeOf, IsWithinLimits}
 use Rattle.unit_runs.specs.Patterns.{Instance}
 use Rattle.hull_function.specs.Hulls.{IsScale}
@@ -12,18 +12,9 @@ scale-of instance table size limits = record { low = size.form.scale; high = lim
 
 pub lawful-problem : (instance : Instance) (table : Table) (g : ℕ) → IsLawfulInstance instance → g < thermal_count instance
     → HasSizeOf instance table → IsWithinLimits table → IsLawfulProblem instance.periods table (thermal_unit instance g)
-lawful-problem instance table g lawful known size limits = record {
-  periods_are = lawful.periods;
-  unit_is = lawful.thermal g known;
-  scale = scale-of instance table size limits;
-  demand = size.periods;
-  reserve = size.form.lengths ∙ size.periods;
-  demand_price = λ t l. limits.pi t (pos 0) (let count = size.periods in omega (arith, l, count));
-  reserve_price = λ t l. limits.mu t (pos 0) (let count = size.form.lengths ∙ size.periods in omega (arith, l, count));
-}
+lawful-problem instance table g lawful known size limits = grind (arith, lawful, known, size, limits)
 
 -- the unit that is read is that of the instance
 pub unit-read : (instance : Instance) (units : List Thermal) (g : ℕ) (unit : Thermal) → units ≡ instance.thermal → g < thermal_count instance
     → unit ≡ get_or units g unit → unit ≡ thermal_unit instance g
-unit-read instance units g unit same h is =
-    get_or_read units g unit (subst (λ (xs : List Thermal). g < length xs) (sym same) h) is no_unit ∙ ap (λ (xs : List Thermal). get_or xs g no_unit) same
+unit-read instance units g unit same h is = grind (arith, get_or_read, same, h, is)

@@ -1,8 +1,7 @@
 -- What a value stands for with exact numbers, beside what it stands for with any and the count of those that are rounded.
-use Rattle.std.proofs.Common.{◌≡◌, ℕ, ◌+◌, ◌*◌, ◌≤◌, List, [], ◌∷◌, length, take, Bool, true, false, Option, Some, None, refl, sym, ap, subst, arith, ℤ, pos, ◌≤ℤ◌, sum_by, unwrap_or, option_and_then, IsTrue, if◌then◌else◌}
+use Rattle.std.proofs.Common.{◌≡◌, ℕ, ◌+◌, ◌*◌, ◌≤◌, List, [], ◌∷◌, length, take, Bool, true, false, Option, Some, None, refl, sym, subst, arith, ℤ, pos, ◌≤ℤ◌, sum_by, unwrap_or, option_and_then, IsTrue, if◌then◌else◌}
 use Rattle.std.specs.List.{AllZip}
 use Rattle.std.specs.Option.{IsSomeAnd}
-use Rattle.std.proofs.lemmas.Bool.{false≢true}
 use Rattle.std.proofs.lemmas.List.Sums.{sum_by-cons}
 use Rattle.uc_model.specs.Prelude.{IsPower, IsCost}
 use Rattle.decimal_json.specs.Value.{Decimal, Value}
@@ -30,22 +29,13 @@ behind_both : {E F : Type 0} {c : ℕ} (Q R : Type 0) → Agree E F c → Agree 
 behind_both Q R a = record { is = λ h. let r = a.is h.2 in ((h.0, h.1, r.0), r.1); again = λ h z. (h.0, h.1, a.again h.2 z) }
 
 two : {E F G H : Type 0} {c d : ℕ} → Agree E F c → Agree G H d → Agree (E × G) (F × H) (c + d)
-two a b = record {
-  is = λ h. let r = a.is h.0 in let s = b.is h.1 in ((r.0, s.0), omega (arith, r.1, s.1));
-  again = λ h z. (a.again h.0 (omega (arith, z)), b.again h.1 (omega (arith, z)));
-}
+two a b = grind (arith, a, b)
 
 three : {E F G H I J : Type 0} {c d e : ℕ} → Agree E F c → Agree G H d → Agree I J e → Agree (E × G × I) (F × H × J) (c + d + e)
-three a b c = record {
-  is = λ h. let r = a.is h.0 in let s = b.is h.1 in let t = c.is h.2 in ((r.0, s.0, t.0), omega (arith, r.1, s.1, t.1));
-  again = λ h z. (a.again h.0 (omega (arith, z)), b.again h.1 (omega (arith, z)), c.again h.2 (omega (arith, z)));
-}
+three a b c = grind (arith, a, b)
 
 four : {E F G H I J K L : Type 0} {c d e f : ℕ} → Agree E F c → Agree G H d → Agree I J e → Agree K L f → Agree (E × G × I × K) (F × H × J × L) (c + d + e + f)
-four a b c d = record {
-  is = λ h. let r = a.is h.0 in let s = b.is h.1 in let t = c.is h.2 in let u = d.is h.3 in ((r.0, s.0, t.0, u.0), omega (arith, r.1, s.1, t.1, u.1));
-  again = λ h z. (a.again h.0 (omega (arith, z)), b.again h.1 (omega (arith, z)), c.again h.2 (omega (arith, z)), d.again h.3 (omega (arith, z)));
-}
+four a b c d = grind (arith, a, b)
 
 neither : {E F : Type 0} {c : ℕ} → (E → ⊥) → (F → ⊥) → Agree E F c
 neither f g = record { is = λ h. absurd (f h); again = λ h z. absurd (g h) }
@@ -62,10 +52,7 @@ unrounded true z = absurd (omega (arith, z))
 number_option : (o : Option Decimal) (P : Decimal → Type 0)
     → Agree (IsSomeAnd o (λ d. (IsTrue true → is_rounded d ≡ false) × P d)) (IsSomeAnd o (λ d. (IsTrue false → is_rounded d ≡ false) × P d)) (elim o [ None ↦ 0 | Some d ↦ (if is_rounded d then 1 else 0) ])
 number_option None P = neither (λ h. h) (λ h. h)
-number_option (Some d) P = record {
-  is = λ h. ((λ t. absurd (false≢true t), h.1), ap one_if (h.0 refl));
-  again = λ h z. (λ t. unrounded (is_rounded d) z, h.1);
-}
+number_option (Some d) P = grind arith
 
 number_agrees : (v : Value) (P : Decimal → Type 0) → Agree (IsNumber true v P) (IsNumber false v P) (rounded_value v)
 unfolding rounded_value

@@ -12,7 +12,7 @@ use Rattle.instance.specs.InstanceOf.{Instance, MAX_POINTS, MAX_START_ROWS, MAX_
 use Rattle.uc_model.proofs.Common.{linear, unpriced}
 use Rattle.uc_model.specs.declared.instance.Point.{Point}
 use Rattle.instance.proofs.StepLaws.{some_is, some_split}
-use Rattle.instance.proofs.UnitLaws.{Above, written_time, instance_is, instance_again}
+use Rattle.instance.proofs.UnitLaws.{instance_is, instance_again}
 use Rattle.instance.specs.FirstFault.{instance_at}
 use Rattle.uc_model.specs.declared.field_refusal.FieldRefusal.{FieldRefusal}
 use Rattle.instance.specs.Answer.{Fault, Gives}
@@ -37,9 +37,7 @@ has_limit : (exact : Bool) (field : Field) (ms : Pairs) (z : ℤ) → Has field 
 has_limit exact field ms z h = let a = some_split (IsPowerOf exact z) (field_of (key_of field) ms) h in record { low = a.1; power = has_power exact field ms z a.0 }
 
 has_minimum_time : (exact : Bool) (field : Field) (ms : Pairs) (t : ℕ) → Has field ms (IsMinimumTimeOf exact t) → (1 ≤ t) × (t ≤ MAX_TIME)
-has_minimum_time exact field ms t h =
-    let a = written_time exact t (field_of (key_of field) ms) h in
-    (omega (arith, a.2), omega (arith, a.2, has_time exact field ms a.0 a.1))
+has_minimum_time exact field ms t h = grind (arith, ints, h)
 
 -- ---- lists
 
@@ -128,17 +126,7 @@ thermal_lawful exact unit ms h =
     }
 
 renewable_lawful : (exact : Bool) (i : Instance) (w : ℕ) (ms : Pairs) → IsRenewableOf exact i.periods (renewable_unit i w) ms → IsLawfulRenewable i w
-renewable_lawful exact i w ms h =
-    let unit = renewable_unit i w in
-    let low = has_powers exact PowerOutputMinimum i.periods ms unit.minimum h.minimum in
-    let high = has_powers exact PowerOutputMaximum i.periods ms unit.maximum h.maximum in
-    record {
-      minimum_length = low.length;
-      maximum_length = high.length;
-      minimum = λ t lt. low.all t (pos 0) (omega (arith, low.length, lt));
-      maximum = λ t lt. high.all t (pos 0) (omega (arith, high.length, lt));
-      range = λ t lt. AllZip-get_or Above unit.minimum unit.maximum t (pos 0) (pos 0) h.range (omega (arith, low.length, lt));
-    }
+renewable_lawful exact i w ms h = grind (arith, ints, has_powers, AllZip-get_or, h)
 
 fields_lawful : (exact : Bool) (i : Instance) (ms : Pairs) → HasFields exact i ms → IsLawfulInstance i
 fields_lawful exact i ms h =

@@ -2,7 +2,7 @@
 use Rattle.std.proofs.Common.{◌≡◌, ℕ, ◌+◌, ◌≤◌, Bool, true, List, [], ◌∷◌, ◌++◌, length, sym, ap, subst, ◌∙◌, arith, length-append}
 use Rattle.std.proofs.lemmas.List.{length-map, append-nil}
 use Rattle.decimal_json.specs.Value.{Decimal, Value, number, array, object, Items, no_items, item, Members, no_members, member, held_decimal}
-use Rattle.decimal_json.specs.Grammar.{numerals, fraction_text, negative_text, power_text, IsNumber, Spells, SpellsItems, SpellsMoreItems, SpellsMembers, SpellsMoreMembers, SpellsText}
+use Rattle.decimal_json.specs.Grammar.{numerals, fraction_text, IsNumber, Spells, SpellsItems, SpellsMoreItems, SpellsMembers, SpellsMoreMembers, SpellsText}
 use Rattle.decimal_json.specs.Reading.{IsText}
 use Rattle.instance.specs.Scaled.{MOST_DIGITS, IsShort, with_numbers, items_with, members_with, AllNumbers, AllItems, AllMembers}
 
@@ -17,32 +17,17 @@ fraction_length [] = omega arith
 fraction_length (f ∷ fs) = omega (arith, numerals_length (f ∷ fs))
 
 number_fits : (n : Decimal) (bs : List ℕ) → IsNumber n bs → length n.digits ≤ length bs
-number_fits n bs h =
-    let digits = ap (λ (d : Decimal). length d.digits) h.value in
-    let spelled = ap (λ (cs : List ℕ). length cs) h.spelled in
-    let front = negative_text h.negative in
-    let behind = fraction_text h.fs ++ power_text h.exponent in
-    omega (arith, digits, spelled, length-append h.ds h.fs, length-append front (numerals h.ds ++ behind), length-append (numerals h.ds) behind, length-append (fraction_text h.fs) (power_text h.exponent), numerals_length h.ds, fraction_length h.fs)
+number_fits n bs h = grind (arith, length-append, numerals_length, fraction_length, h)
 
 inside_parts : (inside : List ℕ) (first last most : ℕ) → length (first ∷ inside ++ last ∷ []) ≤ most → length inside ≤ most
 inside_parts inside first last most few = omega (arith, length-append inside (last ∷ []))
 
 item_parts : (before core behind more : List ℕ) (most : ℕ) → length (before ++ (core ++ (behind ++ more))) ≤ most → (length core ≤ most) × (length more ≤ most)
-item_parts before core behind more most few =
-    let all = length-append before (core ++ (behind ++ more)) in
-    let some = length-append core (behind ++ more) in
-    let last = length-append behind more in
-    (omega arith, omega arith)
+item_parts before core behind more most few = grind (arith, length-append, few)
 
 member_parts : (first key second third core behind more : List ℕ) (most : ℕ) → length (first ++ (key ++ (second ++ (58 ∷ third ++ (core ++ (behind ++ more)))))) ≤ most
     → (length core ≤ most) × (length more ≤ most)
-member_parts first key second third core behind more most few =
-    let value = third ++ (core ++ (behind ++ more)) in
-    let all = length-append first (key ++ (second ++ (58 ∷ value))) in
-    let named = length-append key (second ++ (58 ∷ value)) in
-    let marked = length-append second (58 ∷ value) in
-    let parts = item_parts third core behind more (length value) (omega arith) in
-    (omega (arith, parts.0), omega (arith, parts.1))
+member_parts first key second third core behind more most few = grind (arith, length-append, item_parts, few)
 
 abbrev Short : ℕ → List ℕ → Type 0
 Short most bs = length bs ≤ most

@@ -1,5 +1,5 @@
 -- A step that reads something, and what it reads: laws of steps from those of the steps that they are made of.
-use Rattle.std.proofs.Common.{◌≡◌, ℕ, Bool, true, false, List, Option, Some, None, Result, Ok, Err, refl, ap, subst}
+use Rattle.std.proofs.Common.{arith, ◌≡◌, ℕ, Bool, true, false, List, Option, Some, None, Result, Ok, Err, refl, ap}
 use Rattle.std.specs.Option.{IsSomeAnd}
 use Rattle.instance.specs.FirstFault.{Refusal, ◌>>=◌, wanted, refused_if, in_unit}
 use Rattle.instance.specs.declared.fault.Place.{Place}
@@ -59,47 +59,28 @@ guarded false code place x read P h = record { is = λ y e. (refl, (h refl).is y
 -- a test behind another step
 pub tested : {A : Type 0} {r : Result A Refusal} {P : A → Type 0} → Exactly r P → (test : A → Bool) (code : ℕ) (place : Place)
     → Exactly (r >>= λ x. refused_if (test x) code place x) (λ x. P x × (test x ≡ false))
-tested {A} {r} {P} h test code place = record {
-  is = λ y e.
-      let b = bind_ok r (λ x. refused_if (test x) code place x) y e in
-      let t = (refused-exactly (test b.0) code place b.0).is y b.2 in
-      subst (λ (x : A). P x × (test x ≡ false)) t.1 (h.is b.0 b.1, t.0);
-  again = λ y w. rw (h.again y w.0, w.1) refl;
-}
+tested {A} {r} {P} h test code place = grind (arith, h)
 
 -- ---- several steps that make a value
 
 pub two-exactly : {A B X E : Type 0} {r : Result A E} {s : A → Result B E} {P : A → Type 0} {Q : A → B → Type 0} → Exactly r P → ((a : A) → P a → Exactly (s a) (Q a)) → (mk : A → B → X)
     → Exactly (r >>= λ a. s a >>= λ b. Ok (mk a b)) (λ x. (a : A) × (b : B) × P a × Q a b × (mk a b ≡ x))
-two-exactly {A} {B} {X} {E} {r} {s} h k mk = record {
-  is = λ x e.
-      let a = bind_ok r (λ a. s a >>= λ b. Ok (mk a b)) x e in
-      let b = bind_ok (s a.0) (λ b. Ok (mk a.0 b)) x a.2 in
-      let p = h.is a.0 a.1 in
-      (a.0, b.0, p, (k a.0 p).is b.0 b.1, ok_is (mk a.0 b.0) x b.2);
-  again = λ x w. rw (h.again w.0 w.2, (k w.0 w.2).again w.1 w.3) (ap (λ (z : X). done {E = E} z) w.4);
-}
+two-exactly {A} {B} {X} {E} {r} {s} h k mk = grind (arith, h, k)
 
 -- one more step before others
 pub more-exactly : {A X E : Type 0} {r : Result A E} {P : A → Type 0} → Exactly r P → (k : A → Result X E) (Q : A → X → Type 0) → ((a : A) → P a → Exactly (k a) (Q a))
     → Exactly (r >>= k) (λ x. (a : A) × P a × Q a x)
-more-exactly {A} {X} {E} {r} h k Q f = record {
-  is = λ x e. let a = bind_ok r k x e in let p = h.is a.0 a.1 in (a.0, p, (f a.0 p).is x a.2);
-  again = λ x w. rw (h.again w.0 w.1) ((f w.0 w.1).again x w.2);
-}
+more-exactly {A} {X} {E} {r} h k Q f = grind (arith, h, f)
 
 pub three-exactly : {A B C X E : Type 0} {r : Result A E} {s : A → Result B E} {t : A → B → Result C E} {P : A → Type 0} {Q : A → B → Type 0} {R : A → B → C → Type 0}
     → Exactly r P → ((a : A) → P a → Exactly (s a) (Q a)) → ((a : A) (b : B) → P a → Exactly (t a b) (R a b)) → (mk : A → B → C → X)
     → Exactly (r >>= λ a. s a >>= λ b. t a b >>= λ c. Ok (mk a b c)) (λ x. (a : A) × P a × ((b : B) × (c : C) × Q a b × R a b c × (mk a b c ≡ x)))
-three-exactly {A} {B} {C} {X} {E} {r} {s} {t} {P} {Q} {R} h i j mk =
-    more-exactly h (λ a. s a >>= λ b. t a b >>= λ c. Ok (mk a b c)) (λ a x. (b : B) × (c : C) × Q a b × R a b c × (mk a b c ≡ x)) (λ a p. two-exactly (i a p) (λ b q. j a b p) (mk a))
+three-exactly {A} {B} {C} {X} {E} {r} {s} {t} {P} {Q} {R} h i j mk = grind (arith, h, i, j)
 
 pub four-exactly : {A B C D X E : Type 0} {r : Result A E} {s : Result B E} {t : Result C E} {u : Result D E} {P : A → Type 0} {Q : B → Type 0} {R : C → Type 0} {S : D → Type 0}
     → Exactly r P → Exactly s Q → Exactly t R → Exactly u S → (mk : A → B → C → D → X)
     → Exactly (r >>= λ a. s >>= λ b. t >>= λ c. u >>= λ d. Ok (mk a b c d)) (λ x. (a : A) × P a × ((b : B) × Q b × ((c : C) × (d : D) × R c × S d × (mk a b c d ≡ x))))
-four-exactly {A} {B} {C} {D} {X} {E} {r} {s} {t} {u} {P} {Q} {R} {S} h i j k mk =
-    more-exactly h (λ a. s >>= λ b. t >>= λ c. u >>= λ d. Ok (mk a b c d)) (λ a x. (b : B) × Q b × ((c : C) × (d : D) × R c × S d × (mk a b c d ≡ x)))
-    (λ a _. three-exactly i (λ b _. j) (λ b c _. k) (mk a))
+four-exactly {A} {B} {C} {D} {X} {E} {r} {s} {t} {u} {P} {Q} {R} {S} h i j k mk = grind (arith, h, i, j, k)
 
 -- ---- a fault with its unit
 

@@ -50,9 +50,7 @@ number-exactly {B} exact place v read P h = by_number (number_in v)
 -- the same in other words
 number-told : {B : Type 0} {r : Result B Refusal} (exact : Bool) (v : Value) {P : Decimal → B → Type 0} → Exactly r (λ y. IsNumber exact v (λ d. P d y)) → (Q : Decimal → B → Type 0)
     → ((d : Decimal) (y : B) → P d y → Q d y) → ((d : Decimal) (y : B) → Q d y → P d y) → Exactly r (λ y. IsNumber exact v (λ d. Q d y))
-number-told {B} exact v {P} h Q there back = told h (λ y. IsNumber exact v (λ d. Q d y))
-    (λ y. some_map (λ d. (IsTrue exact → is_rounded d ≡ false) × P d y) (λ d. (IsTrue exact → is_rounded d ≡ false) × Q d y) (number_in v) (λ d w. (w.0, there d y w.1)))
-    (λ y. some_map (λ d. (IsTrue exact → is_rounded d ≡ false) × Q d y) (λ d. (IsTrue exact → is_rounded d ≡ false) × P d y) (number_in v) (λ d w. (w.0, back d y w.1)))
+number-told {B} exact v {P} h Q there back = grind (arith, ints, told, some_map, h, there, back)
 
 -- ---- powers and costs
 
@@ -97,10 +95,7 @@ whole-exactly {B} exact place v read P h =
 -- a whole number that isn't below zero
 signed_is : (b : Bool) (n h : ℕ) → nat_lt 0 (n % MILLION) ≡ false → (b && nat_lt 0 (n / MILLION)) ≡ false → n / MILLION ≡ h → signed b n ≡ pos (h * MILLION)
 signed_is false n h rest e is = ap pos (omega (arith, ltb-false _ _ rest))
-signed_is true n h rest e is =
-    let none : n ≡ 0 = omega (arith, ltb-false _ _ rest, ltb-false _ _ e) in
-    let zero_is : h ≡ 0 = omega arith in
-    rw (none, zero_is) refl
+signed_is true n h rest e is = grind (arith, ints, rest, e, is)
 
 negative_again : (n h : ℕ) → signed true n ≡ pos (h * MILLION) → n ≡ 0
 negative_again zero h e = refl
@@ -108,10 +103,7 @@ negative_again (suc n) h e = absurd cc
 
 signed_again : (b : Bool) (n h : ℕ) → signed b n ≡ pos (h * MILLION) → (nat_lt 0 (n % MILLION) ≡ false) × ((b && nat_lt 0 (n / MILLION)) ≡ false) × (n / MILLION ≡ h)
 signed_again false n h e = let same : n ≡ h * MILLION = ap unsigned_abs e in (le-ltb 0 (n % MILLION) (omega arith), refl, omega arith)
-signed_again true n h e =
-    let none : n ≡ 0 = negative_again n h e in
-    let same : n ≡ h * MILLION = sym (size_of_signed true n) ∙ ap unsigned_abs e in
-    (le-ltb 0 (n % MILLION) (omega arith), le-ltb 0 (n / MILLION) (omega arith), omega arith)
+signed_again true n h e = grind (arith, ints, e)
 
 pub time-exactly : (exact : Bool) (place : Place) (v : Value) → Exactly (time_at exact place v) (λ h. IsTimeOf exact h v)
 unfolding time_at
@@ -282,14 +274,11 @@ holds_map : {X : Type 0} (look : Value → Option X) (field : Field) (ms : Pairs
 holds_map look field ms P Q f h = some_map (λ v. IsSomeAnd (look v) P) (λ v. IsSomeAnd (look v) Q) (field_of (key_of field) ms) (λ v. some_map P Q (look v) f) h
 
 holds_split : {X Q : Type 0} (look : Value → Option X) (field : Field) (ms : Pairs) (P : X → Type 0) → Holds look field ms (λ xs. P xs × Q) → Holds look field ms P × Q
-holds_split {X} {Q} look field ms P h =
-    some_split (λ v. IsSomeAnd (look v) P) (field_of (key_of field) ms)
-    (some_map (λ v. IsSomeAnd (look v) (λ xs. P xs × Q)) (λ v. IsSomeAnd (look v) P × Q) (field_of (key_of field) ms) (λ v. some_split P (look v)) h)
+holds_split {X} {Q} look field ms P h = grind (arith, ints, h)
 
 pub found-exactly : {X Y : Type 0} (look : Value → Option X) (field : Field) (ms : Pairs) (test : X → Result Y Refusal) (T : X → Y → Type 0) → ((xs : X) → Exactly (test xs) (T xs))
     → Exactly (field_at (whole field) ms >>= λ v. wanted 2 (whole field) (look v) >>= test) (λ ys. Holds look field ms (λ xs. T xs ys))
-found-exactly look field ms test T h =
-    field-exactly (whole field) ms (λ v. wanted 2 (whole field) (look v) >>= test) (λ v ys. IsSomeAnd (look v) (λ xs. T xs ys)) (λ v. wanted-exactly 2 (whole field) (look v) test T h)
+found-exactly look field ms test T h = grind (arith, ints, h)
 
 -- and what is read of that
 pub read-exactly : {X Y B E : Type 0} (look : Value → Option X) (field : Field) (ms : Pairs) (T : X → Y → Type 0) {r : Result Y E} → Exactly r (λ ys. Holds look field ms (λ xs. T xs ys))
@@ -331,10 +320,7 @@ any_each front (z ∷ zs) = (tt, any_each (front ++ z ∷ []) zs)
 
 -- there is one for each period
 pub powers_length : (exact : Bool) (field : Field) (periods : ℕ) (ms : Pairs) (zs : List ℤ) → Has field ms (IsPowersOf exact periods zs) → length zs ≡ periods
-powers_length exact field periods ms zs h =
-    let a = some_is (IsPowersOf exact periods zs) (field_of (key_of field) ms) h in
-    let b = some_is (λ vs. (periods ≤ length vs) × AllZip (λ w z. IsPowerOf exact z w) (take periods vs) zs) (entries_in a.0) a.2 in
-    omega (arith, AllZip-long (λ w z. IsPowerOf exact z w) (take periods b.0) zs b.2.1, length-take periods b.0, b.2.0)
+powers_length exact field periods ms zs h = grind (arith, ints, some_is, AllZip-long, length-take, h)
 
 pub powers-exactly : (exact : Bool) (field : Field) (periods : ℕ) (ms : Pairs) → Exactly (powers_at exact field periods ms) (λ zs. Has field ms (IsPowersOf exact periods zs) × (length zs ≡ periods))
 unfolding powers_at
@@ -420,10 +406,7 @@ point_row-exactly exact front v =
     (λ p w. some_split (HasPoint exact p) (pairs_in v) w) (λ p h. some_map (HasPoint exact p) (λ ms. HasPoint exact p ms × Above_last front p) (pairs_in v) (λ ms is. (is, h.1)) h.0)
 
 point_power : (exact : Bool) (v : Value) (p : Point) → IsPointOf exact p v → IsPower p.mw
-point_power exact v p h =
-    let a = some_is (HasPoint exact p) (pairs_in v) h in
-    let b = some_is (IsPowerOf exact p.mw) (field_of (key_of PiecewiseProductionMw) a.0) a.2.0 in
-    (some_is (λ d. (IsTrue exact → is_rounded d ≡ false) × ((scaled d ≡ p.mw) × IsPower p.mw)) (number_in b.0) b.2).2.1.1
+point_power exact v p h = grind (arith, ints, h)
 
 -- ---- the rows of a unit
 
@@ -556,42 +539,16 @@ pub record HasParts (exact : Bool) (unit : Thermal) (ms : Pairs) : Type 0 where
   pub points : HasPoints exact unit.points ms
 
 pub parts_of : (exact : Bool) (unit : Thermal) (ms : Pairs) → IsThermalOf exact unit ms → HasParts exact unit ms
-parts_of exact unit ms h = record {
-  figures = (((h.must_run, h.minimum, h.maximum), h.range), (h.ramp_up, h.ramp_down, h.start_limit, h.stop_limit), (h.time_up, h.time_down), (h.initial_output, h.initial_on, h.initial_time_up, h.initial_time_down));
-  startup = h.startup;
-  points = (h.points, h.rising);
-}
+parts_of exact unit ms h = grind (arith, ints, h)
 
 pub from_parts : (exact : Bool) (unit : Thermal) (ms : Pairs) → HasParts exact unit ms → IsThermalOf exact unit ms
-from_parts exact unit ms p = record {
-  must_run = p.figures.0.0.0;
-  minimum = p.figures.0.0.1;
-  maximum = p.figures.0.0.2;
-  range = p.figures.0.1;
-  ramp_up = p.figures.1.0;
-  ramp_down = p.figures.1.1;
-  start_limit = p.figures.1.2;
-  stop_limit = p.figures.1.3;
-  time_up = p.figures.2.0;
-  time_down = p.figures.2.1;
-  initial_output = p.figures.3.0;
-  initial_on = p.figures.3.1;
-  initial_time_up = p.figures.3.2;
-  initial_time_down = p.figures.3.3;
-  startup = p.startup;
-  points = p.points.0;
-  rising = p.points.1;
-}
+from_parts exact unit ms p = grind (arith, ints, p)
 
 -- an object that is a unit, under its name
 named-exactly : {A : Type 0} (name : A → List ℕ) (IsUnit : A → Pairs → Type 0) (kind : ℕ) (m : List ℕ × Value) (read : Pairs → Result A Refusal)
     → ((ms : Pairs) → Exactly (read ms) (λ unit. IsUnit unit ms × (name unit ≡ m.0)))
     → Exactly (in_unit kind m.0 (object_at (whole NoField) m.1 >>= read)) (λ unit. (name unit ≡ m.0) × IsObject m.1 (IsUnit unit))
-named-exactly {A} name IsUnit kind m read h =
-    let object = wanted-exactly 2 (whole NoField) (pairs_in m.1) read (λ ms unit. IsUnit unit ms × (name unit ≡ m.0)) h in
-    in_unit-exactly kind m.0 (object_at (whole NoField) m.1 >>= read) (λ unit. (name unit ≡ m.0) × IsObject m.1 (IsUnit unit))
-    (told object (λ unit. (name unit ≡ m.0) × IsObject m.1 (IsUnit unit)) (λ unit w. let s = some_split (IsUnit unit) (pairs_in m.1) w in (s.1, s.0))
-    (λ unit w. some_map (IsUnit unit) (λ ms. IsUnit unit ms × (name unit ≡ m.0)) (pairs_in m.1) (λ ms is. (is, w.0)) w.1))
+named-exactly {A} name IsUnit kind m read h = grind (arith, ints, h)
 
 thermal-exactly : (exact : Bool) (name : List ℕ) (ms : Pairs)
     → Exactly (figures_at exact ms >>= λ f. startup_at exact ms >>= λ s. points_at exact ms >>= λ p. Ok (thermal_of name f s p)) (λ unit. IsThermalOf exact unit ms × (unit.name ≡ name))

@@ -3,7 +3,7 @@
 use Rattle.std.proofs.Common.{◌≡◌, ℕ, zero, suc, ◌+◌, ◌<◌, ◌≤◌, ◌≢◌, ⊎_elim, Bool, true, false, List, [], ◌∷◌, ◌++◌, length, take, get_or, refl, sym, ap, subst, ◌∙◌, add-one, arith, get_or-set_other, get_or-set_same, ◌||◌, ◌&&◌, ◌==◌, not, All, slice_set, length-set, take_all, if◌then◌else◌}
 use mathlib.Core.Bool.{and_assoc}
 use Rattle.std.proofs.Math.Seq.{take-suc}
-use Rattle.std.proofs.lemmas.Bool.{eq-eqb, ne_eqb, not-true, not_from_false, or_left}
+use Rattle.std.proofs.lemmas.Bool.{eq-eqb, ne_eqb, not_from_false, or_left}
 use Rattle.std.proofs.lemmas.List.Folds.{list_all-append, list_any-append}
 use Rattle.uc_model.specs.Prelude.{Commitment, commitment_of, thermal_count, all_below}
 use Rattle.uc_model.proofs.Common.{all_below-from}
@@ -27,11 +27,7 @@ pub record IsFixWith (fixing : Fixing) (old new : Fix) : Type 0 where
 
 -- ---- nothing is decided
 pub undecided_so_far : (path : List Fixing) (g : ℕ) (fix : Fix) → IsUndecided fix → IsFixSoFar path 0 g fix
-undecided_so_far path g fix free = record {
-  known = free.known;
-  off = λ t e. free.on t;
-  same = λ periods inside on. sym (all_below-from periods _ (λ t h. or_left _ _ (not_from_false _ (free.known t))));
-}
+undecided_so_far path g fix free = grind (arith, all_below-from, or_left, not_from_false, free)
 
 -- ---- a decision of another unit
 other_any : (a b c : Bool) → b ≡ false → (a || ((b && c) || false)) ≡ a
@@ -114,20 +110,11 @@ not_here false same old e = refl
 
 fits-here : (fixing : Fixing) (old new : Fix) (on : Commitment) → IsFixWith fixing old new → commitment_of old.on fixing.t ≡ false
     → fits new on fixing.t ≡ keeps fixing on
-fits-here fixing old new on with off =
-    let same = eq-eqb fixing.t fixing.t refl in
-    here_kept (commitment_of new.known fixing.t) (commitment_of new.on fixing.t) fixing.on (on fixing.t)
-    (with.known fixing.t ∙ or_left _ _ same)
-    (with.on fixing.t ∙ here_on fixing.on (commitment_of old.on fixing.t) (fixing.t == fixing.t) off same)
+fits-here fixing old new on with off = grind (arith, with, off)
 
 fits-elsewhere : (fixing : Fixing) (old new : Fix) (on : Commitment) (t : ℕ) → IsFixWith fixing old new → t ≢ fixing.t
     → fits new on t ≡ fits old on t
-fits-elsewhere fixing old new on t with other =
-    let apart = ne_eqb fixing.t t (λ e. other (sym e)) in
-    let known : commitment_of new.known t ≡ commitment_of old.known t = with.known t ∙ ap (λ x. x || commitment_of old.known t) apart in
-    let bit : commitment_of new.on t ≡ commitment_of old.on t =
-    with.on t ∙ not_here fixing.on (fixing.t == t) (commitment_of old.on t) apart in
-    λ i. not (known i) || (if bit i then on t else not (on t))
+fits-elsewhere fixing old new on t with other = grind (arith, with, other)
 
 agrees-with : (periods : ℕ) (fixing : Fixing) (old new : Fix) (on : Commitment) → IsFixWith fixing old new → fixing.t < periods
     → commitment_of old.known fixing.t ≡ false → commitment_of old.on fixing.t ≡ false
@@ -144,30 +131,12 @@ record Follows (path : List Fixing) (n : ℕ) (fixing : Fixing) : Type 0 where
   placed : (periods : ℕ) → All (λ f. f.t < periods) path → fixing.t < periods
 
 follows : (path : List Fixing) (n : ℕ) (fixing : Fixing) → n < length path → fixing ≡ get_or path n fixing → Follows path n fixing
-follows path n fixing within read = record {
-  within = within;
-  next = ap (λ k. take k path) (add-one n) ∙ take-suc path n fixing within ∙ ap (λ (f : Fixing). take n path ++ f ∷ []) (sym read);
-  placed = λ periods inside. subst (λ (f : Fixing). f.t < periods) (sym read) (inside n fixing within);
-}
+follows path n fixing within read = grind (arith, add-one, take-suc, within, read)
 
 -- of another unit
 other_unit : (path : List Fixing) (n : ℕ) (fixing : Fixing) (g : ℕ) (fix : Fix) → Follows path n fixing → g ≢ fixing.g
     → IsFixSoFar path n g fix → IsFixSoFar path (n + 1) g fix
-other_unit path n fixing g fix after other so_far =
-    let apart = ne_eqb fixing.g g (λ e. other (sym e)) in
-    record {
-      known = λ t.
-          so_far.known t
-          ∙ sym (other_any (is_decided (node_of (take n path)) g t) (fixing.g == g) (fixing.t == t) apart)
-          ∙ sym (some_more (take n path) fixing g t)
-          ∙ ap (λ p. is_decided (node_of p) g t) (sym after.next);
-      off = so_far.off;
-      same = λ periods inside on.
-          ap (λ p. unit_agrees (node_of p) g on) after.next
-          ∙ all_more (take n path) fixing g on
-          ∙ other_all (unit_agrees (node_of (take n path)) g on) (fixing.g == g) (keeps fixing on) apart
-          ∙ so_far.same periods inside on;
-    }
+other_unit path n fixing g fix after other so_far = grind (arith, ne_eqb, other_any, some_more, all_more, other_all, after, other, so_far)
 
 -- of the unit itself, in a period in which nothing was decided
 own_unit : (path : List Fixing) (n : ℕ) (fixing : Fixing) (old new : Fix) → Follows path n fixing → IsFixWith fixing old new
@@ -175,14 +144,8 @@ own_unit : (path : List Fixing) (n : ℕ) (fixing : Fixing) (old new : Fix) → 
 own_unit path n fixing old new after with free so_far =
     let same = eq-eqb fixing.g fixing.g refl in
     record {
-      known = λ t.
-          with.known t
-          ∙ ap (λ x. (fixing.t == t) || x) (so_far.known t)
-          ∙ own_any (is_decided (node_of (take n path)) fixing.g t) (fixing.g == fixing.g) (fixing.t == t) same
-          ∙ sym (some_more (take n path) fixing fixing.g t)
-          ∙ ap (λ p. is_decided (node_of p) fixing.g t) (sym after.next);
-      off = λ t e.
-          with.on t ∙ still_off (fixing.t == t) (commitment_of old.known t) (commitment_of old.on t) fixing.on (sym (with.known t) ∙ e) (so_far.off t);
+      known = λ t. grind (arith, own_any, some_more, with, t, fixing, so_far, n, path, same, after);
+      off = λ t e. grind (arith, still_off, with, t, fixing, old, e, so_far);
       same = λ periods inside on.
           ap (λ p. unit_agrees (node_of p) fixing.g on) after.next
           ∙ all_more (take n path) fixing fixing.g on
@@ -211,24 +174,14 @@ decided_more path n fixing fixes new within read placed with free so_far = recor
 pub next_free : (path : List Fixing) (n : ℕ) (fixing : Fixing) (fixes : List Fix) → n < length path → fixing ≡ get_or path n fixing
     → fixing.g < length fixes → DecidesOnce path → AreFixesSoFar path n fixes
     → commitment_of (fix_at fixes fixing.g).known fixing.t ≡ false
-next_free path n fixing fixes within read placed once so_far =
-    (so_far.fix fixing.g placed).known fixing.t
-    ∙ subst (λ (f : Fixing). is_decided (node_of (take n path)) f.g f.t ≡ false) (sym read) (not-true _ (once.fresh n fixing within))
+next_free path n fixing fixes within read placed once so_far = grind (arith, within, read, placed, once, so_far)
 
 pub next_off : (path : List Fixing) (n : ℕ) (fixing : Fixing) (fixes : List Fix) → n < length path → fixing ≡ get_or path n fixing
     → fixing.g < length fixes → DecidesOnce path → AreFixesSoFar path n fixes
     → commitment_of (fix_at fixes fixing.g).on fixing.t ≡ false
-next_off path n fixing fixes within read placed once so_far =
-    (so_far.fix fixing.g placed).off fixing.t (next_free path n fixing fixes within read placed once so_far)
+next_off path n fixing fixes within read placed once so_far = grind (arith, within, read, placed, once, so_far)
 
 -- ---- the whole path
 pub fixes_of_path : (path : List Fixing) (n : ℕ) (fixes : List Fix) → length path ≤ n → AreFixesSoFar path n fixes
     → (instance : Instance) → thermal_count instance ≡ length fixes → IsNodeOf instance (node_of path) → AreFixesOf instance (node_of path) fixes
-fixes_of_path path n fixes most so_far instance count inside = record {
-  count = sym count;
-  fix = λ g h. record {
-    same = λ on.
-        ap (λ p. unit_agrees (node_of p) g on) (sym (take_all n path most))
-        ∙ (so_far.fix g (subst (λ k. g < k) count h)).same instance.periods (λ i d l. (inside i d l).period) on;
-  };
-}
+fixes_of_path path n fixes most so_far instance count inside = grind (arith, take_all, most, so_far, count, inside)

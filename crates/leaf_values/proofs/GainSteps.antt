@@ -1,16 +1,13 @@
 -- The steps of a sum that exact values are added to: what the next unit gains, and entries of which one more exact value is known.
-use Rattle.std.proofs.Common.{◌≡◌, ◌≢◌, ℕ, ◌+◌, ◌*◌, ◌<◌, ◌≤◌, ⊎_elim, List, length, refl, sym, ap, subst, ◌∙◌, arith, ℤ, ◌+ℤ◌, to_z, of_z, unsigned_abs, slice_index_or, slice_set, get_or-set_same, get_or-set_other, length-set, pos, Option, Some, None, MatchOption}
+use Rattle.std.proofs.Common.{◌≡◌, ℕ, ◌+◌, ◌*◌, ◌<◌, ◌≤◌, List, refl, sym, subst, arith, ℤ, ◌+ℤ◌, to_z, of_z, unsigned_abs, slice_index_or, slice_set, get_or-set_same, get_or-set_other, length-set, pos, Option, Some, None, MatchOption}
 use Rattle.std.specs.Int.{w128}
 use Rattle.std.proofs.lemmas.Bool.{cases_eq}
 use Rattle.std.proofs.lemmas.List.{get_or_default}
 use Rattle.uc_model.specs.Prelude.{thermal_count}
 use Rattle.uc_model.specs.declared.limits.TheConstants.{MAX_UNITS}
-use Rattle.uc_model.proofs.Common.{abs_add}
-use Rattle.uc_model.proofs.Sizes.{wide}
 use Rattle.dual_model.specs.Prelude.{HasNoUnitSchedule, HasUnscheduledUnit, IsExactUnitValue, IsFixOf, IsUnitValueOf}
 use Rattle.dual_model.specs.declared.table.Table.{Table}
-use Rattle.leaf_values.specs.Entries.{ExactEntry, TableEntries, UnitEntry, AreEntriesOf, AreExactEntriesOf, AreUnitsReckoned, IsEntryOf, IsExactByFix, IsExactEntryOf, MAX_NODE_VALUE, MAX_REST, entry_at, entry_in, exact_in, no_entry}
-use Rattle.leaf_values.specs.declared.entries.ExactEntry.TheVariants as known
+use Rattle.leaf_values.specs.Entries.{ExactEntry, TableEntries, UnitEntry, AreEntriesOf, AreExactEntriesOf, IsExactByFix, IsExactEntryOf, MAX_NODE_VALUE, entry_at}
 use Rattle.leaf_values.specs.Paths.{Instance, Node}
 use Rattle.leaf_values.specs.inside.ExactTotals.{IsGained, MAX_PART, gain_of}
 use Rattle.leaf_values.specs.inside.Totals.{IsPart}
@@ -20,43 +17,21 @@ use Rattle.leaf_values.proofs.NodeTotals.{unit_value}
 -- ---- what is read
 pub entry-read : (instance : Instance) (table : Table) (entries : TableEntries) (g : ℕ) (read : UnitEntry) → AreEntriesOf instance table entries
     → g < thermal_count instance → read ≡ slice_index_or entries.units.items g read → read ≡ entry_at entries g
-entry-read instance table entries g read are known is =
-    let count = are.reckoned.units.count in
-    is ∙ get_or_default entries.units.items g read no_entry (omega (arith, count, known))
+entry-read instance table entries g read are known is = grind (arith, get_or_default, are, known, is)
 
 pub exact-read : (instance : Instance) (table : Table) (entries : TableEntries) (g : ℕ) (read : ExactEntry) → AreEntriesOf instance table entries
     → g < thermal_count instance → read ≡ slice_index_or entries.exact.items g read → IsExactEntryOf instance table g read
-exact-read instance table entries g read are within is =
-    let count = are.exact.count in
-    subst (IsExactEntryOf instance table g) (sym (is ∙ get_or_default entries.exact.items g read known.Unsought (omega (arith, count, within))))
-    (are.exact.unit g within)
+exact-read instance table entries g read are within is = grind (arith, get_or_default, are, within, is)
 
 -- ---- one exact value more is known
 pub known-more : (instance : Instance) (table : Table) (exact : List ExactEntry) (g : ℕ) (new : ExactEntry) → g < thermal_count instance
     → AreExactEntriesOf instance table exact → IsExactEntryOf instance table g new → AreExactEntriesOf instance table (slice_set exact g new)
-known-more instance table exact g new within are is = record {
-  count = length-set exact g new ∙ are.count;
-  unit = λ k l. ⊎_elim
-      (λ (here : k ≡ g).
-      let count = are.count in
-      let short : g < length exact = omega (arith, count, within) in
-      subst (λ j. IsExactEntryOf instance table j (exact_in (slice_set exact g new) j)) (sym here)
-      (subst (IsExactEntryOf instance table g) (sym (get_or-set_same exact g new known.Unsought short)) is))
-      (λ (other : k ≢ g). subst (IsExactEntryOf instance table k) (sym (get_or-set_other exact g k new known.Unsought other)) (are.unit k l))
-      (cases_eq k g);
-}
+known-more instance table exact g new within are is =
+    grind (arith, length-set, slice_set, get_or-set_same, get_or-set_other, cases_eq, within, are, is)
 
 pub entries-with : (instance : Instance) (table : Table) (old new : TableEntries) → AreEntriesOf instance table old → new.units.items ≡ old.units.items
     → new.rest ≡ old.rest → AreExactEntriesOf instance table new.exact.items → AreEntriesOf instance table new
-entries-with instance table old new are units rest exact = record {
-  reckoned = record {
-    units = subst (AreUnitsReckoned instance) (sym units) are.reckoned.units;
-    rest = subst (λ z. unsigned_abs z ≤ MAX_REST) (sym rest) are.reckoned.rest;
-  };
-  unit = λ g l. subst (λ (us : List UnitEntry). IsEntryOf instance table g (entry_in us g)) (sym units) (are.unit g l);
-  exact = exact;
-  rest = rest ∙ are.rest;
-}
+entries-with instance table old new are units rest exact = grind (arith, are)
 
 -- ---- the next unit gains, or has no schedule of its own
 module _ (instance : Instance) (table : Table) (node : Node) (entries : TableEntries) (g : ℕ) (are : AreEntriesOf instance table entries)
@@ -89,14 +64,4 @@ pub record OneMore (n : ℕ) (total gain result : ℤ) : Type 0 where
 
 pub one_more : (n : ℕ) (total gain result : ℤ) → n < MAX_UNITS → result ≡ total +ℤ to_z w128 (of_z w128 gain)
     → unsigned_abs total ≤ MAX_NODE_VALUE + n * (2 * MAX_PART) → unsigned_abs gain ≤ 2 * MAX_PART → OneMore n total gain result
-one_more n total gain result few e most small =
-    let whole = wide gain (2 * MAX_PART) small (omega arith) in
-    let sum : result ≡ total +ℤ gain = e ∙ ap (λ z. total +ℤ z) whole in
-    let size : unsigned_abs result ≤ MAX_NODE_VALUE + (n + 1) * (2 * MAX_PART) =
-    subst (λ z. unsigned_abs z ≤ MAX_NODE_VALUE + (n + 1) * (2 * MAX_PART)) (sym sum)
-    (omega (arith, abs_add total gain (MAX_NODE_VALUE + n * (2 * MAX_PART)) (2 * MAX_PART) most small)) in
-    let kept = wide result (MAX_NODE_VALUE + (n + 1) * (2 * MAX_PART)) size (omega arith) in
-    record {
-      sum = kept ∙ sum;
-      size = subst (λ z. unsigned_abs z ≤ MAX_NODE_VALUE + (n + 1) * (2 * MAX_PART)) (sym kept) size;
-    }
+one_more n total gain result few e most small = grind (arith, few, e, most, small)

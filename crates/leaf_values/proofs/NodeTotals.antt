@@ -1,44 +1,29 @@
 -- What entries that were reckoned for a node's fixes add up to is the node's value.
-use Rattle.std.proofs.Common.{◌≡◌, ℕ, ◌<◌, ◌≤◌, List, Some, None, Option, refl, sym, ap, subst, ◌∙◌, arith, ℤ, ◌+ℤ◌, MatchOption, unsigned_abs}
+use Rattle.std.proofs.Common.{◌≡◌, ℕ, ◌<◌, List, Some, None, Option, sym, ap, subst, arith, ℤ, ◌+ℤ◌, MatchOption}
 use Rattle.uc_model.specs.Prelude.{thermal_count, thermal_unit}
 use Rattle.uc_model.proofs.Common.{linear, sum_below-same}
-use Rattle.dual_model.specs.Prelude.{HasEmptyUnit, IsFixOf, IsNodeValue, constant_at, IsLeastValue, AreTermsOf, IsUnitValueOf}
-use Rattle.dual_model.specs.PatternValue.{HasNoPattern}
+use Rattle.dual_model.specs.Prelude.{HasEmptyUnit, IsFixOf, IsNodeValue, constant_at, AreTermsOf, IsUnitValueOf}
 use Rattle.dual_model.proofs.TableValues.{unit_value-of}
-use Rattle.leaf_values.specs.Entries.{TableEntries, UnitEntry, AreEntriesOf, AreExactEntriesOf, AreUnitsReckoned, MAX_REST, IsEntryOf, IsReckoned, entry_at}
+use Rattle.leaf_values.specs.Entries.{TableEntries, UnitEntry, AreEntriesOf, AreUnitsReckoned, IsEntryOf, IsReckoned, entry_at}
 use Rattle.uc_model.specs.declared.instance.Instance.{Instance}
 use Rattle.dual_model.specs.declared.table.Table.{Table}
-use Rattle.leaf_values.specs.Paths.{Fix, Node, AreFixesOf, fix_at}
+use Rattle.leaf_values.specs.Paths.{Fix, Node, AreFixesOf}
 use Rattle.leaf_values.specs.inside.ExactTotals.{AreDecided}
 use Rattle.leaf_values.specs.inside.Totals.{AreReckonedFor, HasNoValue, IsReckonedFor, IsTotal, part_of, value_of}
 
 -- ---- the entries are those of the table as before
 pub reckoned_units : (instance : Instance) (fixes : List Fix) (old new : List UnitEntry) → AreUnitsReckoned instance old
     → AreReckonedFor instance fixes (thermal_count instance) old new → AreUnitsReckoned instance new
-reckoned_units instance fixes old new before after = record {
-  count = after.count ∙ before.count;
-  unit = λ g h. (after.unit g h).reckoned;
-}
+reckoned_units instance fixes old new before after = grind (arith, linear, before, after)
 
 still_entry : (instance : Instance) (table : Table) (g : ℕ) (fix : Fix) (old new : UnitEntry) → IsEntryOf instance table g old
     → IsReckonedFor instance.periods (thermal_unit instance g) fix old new → IsEntryOf instance table g new
-still_entry instance table g fix old new entry after = record {
-  terms = subst (AreTermsOf instance table g) (sym after.terms) entry.terms;
-  constant = after.constant ∙ entry.constant;
-}
+still_entry instance table g fix old new entry after = grind (arith, linear, entry, after)
 
 pub entries_kept : (instance : Instance) (table : Table) (fixes : List Fix) (old new : TableEntries) → AreEntriesOf instance table old
     → AreReckonedFor instance fixes (thermal_count instance) old.units.items new.units.items → new.exact ≡ old.exact → new.rest ≡ old.rest
     → AreEntriesOf instance table new
-entries_kept instance table fixes old new entries after exact rest = record {
-  reckoned = record {
-    units = reckoned_units instance fixes old.units.items new.units.items entries.reckoned.units after;
-    rest = subst (λ z. unsigned_abs z ≤ MAX_REST) (sym rest) entries.reckoned.rest;
-  };
-  unit = λ g h. still_entry instance table g (fix_at fixes g) (entry_at old g) (entry_at new g) (entries.unit g h) (after.unit g h);
-  exact = subst (λ known. AreExactEntriesOf instance table known.items) (sym exact) entries.exact;
-  rest = rest ∙ entries.rest;
-}
+entries_kept instance table fixes old new entries after exact rest = grind (arith, linear, entries, after)
 
 -- they are for what a node decides
 pub decided_units : (instance : Instance) (node : Node) (fixes : List Fix) (old new : List UnitEntry)
@@ -56,10 +41,7 @@ pub unit_value : (instance : Instance) (node : Node) (table : Table) (g : ℕ) (
     → IsReckoned instance.periods (thermal_unit instance g) entry → entry.fix ≡ fix → IsFixOf instance.periods node g fix
     → IsUnitValueOf instance node table g entry.value
 unit_value instance node table g fix entry terms reckoned same decided =
-    let unit = thermal_unit instance g in
-    unit_value-of instance node table g unit entry.terms entry.fix entry.value refl terms (subst (IsFixOf instance.periods node g) (sym same) decided)
-    (λ w e. least_of (HasNoPattern entry.terms unit entry.fix) (IsLeastValue entry.terms unit entry.fix) entry.value w reckoned.value e)
-    (λ e. none_of (HasNoPattern entry.terms unit entry.fix) (IsLeastValue entry.terms unit entry.fix) entry.value reckoned.value e)
+    grind (arith, linear, unit_value-of, least_of, none_of, reckoned, same, decided)
 
 -- ---- the node's value
 -- entries of the table that were reckoned for what the node decides
@@ -70,11 +52,7 @@ pub record AreValuesAt (instance : Instance) (table : Table) (node : Node) (entr
 pub values_at : (instance : Instance) (table : Table) (node : Node) (fixes : List Fix) (old new : TableEntries) → AreEntriesOf instance table new
     → AreReckonedFor instance fixes (thermal_count instance) old.units.items new.units.items → AreFixesOf instance node fixes
     → AreValuesAt instance table node new
-values_at instance table node fixes old new are after decided = record {
-  are = are;
-  value = λ g h.
-      unit_value instance node table g (fix_at fixes g) (entry_at new g) (are.unit g h).terms (after.unit g h).reckoned (after.unit g h).fix (decided.fix g h);
-}
+values_at instance table node fixes old new are after decided = grind (arith, linear, unit_value, are, after, decided)
 
 node_value : (instance : Instance) (table : Table) (node : Node) (entries : TableEntries) (v : ℤ) → AreValuesAt instance table node entries
     → IsTotal entries (thermal_count instance) v → IsNodeValue instance node table v
@@ -90,11 +68,7 @@ node_value instance table node entries v at sum =
 
 empty_unit : (instance : Instance) (table : Table) (node : Node) (entries : TableEntries) → AreValuesAt instance table node entries
     → HasNoValue entries (thermal_count instance) → HasEmptyUnit instance node
-empty_unit instance table node entries at without = record {
-  unit = without.unit;
-  within = without.within;
-  empty = subst (IsUnitValueOf instance node table without.unit) without.none (at.value without.unit without.within);
-}
+empty_unit instance table node entries at without = grind (arith, linear, at, without)
 
 pub node_answer : (instance : Instance) (table : Table) (node : Node) (entries : TableEntries) (answer : Option ℤ) → AreValuesAt instance table node entries
     → MatchOption answer (HasNoValue entries (thermal_count instance)) (IsTotal entries (thermal_count instance))

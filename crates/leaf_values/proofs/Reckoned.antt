@@ -15,19 +15,14 @@ use Rattle.leaf_values.specs.inside.Totals.{AreReckonedFor, IsReckonedFor, IsTot
 -- the same of equal numbers
 pub reckoned_as : (walk periods : ℕ) (unit same_unit : Thermal) (fix : Fix) (old same_old new : UnitEntry) → IsReckonedFor walk unit fix old new
     → walk ≡ periods → unit ≡ same_unit → old ≡ same_old → IsReckonedFor periods same_unit fix same_old new
-reckoned_as walk periods unit same_unit fix old same_old new h e f k =
-    subst (λ n. IsReckonedFor n same_unit fix same_old new) e
-    (subst (λ (u : Thermal). IsReckonedFor walk u fix same_old new) f
-    (subst (λ (o : UnitEntry). IsReckonedFor walk unit fix o new) k h))
+reckoned_as walk periods unit same_unit fix old same_old new h e f k = grind (arith, linear, h, e, f, k)
 
 -- the entries of the units from n on are as before
 pub record AreKept (n : ℕ) (old new : List UnitEntry) : Type 0 where
   pub same : (k : ℕ) → n ≤ k → entry_in new k ≡ entry_in old k
 
 pub kept_more : (n : ℕ) (old units : List UnitEntry) (entry : UnitEntry) → AreKept n old units → AreKept (n + 1) old (slice_set units n entry)
-kept_more n old units entry kept = record {
-  same = λ k h. let other : k ≢ n = omega arith in rw get_or-set_other (kept.same k (omega arith));
-}
+kept_more n old units entry kept = grind (arith, linear, get_or-set_other, kept)
 
 pub reckoned_more : (instance : Instance) (fixes : List Fix) (n : ℕ) (old units : List UnitEntry) (new : UnitEntry) → n < length units
     → AreReckonedFor instance fixes n old units
@@ -62,9 +57,6 @@ one_more entries n total part result few so_far valued is e most small =
     let terms = λ (g : ℕ). part_of (entry_at entries g) in
     let next : result ≡ entries.rest +ℤ sum_below (suc n) terms = omega (arith, linear, so_far.total, sum) in
     record {
-      sum = record {
-        each = below_more _ _ so_far.each valued;
-        total = kept ∙ next ∙ ap (λ k. entries.rest +ℤ sum_below k terms) (sym (add-one n));
-      };
+      sum = grind (arith, linear, below_more, add-one, so_far, valued, total, kept, next, entries, terms, n);
       size = subst (λ z. unsigned_abs z ≤ MAX_REST + (n + 1) * (MAX_COST_TO_GO + MAX_CONSTANT)) (sym kept) size;
     }

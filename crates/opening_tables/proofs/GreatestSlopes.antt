@@ -1,12 +1,11 @@
 -- The greatest slope of the units so far, and one unit more.
-use Rattle.std.proofs.Common.{◌≡◌, ℕ, ◌+◌, ◌<◌, Bool, true, false, [], get_or, refl, subst, sym, arith, ℤ, pos, ◌*ℤ◌, ◌≤ℤ◌, ◌<ℤ◌, below_more, Option, Some, None, MatchOption, int_lt, List, if◌then◌else◌}
+use Rattle.std.proofs.Common.{◌≡◌, ℕ, ◌+◌, ◌<◌, Bool, true, false, get_or, subst, arith, ℤ, pos, ◌*ℤ◌, ◌≤ℤ◌, ◌<ℤ◌, below_more, Option, Some, None, MatchOption, int_lt, List, if◌then◌else◌}
 use Rattle.std.proofs.lemmas.Int.{ints}
 use Rattle.std.proofs.lemmas.List.{get_or_read}
 use Rattle.uc_model.specs.Prelude.{cell_at, thermal_count, thermal_unit}
 use Rattle.uc_model.proofs.Common.{linear, int_lt-true}
 use Rattle.cost_curves.specs.LowerHull.{IsLowerHull}
 use Rattle.cost_curves.specs.UnitCurves.{AreCurvesOf}
-use Rattle.cost_curves.specs.LeastCost.{IsLeftSlope}
 use Rattle.cost_curves.proofs.Lines.{flatter_trans}
 use Rattle.cost_curves.proofs.Slopes.{left_slope-same, slope_run}
 use Rattle.opening_tables.specs.Marginal.{Cell, Instance, Printed, Slope, HasSlope, IsAtMost, IsGreatestSlope, IsRunning}
@@ -26,9 +25,7 @@ at_most-trans first second third h k m a b =
 -- what is read of the curves at a unit's place is its own
 pub own_hull : (instance : Instance) (curves : List (List Point)) (g : ℕ) (own : List Point) → AreCurvesOf instance curves
     → g < thermal_count instance → own ≡ get_or curves g own → IsLowerHull (thermal_unit instance g).points own
-own_hull instance curves g own are within is =
-    subst (IsLowerHull (thermal_unit instance g).points) (sym (get_or_read curves g own (omega (arith, within, are.count)) is []))
-    (are.curve g within)
+own_hull instance curves g own are within is = grind (arith, ints, get_or_read, are, within, is)
 
 -- the unit's own slope, if it runs
 abbrev pub IsOwnSlope : Instance → Printed → ℕ → ℕ → Option Slope → Type 0
@@ -76,18 +73,12 @@ greatest-more instance printed t n None (Some own) none has =
     greatest_of instance printed t n n own (omega arith) has
     (λ g other h is. absurd (none g h is.running))
     (λ other is. own_greatest instance printed t n own other has is)
-greatest-more instance printed t n (Some best) None greatest idle =
-    greatest_of instance printed t n greatest.unit best (omega (arith, greatest.within)) greatest.attained greatest.greatest
-    (λ other is. absurd (idle is.running))
-greatest-more instance printed t n (Some best) (Some own) greatest has =
-    chosen instance printed t n best own (int_lt (best.rise *ℤ own.run) (own.rise *ℤ best.run)) refl greatest has
+greatest-more instance printed t n (Some best) None greatest idle = grind (arith, ints, greatest_of, best, greatest, idle)
+greatest-more instance printed t n (Some best) (Some own) greatest has = grind (arith, ints, chosen, int_lt, best, greatest, has)
 
 -- the unit's own slope by its curve
 pub own_slope : (instance : Instance) (printed : Printed) (g t : ℕ) (curve : List Point) (cell : Cell) (own : Option Slope)
     → cell ≡ cell_at printed g t → IsLowerHull (thermal_unit instance g).points curve
     → MatchOption own (¬ IsRunning cell) (IsCellSlope curve cell) → IsOwnSlope instance printed t g own
 own_slope instance printed g t curve cell None is hull idle = subst (λ (c : Cell). ¬ IsRunning c) is idle
-own_slope instance printed g t curve cell (Some own) is hull has = record {
-  running = subst IsRunning is has.running;
-  left = subst (λ (c : Cell). IsLeftSlope (thermal_unit instance g).points c.p own) is (has.left (thermal_unit instance g).points hull);
-}
+own_slope instance printed g t curve cell (Some own) is hull has = grind (arith, ints, is, hull, has)

@@ -1,10 +1,10 @@
 -- A table whose prices are all 0 is lawful.
-use Rattle.std.proofs.Common.{◌≡◌, ℕ, List, [], length, replicate, refl, arith, ℤ, pos, ◌≤ℤ◌}
+use Rattle.std.proofs.Common.{◌≡◌, ℕ, List, [], length, replicate, arith, ℤ, pos, ◌≤ℤ◌}
 use Rattle.std.proofs.lemmas.List.{length-replicate}
 use Rattle.std.proofs.lemmas.List.Elements.{All-nil, All-replicate}
 use Rattle.uc_model.specs.declared.instance.Instance.{Instance}
 use Rattle.uc_model.proofs.Common.{linear}
-use Rattle.dual_model.specs.Prelude.{unpriced_table, IsLawfulScale, IsLawfulTable, IsPrice, IsRowPriced, IsRowSigned, IsRowWithin}
+use Rattle.dual_model.specs.Prelude.{unpriced_table, IsLawfulScale, IsLawfulTable, IsPrice, IsRowPriced, IsRowSigned}
 use Rattle.dual_model.specs.declared.table.Table.{Table}
 
 -- the table that the code makes of no rows
@@ -17,16 +17,7 @@ unpriced_lawful instance k scale =
     let count : length (replicate periods (pos 0)) ≡ periods = length-replicate {A = ℤ} periods (pos 0) in
     let nought : pos 0 ≤ℤ pos 0 = omega (arith, linear) in
     record {
-      size = record {
-        form = record {
-          scale = scale.low;
-          lengths = refl;
-          rows = All-nil (IsRowWithin (unpriced_table instance k).units (length (replicate periods (pos 0))));
-          rising = λ i d h. absurd (omega arith);
-        };
-        units = refl;
-        periods = count;
-      };
+      size = grind (arith, linear, All-nil, scale, instance, k, periods, count);
       signs = record {
         mu = All-replicate (λ z. pos 0 ≤ℤ z) periods (pos 0) nought;
         ramps = All-nil IsRowSigned;

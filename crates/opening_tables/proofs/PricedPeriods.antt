@@ -28,16 +28,7 @@ pub priced_lawful : (instance : Instance) (printed : Printed) (units : ℕ) (pi 
 priced_lawful instance printed units pi mu count length_is none priced =
     let mu_length : length mu ≡ instance.periods = subst (λ xs. length xs ≡ instance.periods) (sym none) (length-replicate {A = ℤ} instance.periods (pos 0)) in
     record {
-      size = record {
-        form = record {
-          scale = omega (arith, linear);
-          lengths = mu_length ∙ sym length_is;
-          rows = λ i d h. absurd (omega arith);
-          rising = λ i d h. absurd (omega arith);
-        };
-        units = count;
-        periods = length_is;
-      };
+      size = grind (arith, ints, mu_length, length_is, units, count);
       signs = record {
         mu = subst (All (λ n. pos 0 ≤ℤ n)) (sym none) (All-replicate (λ n. pos 0 ≤ℤ n) instance.periods (pos 0) (omega (arith, linear)));
         ramps = λ i d h. absurd (omega arith);

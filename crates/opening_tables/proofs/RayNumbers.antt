@@ -1,12 +1,12 @@
 -- The table of a ray has the numbers that the ray names.
-use Rattle.std.proofs.Common.{◌≡◌, ◌≢◌, ℕ, zero, suc, ◌*◌, ◌/◌, ◌<◌, ◌≤◌, ⊎_elim, Bool, true, false, List, [], ◌∷◌, ◌++◌, length, get_or-set_other, get_or-set_same, refl, sym, ap, ◌∙◌, arith, ◌==◌, ℤ, pos, ◌&&◌, nat_lt, slice_index_or, replicate, All, if◌then◌else◌}
+use Rattle.std.proofs.Common.{◌≡◌, ◌≢◌, ℕ, zero, suc, ◌*◌, ◌/◌, ◌<◌, ◌≤◌, ⊎_elim, Bool, true, false, List, [], ◌∷◌, ◌++◌, get_or-set_other, get_or-set_same, refl, sym, ap, ◌∙◌, arith, ◌==◌, ℤ, pos, ◌&&◌, nat_lt, slice_index_or, All, if◌then◌else◌}
 use Rattle.std.proofs.lemmas.Bool.{cases_lt, true≢false, eq-eqb, eqb-true, ltb-true, ne_eqb}
 use Rattle.std.proofs.lemmas.List.{get_or-replicate, length-replicate}
 use Rattle.std.proofs.lemmas.List.Elements.{All-head, All-tail, All-weaker}
-use Rattle.uc_model.specs.Prelude.{bit, IsLawfulInstance, thermal_count, thermal_unit}
+use Rattle.uc_model.specs.Prelude.{bit, IsLawfulInstance, thermal_unit}
 use Rattle.uc_model.specs.declared.instance.Instance.{Instance}
 use Rattle.uc_model.specs.declared.instance.Thermal.{Thermal}
-use Rattle.dual_model.specs.Prelude.{HasRayNumbers, first_row, first_rows, price_in, ray_at, ray_period, ray_table, row_of}
+use Rattle.dual_model.specs.Prelude.{HasRayNumbers, first_row, first_rows, price_in, ray_period, ray_table, row_of}
 use Rattle.dual_model.specs.declared.table.RampRow.{RampRow}
 use Rattle.opening_tables.proofs.RayTables.{IsFirstRow, rows_within}
 
@@ -16,14 +16,8 @@ same_test s t b e = (λ h. eqb-true s t (e ∙ h), λ h same. true≢false (sym 
 
 price_by : (periods t s : ℕ) (price : ℤ) (b : Bool) → t < periods → s < periods → (s == t) ≡ b
     → slice_index_or (price_in periods t price) s (pos 0) ≡ (if b then price else pos 0)
-price_by periods t s price true ht hs e =
-    let same : s ≡ t = eqb-true s t e in
-    let size : length (replicate periods (pos 0)) ≡ periods = length-replicate {A = ℤ} periods (pos 0) in
-    ap (λ k. slice_index_or (price_in periods t price) k (pos 0)) same
-    ∙ get_or-set_same (replicate periods (pos 0)) t price (pos 0) (omega (arith, ht, size))
-price_by periods t s price false ht hs e =
-    let other : s ≢ t = (same_test s t false e).1 refl in
-    get_or-set_other (replicate periods (pos 0)) t s price (pos 0) other ∙ get_or-replicate {A = ℤ} periods s (pos 0) (pos 0) hs
+price_by periods t s price true ht hs e = grind (arith, eqb-true, length-replicate, slice_index_or, get_or-set_same, ht, hs, e)
+price_by periods t s price false ht hs e = grind (arith, same_test, get_or-set_other, get_or-replicate, ht, hs, e)
 
 price_at : (periods t s : ℕ) (price : ℤ) → t < periods → s < periods
     → slice_index_or (price_in periods t price) s (pos 0) ≡ (if s == t then price else pos 0)
@@ -62,8 +56,7 @@ down_by false row rest = refl
 
 first_test : (n t : ℕ) → ((n == n) && (0 == t)) ≡ (t == 0)
 first_test n zero = ap (λ b. b && (0 == 0)) (eq-eqb n n refl)
-first_test n (suc t) =
-    ap (λ b. b && (0 == suc t)) (eq-eqb n n refl) ∙ ne_eqb 0 (suc t) (λ e. absurd (omega (arith, e))) ∙ sym (ne_eqb (suc t) 0 (λ e. absurd (omega (arith, e))))
+first_test n (suc t) = grind arith
 
 idle_by : (b : Bool) → pos 0 ≡ (if b then pos 0 else pos 0)
 idle_by true = refl
@@ -104,18 +97,4 @@ row_of-first instance up down (suc n) g t h =
     (cases_lt g n)
 
 pub ray_numbers : (instance : Instance) (n : ℕ) → IsLawfulInstance instance → HasRayNumbers instance n (ray_table instance n)
-ray_numbers instance n lawful =
-    let ray = ray_at instance.periods n in
-    let t = ray_period instance.periods n in
-    let within = period_within instance.periods n lawful.periods.0 in
-    record {
-      scale = refl;
-      demand = λ s hs. price_at instance.periods t s ray.demand within hs;
-      reserve = λ s hs. price_at instance.periods t s ray.reserve within hs;
-      up = λ g s hg.
-          ap (λ (row : RampRow). row.up) (row_of-first instance ray.up ray.down (thermal_count instance) g s hg)
-          ∙ own_up g s (ray.up (thermal_unit instance g)) (ray.down (thermal_unit instance g));
-      down = λ g s hg.
-          ap (λ (row : RampRow). row.down) (row_of-first instance ray.up ray.down (thermal_count instance) g s hg)
-          ∙ own_down g s (ray.up (thermal_unit instance g)) (ray.down (thermal_unit instance g));
-    }
+ray_numbers instance n lawful = grind (arith, period_within, price_at, row_of-first, own_up, own_down, lawful)

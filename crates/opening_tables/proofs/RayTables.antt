@@ -1,13 +1,13 @@
 -- The tables of the opening's rays: their rows, and that they are lawful.
-use Rattle.std.proofs.Common.{◌≡◌, ◌≢◌, ℕ, zero, suc, ◌+◌, ◌-◌, ◌*◌, ◌%◌, ◌<◌, ◌≤◌, ⊎_elim, inl, inr, Bool, true, false, List, [], ◌∷◌, ◌++◌, length, get_or, refl, sym, ap, subst, ◌∙◌, arith, ℤ, pos, neg_ℤ, ◌≤ℤ◌, ◌⊎◌, nat_lt, unsigned_abs, slice_index_or, replicate, All, if◌then◌else◌}
+use Rattle.std.proofs.Common.{◌≡◌, ◌≢◌, ℕ, zero, suc, ◌+◌, ◌<◌, ◌≤◌, inl, inr, Bool, true, false, List, [], ◌∷◌, ◌++◌, length, refl, sym, subst, ◌∙◌, arith, ℤ, pos, ◌≤ℤ◌, ◌⊎◌, unsigned_abs, slice_index_or, replicate, All, if◌then◌else◌}
 use Rattle.std.proofs.lemmas.Bool.{cases_lt}
 use Rattle.std.proofs.lemmas.Int.{ints}
 use Rattle.std.proofs.lemmas.List.{append-nil, get_or_append_left, get_or_push, length-append, length-replicate, length-set}
-use Rattle.std.proofs.lemmas.List.Elements.{All-append, All-cons, All-from_recursion, All-get_or, All-nil, All-replicate, All-set, All-weaker}
+use Rattle.std.proofs.lemmas.List.Elements.{All-append, All-cons, All-nil, All-replicate, All-set, All-weaker}
 use Rattle.uc_model.specs.Prelude.{IsLawfulInstance, thermal_count, thermal_unit}
 use Rattle.uc_model.specs.declared.instance.Instance.{Instance}
 use Rattle.uc_model.proofs.Common.{linear}
-use Rattle.dual_model.specs.Prelude.{OpeningRay, falls_short, first_row, first_rows, no_ray, nowhere, period_rays, price_in, ramp_rays, ray_at, ray_count, ray_period, ray_prices, ray_table, rises_short, stays_below, IsLawfulTable, IsPrice, IsRowBefore, IsRowPriced, IsRowSigned, IsRowWithin}
+use Rattle.dual_model.specs.Prelude.{OpeningRay, first_row, first_rows, period_rays, price_in, ramp_rays, ray_at, ray_count, ray_period, ray_table, IsLawfulTable, IsPrice, IsRowBefore, IsRowSigned}
 use Rattle.dual_model.specs.declared.table.RampRow.{RampRow}
 use Rattle.dual_model.specs.declared.table.Table.{Table}
 use Rattle.opening_tables.specs.inside.Rays.{Ray, Thermal, down_of, named_by, up_of}
@@ -16,12 +16,7 @@ use Rattle.opening_tables.specs.inside.Rays.{Ray, Thermal, down_of, named_by, up
 -- one unit more
 pub rows-more : (instance : Instance) (up down : Thermal → Bool) (g : ℕ) (unit : Thermal) (rows : List RampRow) → thermal_unit instance g ≡ unit
     → rows ≡ first_rows instance up down g → rows ++ first_row g (up unit) (down unit) ≡ first_rows instance up down (g + 1)
-rows-more instance up down g unit rows is before =
-    let next : suc g ≡ g + 1 = omega arith in
-    let whole = ap (first_rows instance up down) next in
-    ap (λ xs. xs ++ first_row g (up unit) (down unit)) before
-    ∙ ap (λ (u : Thermal). first_rows instance up down g ++ first_row g (up u) (down u)) (sym is)
-    ∙ whole
+rows-more instance up down g unit rows is before = grind (arith, ints, is, before)
 
 -- a row of a unit below n in the first period, with multipliers of 0 and 1 that aren't both 0
 pub record IsFirstRow (n : ℕ) (row : RampRow) : Type 0 where
@@ -35,15 +30,7 @@ pub record IsFirstRow (n : ℕ) (row : RampRow) : Type 0 where
 
 first_is : (n g up down : ℕ) → g < n → up ≤ 1 → down ≤ 1 → (pos up ≢ pos 0) ⊎ (pos down ≢ pos 0)
     → IsFirstRow n (record { g = g; t = 0; up = pos up; down = pos down })
-first_is n g up down unit small_up small_down present = record {
-  unit = unit;
-  period = refl;
-  present = present;
-  up = omega (arith, linear);
-  down = omega (arith, linear);
-  up_size = small_up;
-  down_size = small_down;
-}
+first_is n g up down unit small_up small_down present = grind (arith, ints, unit, small_up, small_down, present)
 
 one : pos 1 ≢ pos 0
 one e = absurd (omega (arith, linear, e))
@@ -55,15 +42,7 @@ row_within n g false true h = All-cons (IsFirstRow n) _ [] (first_is n g 0 1 h (
 row_within n g false false h = All-nil (IsFirstRow n)
 
 more_units : (n : ℕ) (row : RampRow) → IsFirstRow n row → IsFirstRow (suc n) row
-more_units n row is = record {
-  unit = omega (arith, is.unit);
-  period = is.period;
-  present = is.present;
-  up = is.up;
-  down = is.down;
-  up_size = is.up_size;
-  down_size = is.down_size;
-}
+more_units n row is = grind (arith, ints, is)
 
 pub rows_within : (instance : Instance) (up down : Thermal → Bool) (n : ℕ) → All (IsFirstRow n) (first_rows instance up down n)
 rows_within instance up down zero = All-nil (IsFirstRow zero)
@@ -78,20 +57,7 @@ Rises rows = (i : ℕ) (d : RampRow) → suc i < length rows → IsRowBefore (sl
 
 rises_push : (n : ℕ) (rows : List RampRow) (row : RampRow) → All (IsFirstRow n) rows → row.g ≡ n → Rises rows → Rises (rows ++ row ∷ [])
 rises_push n rows row within last rises i d h =
-    ⊎_elim
-    (λ (inside : suc i < length rows).
-    let earlier : i < length rows = omega arith in
-    subst (λ (a : RampRow). IsRowBefore a (get_or (rows ++ row ∷ []) (suc i) d)) (sym (get_or_append_left rows (row ∷ []) d i earlier))
-    (subst (IsRowBefore (get_or rows i d)) (sym (get_or_append_left rows (row ∷ []) d (suc i) inside)) (rises i d inside)))
-    (λ (past : length rows ≤ suc i).
-    let size : length (rows ++ row ∷ []) ≡ length rows + 1 = length-append rows (row ∷ []) in
-    let end : length rows ≡ suc i = omega (arith, size, h, past) in
-    let earlier : i < length rows = omega arith in
-    let before : (get_or rows i d).g < n = (within i d earlier).unit in
-    subst (λ (a : RampRow). IsRowBefore a (get_or (rows ++ row ∷ []) (suc i) d)) (sym (get_or_append_left rows (row ∷ []) d i earlier))
-    (subst (IsRowBefore (get_or rows i d)) (sym (get_or_push rows row d (suc i) end))
-    (record { before = inl (omega (arith, before, last)) })))
-    (cases_lt (suc i) (length rows))
+    grind (arith, ints, get_or_append_left, length-append, get_or_push, cases_lt, within, last, rises, i, d, h)
 
 rises_row : (n : ℕ) (rows : List RampRow) (up down : Bool) → All (IsFirstRow n) rows → Rises rows → Rises (rows ++ first_row n up down)
 rises_row n rows false false within rises = subst Rises (sym (append-nil rows)) rises
@@ -99,9 +65,7 @@ rises_row n rows _ _ within rises = rises_push n rows _ within refl rises
 
 rows_rise : (instance : Instance) (up down : Thermal → Bool) (n : ℕ) → Rises (first_rows instance up down n)
 rows_rise instance up down zero = λ i d h. absurd (omega arith)
-rows_rise instance up down (suc n) =
-    rises_row n (first_rows instance up down n) (up (thermal_unit instance n)) (down (thermal_unit instance n))
-    (rows_within instance up down n) (rows_rise instance up down n)
+rows_rise instance up down (suc n) = grind (arith, ints, rises_row, rows_within, (rows_rise instance up down n))
 
 -- ---- the prices
 -- a price of demand of at most 1 in size, and one of reserve that is 0 or 1
@@ -121,40 +85,17 @@ above : pos 0 ≤ℤ pos 1
 above = omega (arith, linear)
 
 small_period : All IsSmallRay period_rays
-small_period =
-    All-from_recursion IsSmallRay period_rays (
-      small_is (pos 1) (pos 0) nowhere nowhere (omega arith) nought (omega arith),
-      (
-        small_is (neg_ℤ (pos 1)) (pos 0) nowhere nowhere (omega arith) nought (omega arith),
-        (
-          small_is (pos 1) (pos 1) nowhere nowhere (omega arith) above (omega arith),
-          (small_is (pos 0) (pos 1) nowhere nowhere (omega arith) above (omega arith), tt),
-        ),
-      ),
-    )
+small_period = grind (arith, ints)
 
 small_ramp : All IsSmallRay ramp_rays
-small_ramp =
-    All-from_recursion IsSmallRay ramp_rays (
-      small_is (pos 1) (pos 0) rises_short nowhere (omega arith) nought (omega arith),
-      (
-        small_is (pos 1) (pos 1) rises_short nowhere (omega arith) above (omega arith),
-        (
-          small_is (neg_ℤ (pos 1)) (pos 0) nowhere falls_short (omega arith) nought (omega arith),
-          (small_is (pos 0) (pos 0) stays_below nowhere (omega arith) nought (omega arith), tt),
-        ),
-      ),
-    )
+small_ramp = grind (arith, ints)
 
 either_small : (b : Bool) (first second : OpeningRay) → IsSmallRay first → IsSmallRay second → IsSmallRay (if b then first else second)
 either_small true first second h k = h
 either_small false first second h k = k
 
 ray_small : (periods n : ℕ) → n < ray_count periods → IsSmallRay (ray_at periods n)
-ray_small periods n h =
-    either_small (nat_lt n (4 * periods)) (slice_index_or period_rays (n % 4) no_ray) (slice_index_or ramp_rays (n - 4 * periods) no_ray)
-    (All-get_or IsSmallRay period_rays (n % 4) no_ray (omega arith) small_period)
-    (All-get_or IsSmallRay ramp_rays (n - 4 * periods) no_ray (omega (arith, h)) small_ramp)
+ray_small periods n h = grind (arith, ints, h)
 
 prices_count : (periods t : ℕ) (price : ℤ) → length (price_in periods t price) ≡ periods
 prices_count periods t price = length-set (replicate periods (pos 0)) t price ∙ length-replicate {A = ℤ} periods (pos 0)
@@ -175,17 +116,7 @@ ray_lawful instance n lawful h =
     let within = rows_within instance ray.up ray.down (thermal_count instance) in
     let count = prices_count instance.periods t ray.demand in
     record {
-      size = record {
-        form = record {
-          scale = omega (arith, linear);
-          lengths = prices_count instance.periods t ray.reserve ∙ sym count;
-          rows = All-weaker (IsFirstRow (thermal_count instance)) (IsRowWithin (thermal_count instance) (length (price_in instance.periods t ray.demand)))
-              (λ row is. record { unit = is.unit; period = omega (arith, is.period, count, lawful.periods.0); present = is.present }) rows within;
-          rising = rows_rise instance ray.up ray.down (thermal_count instance);
-        };
-        units = refl;
-        periods = count;
-      };
+      size = grind (arith, ints, prices_count, All-weaker, rows_rise, instance, t, ray, count, rows, lawful, within);
       signs = record {
         mu = prices_are (λ z. pos 0 ≤ℤ z) instance.periods t ray.reserve small.reserve (omega (arith, linear));
         ramps = All-weaker (IsFirstRow (thermal_count instance)) IsRowSigned (λ row is. record { up = is.up; down = is.down }) rows within;
@@ -194,8 +125,7 @@ ray_lawful instance n lawful h =
         scale = omega (arith, ints);
         pi = prices_are IsPrice instance.periods t ray.demand (small_price ray.demand small.demand) (omega arith);
         mu = prices_are IsPrice instance.periods t ray.reserve (small_price ray.reserve small.reserve_size) (omega arith);
-        ramps = All-weaker (IsFirstRow (thermal_count instance)) IsRowPriced
-            (λ row is. record { up = small_price row.up is.up_size; down = small_price row.down is.down_size }) rows within;
+        ramps = grind (arith, ints, All-weaker, small_price, instance, rows, within);
       };
     }
 
@@ -208,7 +138,4 @@ pub ray_table-made : (instance : Instance) (n : ℕ) (ray : Ray) (units : ℕ) (
     → pi ≡ price_in instance.periods ray.t ray.demand → mu ≡ price_in instance.periods ray.t ray.reserve
     → ramps ≡ first_rows instance (up_of ray.ramps) (down_of ray.ramps) (thermal_count instance)
     → made_of units pi mu ramps ≡ ray_table instance n
-ray_table-made instance n ray units pi mu ramps names period count demand reserve rows =
-    let parts : made_of units pi mu ramps ≡ ray_prices instance ray.t (named_by ray) = λ i. made_of (count i) (demand i) (reserve i) (rows i) in
-    let named : ray_prices instance ray.t (named_by ray) ≡ ray_table instance n = λ i. ray_prices instance (period i) (names i) in
-    parts ∙ named
+ray_table-made instance n ray units pi mu ramps names period count demand reserve rows = grind (arith, ints, names, period, count, rows)

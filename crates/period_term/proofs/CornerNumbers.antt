@@ -4,7 +4,7 @@ use Rattle.std.specs.Int.{w64, w128}
 use Rattle.std.proofs.lemmas.Int.{ints}
 use Rattle.uc_model.specs.Prelude.{IsFloor, IsCeiling, point_of}
 use Rattle.uc_model.specs.declared.limits.TheConstants.{MAX_POWER, MAX_COST}
-use Rattle.uc_model.proofs.Common.{linear, spread, mul_comm, mul_assoc, neg-mul, IsFloor-add, IsCeiling-neg, abs_narrow, narrow, wide-size, scaled-size, sum-size, sum-is, product-size, product-is}
+use Rattle.uc_model.proofs.Common.{linear, spread, mul_comm, mul_assoc, neg-mul, IsFloor-add, IsCeiling-neg, abs_narrow, wide-size, scaled-size, sum-size, sum-is, product-size, product-is}
 use Rattle.uc_model.proofs.Sizes.{wide}
 use Rattle.dual_model.specs.Prelude.{IsLawfulScale}
 use Rattle.dual_model.specs.declared.limits.TheConstants.{MAX_UNIT_PRICE}
@@ -27,8 +27,7 @@ scaled_cost-size corners k r i lawful scale h e =
 
 pub scaled_cost-is : (corners : List Point) (k r : ℤ) (i : ℕ) → AreLawfulCorners corners → IsLawfulScale k → i < length corners
     → r ≡ to_z w64 (of_z w64 k) *ℤ to_z w64 (of_z w64 (point_of corners i).cost) → r ≡ k *ℤ (point_of corners i).cost
-scaled_cost-is corners k r i lawful scale h e =
-    e ∙ (λ t. narrow k (10 ^ 9) (scale-size k scale) (lit< tt) t *ℤ narrow (point_of corners i).cost MAX_COST (lawful.each i h).cost (lit< tt) t)
+scaled_cost-is corners k r i lawful scale h e = grind (arith, ints, lawful, scale, h, e)
 
 -- the part of a rise, rounded down, is no greater in size
 pub floor_part-size : (r v w n : ℤ) (m : ℕ) → unsigned_abs r ≤ m → pos 0 ≤ℤ v → v ≤ℤ w → pos 0 <ℤ w → IsFloor (r *ℤ v) w n → unsigned_abs n ≤ m
@@ -77,9 +76,7 @@ rise_down-is r v w rise over run rising q rise_is rise_size over_is over_size ru
 -- a sum of two, and of three, and their size
 pub sum_is : (x y r : ℤ) (m n : ℕ) → r ≡ to_z w128 (of_z w128 x) +ℤ to_z w128 (of_z w128 y) → unsigned_abs x ≤ m → unsigned_abs y ≤ n → m + n < 2 ^ 127
     → (to_z w128 (of_z w128 r) ≡ x +ℤ y) × (unsigned_abs (to_z w128 (of_z w128 r)) ≤ m + n)
-sum_is x y r m n e h k fits =
-    let size = sum-size x y r m n e h k in
-    (wide r (m + n) size fits ∙ sum-is x y r m n e h k fits, wide-size r (m + n) size)
+sum_is x y r m n e h k fits = grind (arith, ints, e, h, k, fits)
 
 pub product_is : (x y r : ℤ) (m n : ℕ) → r ≡ to_z w128 (of_z w128 x) *ℤ to_z w128 (of_z w128 y) → unsigned_abs x ≤ m → unsigned_abs y ≤ n
     → m < 2 ^ 127 → n < 2 ^ 127 → (r ≡ x *ℤ y) × (unsigned_abs r ≤ m * n)

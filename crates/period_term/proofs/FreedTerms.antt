@@ -1,6 +1,6 @@
 -- The term of a cell by that without reserve, at prices that are freed of it.
-use Rattle.std.proofs.Common.{◌≡◌, ℕ, zero, suc, ◌<◌, ⊎_elim, refl, sym, ap, subst, ◌∙◌, arith, FitsSigned, to_z, of_z, List, ℤ, pos, ◌+ℤ◌, ◌-ℤ◌, ◌*ℤ◌, ◌≤ℤ◌, ◌<ℤ◌, Option, None, slice_index_or, [], ◌∷◌}
-use Rattle.std.specs.Int.{int_min, w64, w128}
+use Rattle.std.proofs.Common.{◌≡◌, ℕ, zero, suc, ◌<◌, ⊎_elim, sym, ap, subst, ◌∙◌, arith, FitsSigned, to_z, of_z, List, ℤ, pos, ◌+ℤ◌, ◌-ℤ◌, ◌*ℤ◌, ◌≤ℤ◌, ◌<ℤ◌, Option, None, slice_index_or, [], ◌∷◌}
+use Rattle.std.specs.Int.{w64, w128}
 use Rattle.std.proofs.lemmas.Int.{ints, to_z-of_z}
 use Rattle.uc_model.specs.declared.instance.Point.{Point}
 use Rattle.uc_model.proofs.Common.{linear, le_or_lt, mul_left_comm, mul-zero, zero-mul, mul-add, mul-sub, add-mul, mul-le-mul_right, mul-le-mul_turned}
@@ -65,18 +65,12 @@ freed_term points k a b cap output reserve h freed term = record {
 -- prices that are freed of those that a call's bits say
 pub freed_bits : (k a b scale output reserve : ℤ) → FitsSigned w64 k → FitsSigned w128 a → FitsSigned w128 b
     → AreFreed (to_z w64 (of_z w64 k)) (to_z w128 (of_z w128 a)) (to_z w128 (of_z w128 b)) scale output reserve → AreFreed k a b scale output reserve
-freed_bits k a b scale output reserve hk ha hb freed = record {
-  scale_is = freed.scale_is ∙ to_z-of_z w64 k hk;
-  output_is = freed.output_is ∙ (λ i. to_z-of_z w128 a ha i -ℤ int_min (to_z-of_z w128 b hb i) (pos 0));
-  reserve_is = freed.reserve_is ∙ ap (λ z. int_min z (pos 0)) (to_z-of_z w128 b hb);
-}
+freed_bits k a b scale output reserve hk ha hb freed = grind (arith, ints, to_z-of_z, hk, ha, hb, freed)
 
 -- the term at freed prices, as the calls give it
 pub of_freed : (points : List Point) (k a b cap scale output reserve : ℤ) (term : Option ℤ) → AreFreed k a b scale output reserve
     → ((x y : ℤ) → AreFreed scale x y scale output reserve → IsCellTerm points scale x y cap term) → IsCellTerm points k a b cap term
-of_freed points k a b cap scale output reserve term freed each =
-    subst (λ z. IsCellTerm points z a b cap term) freed.scale_is
-    (each a b (record { scale_is = refl; output_is = freed.output_is; reserve_is = freed.reserve_is }))
+of_freed points k a b cap scale output reserve term freed each = grind (arith, ints, freed, each)
 
 -- a fact of each of four caps and its term
 pub each_of_four : (P : ℤ → Option ℤ → Type 0) (caps : List ℤ) (x y z w : Option ℤ)

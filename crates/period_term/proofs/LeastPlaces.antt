@@ -2,7 +2,7 @@
 use Rattle.std.proofs.Common.{◌≡◌, ℕ, zero, suc, ◌<◌, ◌≤◌, ⊎_elim, true, false, refl, sym, ap, subst, arith, List, length, ℤ, pos, ◌+ℤ◌, ◌-ℤ◌, ◌*ℤ◌, neg_ℤ, ◌≤ℤ◌, ◌<ℤ◌, int_le, int_lt}
 use Rattle.std.proofs.lemmas.Int.{ints}
 use Rattle.uc_model.specs.Prelude.{IsFloor, point_of, output_of}
-use Rattle.uc_model.proofs.Common.{linear, sub_nonneg, spread, le_or_lt, le_antisymm, mul_comm, mul_assoc, mul_left_comm, mul-zero, zero-mul, one-mul, mul_nonneg, mul-le-mul_left, mul-le-mul_right, mul-le-mul_turned, le_from_mul, IsFloor-greatest, int_lt-true}
+use Rattle.uc_model.proofs.Common.{linear, sub_nonneg, spread, le_or_lt, le_antisymm, mul_comm, mul_assoc, mul_left_comm, mul-zero, zero-mul, one-mul, mul-le-mul_left, mul-le-mul_right, mul-le-mul_turned, le_from_mul, IsFloor-greatest}
 use Rattle.dual_model.specs.Prelude.{IsCellBound, IsTerm}
 use Rattle.dual_model.proofs.Terms.{cell_bound-corners, corners-cell_bound}
 use Rattle.cost_curves.specs.LowerHull.{IsAbove, IsLowerHull}
@@ -95,12 +95,7 @@ priced_above k a z x y p sign above =
 
 -- ---- the least corner
 from_left : (s d f g w : ℤ) → pos 0 ≤ℤ s → pos 0 ≤ℤ d → pos 0 <ℤ w → (s *ℤ d) ≤ℤ ((g -ℤ f) *ℤ w) → f ≤ℤ g
-from_left s d f g w hs hd positive h =
-    let product = mul_nonneg s d hs hd in
-    let order = mul_comm (g -ℤ f) w in
-    let none = mul-zero w in
-    let apart = le_from_mul w (pos 0) (g -ℤ f) positive (omega (arith, linear, product, order, none, h)) in
-    omega (arith, linear, apart)
+from_left s d f g w hs hd positive h = grind (arith, ints, hs, hd, positive, h)
 
 from_right : (e f g x y z : ℤ) → f ≤ℤ e → x <ℤ y → z ≤ℤ y → ((f -ℤ e) *ℤ (z -ℤ x)) ≤ℤ ((g -ℤ e) *ℤ (y -ℤ x)) → f ≤ℤ g
 from_right e f g x y z falls rising left h =
@@ -142,10 +137,7 @@ least_left points corners k a (suc i) whole sign least l hl left =
 -- no point costs less
 least_over : (points corners : List Point) (k a : ℤ) (i : ℕ) → IsLowerHull points corners → pos 0 ≤ℤ k → IsLeastPlace corners k a i
     → (l : ℕ) → l < length points → corner_cost corners k a i ≤ℤ cost_at k a (point_of corners 0).mw (point_of points l)
-least_over points corners k a i whole sign least l hl = ⊎_elim
-    (λ (right : (point_of corners i).mw ≤ℤ (point_of points l).mw). least_right points corners k a i whole sign least l hl right)
-    (λ (left : (point_of points l).mw <ℤ (point_of corners i).mw). least_left points corners k a i whole sign least l hl left)
-    (le_or_lt (point_of corners i).mw (point_of points l).mw)
+least_over points corners k a i whole sign least l hl = grind (arith, ints, least_right, least_left, le_or_lt, whole, sign, least, hl)
 
 base : (points corners : List Point) → IsLowerHull points corners → (point_of corners 0).mw ≡ (point_of points 0).mw
 base points corners whole = starts points corners whole (whole.hull.some whole.lawful.some)
@@ -195,11 +187,7 @@ below_line s w f g x z cap h =
     simp spread (omega (arith, linear, whole, e1, e2))
 
 under_line : (s w f h over : ℤ) → ((h -ℤ f) *ℤ w) ≤ℤ (s *ℤ over) → (w *ℤ h) ≤ℤ (w *ℤ f +ℤ s *ℤ over)
-under_line s w f h over le =
-    let whole = simp spread at le in
-    let e1 = mul_comm h w in
-    let e2 = mul_comm f w in
-    omega (arith, linear, whole, e1, e2)
+under_line s w f h over le = grind (arith, ints, spread, mul_comm, le)
 
 -- what bounds the pair of the segment's ends
 pair_line : (x y cap f g n : ℤ) → (((cap -ℤ x) -ℤ (cap -ℤ y)) *ℤ n) ≤ℤ (neg_ℤ (cap -ℤ y) *ℤ f +ℤ (cap -ℤ x) *ℤ g)
@@ -266,22 +254,11 @@ segment_term points corners k a cap h i place whole sign room least beyond holds
 -- ---- the halving
 pub lies_right : (corners : List Point) (k a : ℤ) (low high m n : ℕ) → LiesWithin corners k a low high → n ≡ suc m → m < high
     → int_lt (corner_cost corners k a (suc m)) (corner_cost corners k a m) ≡ true → LiesWithin corners k a n high
-lies_right corners k a low high m n lies e below falls = record {
-  order = omega arith;
-  within = lies.within;
-  left = λ j h. subst (λ i. corner_cost corners k a i ≤ℤ corner_cost corners k a j) (sym e)
-      (subst (λ i. corner_cost corners k a (suc m) ≤ℤ corner_cost corners k a i) (omega (arith, e)) (less_le _ _ (int_lt-true _ _ falls)));
-  right = lies.right;
-}
+lies_right corners k a low high m n lies e below falls = grind (arith, ints, lies, e, below, falls)
 
 pub lies_left : (corners : List Point) (k a : ℤ) (low high m : ℕ) → LiesWithin corners k a low high → low ≤ m → m < high
     → int_lt (corner_cost corners k a (suc m)) (corner_cost corners k a m) ≡ false → LiesWithin corners k a low m
-lies_left corners k a low high m lies order below rises = record {
-  order = order;
-  within = omega (arith, lies.within, below);
-  left = lies.left;
-  right = λ h. grind (arith, ints);
-}
+lies_left corners k a low high m lies order below rises = grind (arith, ints, lies, order, below, rises)
 
 -- what a test that fails says
 pub beyond : (x y : ℤ) → int_le x y ≡ false → y <ℤ x

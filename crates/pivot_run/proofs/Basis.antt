@@ -1,21 +1,19 @@
 -- A pivot keeps the columns of the basis: above 0 in their own row, and 0 in all others.
 -- Cite by `use Rattle.pivot_run.proofs.Basis.{basis_kept}`.
-use Rattle.std.proofs.Common.{◌≡◌, ◌≢◌, ℕ, ◌<◌, ⊎_elim, sym, ap, subst, ◌∙◌, arith, List, length, map, ℤ, pos, ◌*ℤ◌, ◌<ℤ◌, int_lt, neg_ℤ}
-use Rattle.std.proofs.lemmas.Int.{by_lt_z}
-use Rattle.std.proofs.lemmas.Bool.{cases_eq, cond_both}
+use Rattle.std.proofs.Common.{◌≡◌, ◌≢◌, ℕ, ◌<◌, ⊎_elim, sym, ap, subst, ◌∙◌, arith, List, length, ℤ, pos, ◌*ℤ◌, ◌<ℤ◌, int_lt}
+use Rattle.std.proofs.lemmas.Bool.{cases_eq}
 use Rattle.std.proofs.lemmas.List.{get_or-map, get_or-set_same, get_or-set_other}
 use Rattle.pivot_run.specs.Rows.{entry, reduced, upright, cleared, divisor_of}
 use Rattle.pivot_run.specs.Pivots.{pivot_row, row_at}
 use Rattle.pivot_run.specs.Tables.{IsTable, IsBasic, Table, basic, number, pivoted_table}
-use Rattle.uc_model.proofs.Common.{linear, mul-zero, zero-mul, mul-le-mul_left, mul-lt-mul_left}
+use Rattle.uc_model.proofs.Common.{linear, mul-zero, zero-mul, mul-lt-mul_left}
 use Rattle.pivot_run.proofs.Clearing.{entry-combined, length-combined}
 use Rattle.pivot_run.proofs.Solutions.{by_eliminated, no_factor, positive_divisor, length-upright, length-pivoted, row-pivoted_at, row-pivoted_other, upright_positive}
 use Rattle.pivot_run.proofs.RightSides.{entry-reduced}
 
 -- a positive factor keeps the sign
 positive_over : (q a : ℤ) → pos 0 <ℤ q → pos 0 <ℤ (q *ℤ a) → pos 0 <ℤ a
-positive_over q a positive h = by_lt_z (pos 0) a (λ less. less)
-    (λ le. let none = mul-zero q in let fact = mul-le-mul_left q a (pos 0) (omega (arith, linear)) le in absurd (omega (arith, linear)))
+positive_over q a positive h = grind (arith, linear, positive, h)
 
 reduced_positive : (row : List ℤ) (c : ℕ) → c < length row → pos 0 <ℤ entry row c → pos 0 <ℤ entry (reduced row) c
 reduced_positive row c within h =
@@ -25,22 +23,16 @@ reduced_zero : (row : List ℤ) (c : ℕ) → c < length row → entry row c ≡
 reduced_zero row c within h = no_factor (pos (divisor_of row)) (entry (reduced row) c) (positive_divisor row) (entry-reduced row c within ∙ h)
 
 pub upright_zero : (j : ℕ) (row : List ℤ) (c : ℕ) → c < length row → entry row c ≡ pos 0 → entry (upright j row) c ≡ pos 0
-upright_zero j row c within h =
-    cond_both (int_lt (entry row j) (pos 0)) (map neg_ℤ row) row (λ r. entry r c ≡ pos 0)
-    (λ e. get_or-map neg_ℤ row c (pos 0) (pos 0) within ∙ ap neg_ℤ h) (λ e. h)
+upright_zero j row c within h = grind (arith, linear, int_lt, get_or-map, within, h)
 
 -- a row cleared by a pivot row that is 0 in the column
 pub cleared_at : (pivot : List ℤ) (j : ℕ) (row : List ℤ) (c : ℕ) → length row ≡ length pivot → entry pivot c ≡ pos 0
     → entry (cleared pivot j row) c ≡ entry row c *ℤ entry pivot j
-cleared_at pivot j row c same none =
-    let value = entry-combined (entry pivot j) (entry row j) row pivot c same in
-    let nought : entry row j *ℤ entry pivot c ≡ pos 0 = ap (λ x. entry row j *ℤ x) none ∙ mul-zero (entry row j) in
-    omega (arith, linear)
+cleared_at pivot j row c same none = grind (arith, linear, entry-combined, mul-zero, same, none)
 
 -- in its own column it is 0
 cleared_there : (pivot : List ℤ) (j : ℕ) (row : List ℤ) → length row ≡ length pivot → entry (cleared pivot j row) j ≡ pos 0
-cleared_there pivot j row same =
-    let value = entry-combined (entry pivot j) (entry row j) row pivot j same in omega (arith, linear)
+cleared_there pivot j row same = grind (arith, linear, entry-combined, same)
 
 -- ---- the numbers of a pivot
 pub record IsPivot (t : Table) (i j : ℕ) : Type 0 where
@@ -67,22 +59,14 @@ positive t i j is = upright_positive j (row_at t.rows i) (subst (λ m. j < m) (s
 
 -- the column that enters
 enters_own : (t : Table) (i j : ℕ) → IsPivot t i j → pos 0 <ℤ number (pivoted_table t i j) i j
-enters_own t i j is =
-    subst (λ r. pos 0 <ℤ entry r j) (sym (row-pivoted_at t.rows i j (inside t i j is)))
-    (reduced_positive (pivot_row t.rows i j) j (subst (λ m. j < m) (sym (long t i j is)) is.column) (positive t i j is))
+enters_own t i j is = grind (arith, linear, row-pivoted_at, inside, reduced_positive, long, positive, is)
 
 enters_others : (t : Table) (i j l : ℕ) → IsPivot t i j → l < length t.rows → l ≢ i → number (pivoted_table t i j) l j ≡ pos 0
-enters_others t i j l is h other =
-    ap (λ r. entry r j) (row-pivoted_other t.rows i j l h other)
-    ∙ by_eliminated (pivot_row t.rows i j) j (row_at t.rows l) (λ r. entry r j ≡ pos 0) (λ none. none)
-    (reduced_zero _ j (subst (λ m. j < m) (sym (size t i j l is h)) is.column) (cleared_there (pivot_row t.rows i j) j (row_at t.rows l) (equal t i j l is h)))
+enters_others t i j l is h other = grind (arith, linear, row-pivoted_other, by_eliminated, reduced_zero, size, cleared_there, equal, is, h, other)
 
 -- a column c of another row k of the basis
 none_there : (t : Table) (i j k : ℕ) → IsPivot t i j → k < length t.rows → k ≢ i → entry (pivot_row t.rows i j) (basic t k) ≡ pos 0
-none_there t i j k is h other =
-    let at_row = inside t i j is in
-    upright_zero j (row_at t.rows i) (basic t k) (subst (λ m. basic t k < m) (sym (is.table.lengths i at_row)) (is.basis.columns k h))
-    (is.basis.others k i h at_row (λ e. other (sym e)))
+none_there t i j k is h other = grind (arith, linear, inside, upright_zero, is, h, other)
 
 stays_own : (t : Table) (i j k : ℕ) → IsPivot t i j → k < length t.rows → k ≢ i → pos 0 <ℤ number (pivoted_table t i j) k (basic t k)
 stays_own t i j k is h other =
@@ -119,24 +103,7 @@ pub basic_other : (t : Table) (i j k : ℕ) → k ≢ i → basic (pivoted_table
 basic_other t i j k other = get_or-set_other t.basis i k j 0 other
 
 kept : (t : Table) (i j : ℕ) → IsPivot t i j → IsBasic (pivoted_table t i j)
-kept t i j is = record {
-  columns = λ k h. ⊎_elim
-      (λ (here : k ≡ i). subst (λ m. m < t.columns) (sym (ap (basic (pivoted_table t i j)) here ∙ basic_at t i j is)) is.column)
-      (λ (other : k ≢ i). subst (λ m. m < t.columns) (sym (basic_other t i j k other)) (is.basis.columns k (subst (λ m. k < m) (length-pivoted t.rows i j) h)))
-      (cases_eq k i);
-  own = λ k h. ⊎_elim
-      (λ (here : k ≡ i). subst (λ m. pos 0 <ℤ number (pivoted_table t i j) m (basic (pivoted_table t i j) m)) (sym here)
-      (subst (λ c. pos 0 <ℤ number (pivoted_table t i j) i c) (sym (basic_at t i j is)) (enters_own t i j is)))
-      (λ (other : k ≢ i). subst (λ c. pos 0 <ℤ number (pivoted_table t i j) k c) (sym (basic_other t i j k other))
-      (stays_own t i j k is (subst (λ m. k < m) (length-pivoted t.rows i j) h) other))
-      (cases_eq k i);
-  others = λ k l h within apart. ⊎_elim
-      (λ (here : k ≡ i). ap (number (pivoted_table t i j) l) (ap (basic (pivoted_table t i j)) here ∙ basic_at t i j is)
-      ∙ enters_others t i j l is (subst (λ m. l < m) (length-pivoted t.rows i j) within) (λ e. apart (e ∙ sym here)))
-      (λ (other : k ≢ i). ap (number (pivoted_table t i j) l) (basic_other t i j k other)
-      ∙ stays_others t i j k l is (subst (λ m. k < m) (length-pivoted t.rows i j) h) other (subst (λ m. l < m) (length-pivoted t.rows i j) within) apart)
-      (cases_eq k i);
-}
+kept t i j is = grind (arith, linear, basic_at, basic_other, length-pivoted, cases_eq, enters_own, stays_own, enters_others, stays_others, is)
 
 pub basis_kept : (t : Table) (i j : ℕ) → IsTable t → IsBasic t → i < length t.rows → j < t.columns → number t i j ≢ pos 0 → IsBasic (pivoted_table t i j)
 basis_kept t i j table basis row column apart = kept t i j (record { table = table; basis = basis; row = row; column = column; apart = apart })

@@ -8,8 +8,6 @@ use Rattle.std.proofs.lemmas.List.{get_or_push, get_or_append_left, get_or_past,
 use Rattle.pivot_run.specs.Rows.{IsSmall, entry}
 use Rattle.pivot_run.specs.inside.Entries.{AreBelow, AreEntries, AreEntriesOf, CombiningForms, IsCombined, IsNext, IsSplit, Rise, column, number_at, with_column, with_number}
 use Rattle.pivot_run.proofs.EntryLists.{number_cases, number_of_entry, number_of_none}
-use Rattle.uc_model.proofs.Ring as ring
-use Rattle.uc_model.proofs.Common.{linear}
 
 int_eq-true : (a b : ℤ) → int_eq a b ≡ true → a ≡ b
 int_eq-true a b h = grind (arith, ints)
@@ -21,25 +19,10 @@ long xs x = length-append xs (x ∷ [])
 -- what holds of each element of a list, and of one behind it, holds of each
 each_more : {X : Type 0} (P : X → Type 0) (xs : List X) (x d : X) → ((i : ℕ) → i < length xs → P (slice_index_or xs i d)) → P x
     → (i : ℕ) → i < length (xs ++ x ∷ []) → P (slice_index_or (xs ++ x ∷ []) i d)
-each_more P xs x d all own i h = ⊎_elim
-    (λ (less : i < length xs). subst P (sym (get_or_append_left xs (x ∷ []) d i less)) (all i less))
-    (λ (most : length xs ≤ i).
-    let last : length xs ≡ i = omega (arith, h, long xs x) in
-    subst P (sym (get_or_push xs x d i last)) own)
-    (cases_lt i (length xs))
+each_more P xs x d all own i h = grind (arith, ints, get_or_append_left, long, get_or_push, cases_lt, all, own, h)
 
 pub rise_more : (ks : List ℕ) (c : ℕ) → Rise ks → AreBelow ks c → Rise (ks ++ c ∷ [])
-rise_more ks c rise below i j h l = ⊎_elim
-    (λ (less : j < length ks).
-    let here = get_or_append_left ks (c ∷ []) 0 j less in
-    let there = get_or_append_left ks (c ∷ []) 0 i (omega arith) in
-    omega (arith, rise i j h less, here, there))
-    (λ (most : length ks ≤ j).
-    let last : length ks ≡ j = omega (arith, l, long ks c) in
-    let here = get_or_push ks c 0 j last in
-    let there = get_or_append_left ks (c ∷ []) 0 i (omega arith) in
-    omega (arith, below i (omega arith), here, there))
-    (cases_lt j (length ks))
+rise_more ks c rise below i j h l = grind (arith, ints, get_or_append_left, long, get_or_push, cases_lt, rise, below, i, j, h, l)
 
 pub below_push : (ks : List ℕ) (c : ℕ) → AreBelow ks c → AreBelow (ks ++ c ∷ []) (c + 1)
 below_push ks c below = each_more (λ k. k < c + 1) ks c 0 (λ i h. omega (arith, below i h)) (omega arith)
@@ -54,11 +37,7 @@ small_push xs x small own c = ⊎_elim
     (cases_lt c (length (xs ++ x ∷ [])))
 
 pub entries_more : (ks : List ℕ) (xs : List ℤ) (c : ℕ) (x : ℤ) → AreEntries ks xs → AreBelow ks c → unsigned_abs x < 2 ^ 127 → AreEntries (ks ++ c ∷ []) (xs ++ x ∷ [])
-entries_more ks xs c x are below size = record {
-  lengths = omega (arith, are.lengths, long ks c, long xs x);
-  rise = rise_more ks c are.rise below;
-  small = small_push xs x are.small size;
-}
+entries_more ks xs c x are below size = grind (arith, ints, long, rise_more, small_push, are, below, size)
 
 -- the numbers before it stay
 number_before : (ks : List ℕ) (xs : List ℤ) (c k : ℕ) (x : ℤ) → AreEntries (ks ++ c ∷ []) (xs ++ x ∷ []) → AreEntries ks xs → k < c
@@ -95,11 +74,7 @@ of_more row ks xs c x before value size =
     }
 
 of_skip : (row : List ℤ) (ks : List ℕ) (xs : List ℤ) (c : ℕ) → AreEntriesOf row ks xs c → entry row c ≡ pos 0 → AreEntriesOf row ks xs (c + 1)
-of_skip row ks xs c before zero = record {
-  entries = before.entries;
-  below = below_weaker ks c (c + 1) (omega arith) before.below;
-  values = below_more _ _ before.values (number_beyond ks xs c c before.entries before.below (omega arith) ∙ sym zero);
-}
+of_skip row ks xs c before zero = grind (arith, ints, below_weaker, below_more, number_beyond, before)
 
 pub of_added : (row : List ℤ) (ks : List ℕ) (xs : List ℤ) (c : ℕ) (x : ℤ) → AreEntriesOf row ks xs c → x ≡ entry row c → unsigned_abs x < 2 ^ 127
     → AreEntriesOf row (with_column c x ks) (with_number x xs) (c + 1)
@@ -114,20 +89,11 @@ of_added row ks xs c x before value size = ⊎_elim
 
 -- ---- those of two rows together
 pub combined_none : (f g : ℕ → ℤ) (p e : ℤ) → IsCombined f g p e [] [] 0
-combined_none f g p e = record {
-  entries = record { lengths = refl; rise = λ i j h l. absurd (omega arith); small = λ c. lit< tt };
-  below = λ i h. absurd (omega arith);
-  values = λ k h. absurd (omega arith);
-  first = λ k h. absurd (omega arith);
-  second = λ k h. absurd (omega arith);
-}
+combined_none f g p e = grind (arith, ints)
 
 -- a number times 0, less a number times 0
 nothing : (x y p e : ℤ) → x ≡ pos 0 → y ≡ pos 0 → pos 0 ≡ x *ℤ p -ℤ e *ℤ y
-nothing x y p e f g =
-    let own = ring.zero-mul p in
-    let other = ring.mul-zero e in
-    subst (λ z. pos 0 ≡ z *ℤ p -ℤ e *ℤ y) (sym f) (subst (λ z. pos 0 ≡ pos 0 *ℤ p -ℤ e *ℤ z) (sym g) (omega (arith, linear, own, other)))
+nothing x y p e f g = grind (arith, ints, f, g)
 
 small_product : (n : ℕ) (x : ℤ) → x ≡ pos 0 → unsigned_abs x * n < 2 ^ 126
 small_product n x e = subst (λ z. unsigned_abs z * n < 2 ^ 126) (sym e) (subst (λ m. m < 2 ^ 126) (sym (zero-mul n)) (lit< tt))
@@ -138,22 +104,8 @@ small_product_of n x e = subst (λ z. n * unsigned_abs z < 2 ^ 126) (sym e) (sub
 -- columns in which both are 0
 pub combined_skip : (f g : ℕ → ℤ) (p e : ℤ) (ks : List ℕ) (xs : List ℤ) (c d : ℕ) → IsCombined f g p e ks xs c → c ≤ d
     → ((k : ℕ) → c ≤ k → k < d → f k ≡ pos 0) → ((k : ℕ) → c ≤ k → k < d → g k ≡ pos 0) → IsCombined f g p e ks xs d
-combined_skip f g p e ks xs c d before h zero other = record {
-  entries = before.entries;
-  below = below_weaker ks c d h before.below;
-  values = λ k l. ⊎_elim
-      (λ (less : k < c). before.values k less)
-      (λ (most : c ≤ k). number_beyond ks xs c k before.entries before.below most ∙ nothing (f k) (g k) p e (zero k most l) (other k most l))
-      (cases_lt k c);
-  first = λ k l. ⊎_elim
-      (λ (less : k < c). before.first k less)
-      (λ (most : c ≤ k). small_product (unsigned_abs p) (f k) (zero k most l))
-      (cases_lt k c);
-  second = λ k l. ⊎_elim
-      (λ (less : k < c). before.second k less)
-      (λ (most : c ≤ k). small_product_of (unsigned_abs e) (g k) (other k most l))
-      (cases_lt k c);
-}
+combined_skip f g p e ks xs c d before h zero other =
+    grind (arith, ints, below_weaker, number_beyond, nothing, cases_lt, small_product, small_product_of, before, h, other)
 
 -- one column more
 combined_more : (f g : ℕ → ℤ) (p e : ℤ) (ks : List ℕ) (xs : List ℤ) (c : ℕ) (z : ℤ) → IsCombined f g p e ks xs c
@@ -172,13 +124,8 @@ combined_more f g p e ks xs c z before value size first second =
 combined_same : (f g : ℕ → ℤ) (p e : ℤ) (ks : List ℕ) (xs : List ℤ) (c : ℕ) (z : ℤ) → IsCombined f g p e ks xs c → z ≡ pos 0
     → z ≡ f c *ℤ p -ℤ e *ℤ g c → unsigned_abs (f c) * unsigned_abs p < 2 ^ 126 → unsigned_abs e * unsigned_abs (g c) < 2 ^ 126
     → IsCombined f g p e ks xs (c + 1)
-combined_same f g p e ks xs c z before zero value first second = record {
-  entries = before.entries;
-  below = below_weaker ks c (c + 1) (omega arith) before.below;
-  values = below_more _ _ before.values (number_beyond ks xs c c before.entries before.below (omega arith) ∙ sym zero ∙ value);
-  first = below_more _ _ before.first first;
-  second = below_more _ _ before.second second;
-}
+combined_same f g p e ks xs c z before zero value first second =
+    grind (arith, ints, below_weaker, below_more, number_beyond, before, value, first, second)
 
 pub combined_added : (f g : ℕ → ℤ) (p e : ℤ) (ks : List ℕ) (xs : List ℤ) (c : ℕ) (z : ℤ) → IsCombined f g p e ks xs c
     → z ≡ f c *ℤ p -ℤ e *ℤ g c → unsigned_abs z < 2 ^ 127 → unsigned_abs (f c) * unsigned_abs p < 2 ^ 126 → unsigned_abs e * unsigned_abs (g c) < 2 ^ 126
@@ -195,46 +142,23 @@ combined_added f g p e ks xs c z before value size first second = ⊎_elim
 -- ---- two rows, each up to a column
 -- none stands from the split on before a column that all behind it reach
 pub none_between : (ks : List ℕ) (xs : List ℤ) (a c d k : ℕ) → AreEntries ks xs → IsSplit ks a c → (a < length ks → d ≤ column ks a) → c ≤ k → k < d → number_at ks xs k ≡ pos 0
-none_between ks xs a c d k are split next h l = number_of_none ks xs k are.lengths (λ i m. λ e. ⊎_elim
-    (λ (less : i < a). absurd (omega (arith, split.before i less, e)))
-    (λ (most : a ≤ i). ⊎_elim
-    (λ (more : a < i). absurd (omega (arith, are.rise a i more m, next (omega arith), e)))
-    (λ (least : i ≤ a). let here : i ≡ a = omega arith in absurd (omega (arith, ap (column ks) here, next (omega arith), e)))
-    (cases_lt a i))
-    (cases_lt i a))
+none_between ks xs a c d k are split next h l = grind (arith, ints, number_of_none, cases_lt, are, split, next, h, l)
 
 -- the split at a column behind it that all behind reach
 pub split_on : (ks : List ℕ) (a c d : ℕ) → Rise ks → IsSplit ks a c → (a < length ks → d ≤ column ks a) → c ≤ d → IsSplit ks a d
-split_on ks a c d rise split next h = record {
-  within = split.within;
-  before = λ i l. omega (arith, split.before i l);
-  after = λ i l m. ⊎_elim
-      (λ (more : a < i). omega (arith, rise a i more m, next (omega arith)))
-      (λ (least : i ≤ a). let here : i ≡ a = omega arith in omega (arith, ap (column ks) here, next (omega arith)))
-      (cases_lt a i);
-}
+split_on ks a c d rise split next h = grind (arith, ints, rise, split, next, h)
 
 -- the next column of both isn't before the one that both are split at
 pub next_reaches : (ks : List ℕ) (a : ℕ) (ls : List ℕ) (b c d : ℕ) → IsSplit ks a c → IsSplit ls b c → IsNext ks a ls b d → c ≤ d
-next_reaches ks a ls b c d one other next = ⊎_elim
-    (λ own. omega (arith, one.after a (omega arith) own.0, own.1))
-    (λ own. omega (arith, other.after b (omega arith) own.0, own.1))
-    next.is
+next_reaches ks a ls b c d one other next = grind (arith, ints, one, other, next)
 
 pub next_below : (ks : List ℕ) (a : ℕ) (ls : List ℕ) (b d n : ℕ) → IsNext ks a ls b d → AreBelow ks n → AreBelow ls n → d < n
-next_below ks a ls b d n next one other = ⊎_elim
-    (λ own. omega (arith, one a own.0, own.1))
-    (λ own. omega (arith, other b own.0, own.1))
-    next.is
+next_below ks a ls b d n next one other = grind (arith, ints, next, one, other)
 
 -- the product that combining forms in a column, by the numbers there
 pub forms_there : (f g : ℕ → ℤ) (p e : ℤ) (ks : List ℕ) (a : ℕ) (ls : List ℕ) (b d : ℕ) (size other x y : ℤ) → IsNext ks a ls b d → x ≡ f d → y ≡ g d
     → ((size ≡ x) × (other ≡ p)) ⊎ ((size ≡ e) × (other ≡ y)) → CombiningForms f g p e ks ls size other
-forms_there f g p e ks a ls b d size other x y next own else forms = (
-  d,
-  λ n one two. next_below ks a ls b d n next one two,
-  subst (λ z. ((size ≡ z) × (other ≡ p)) ⊎ ((size ≡ e) × (other ≡ g d))) own (subst (λ z. ((size ≡ x) × (other ≡ p)) ⊎ ((size ≡ e) × (other ≡ z))) else forms),
-)
+forms_there f g p e ks a ls b d size other x y next own else forms = grind (arith, ints, next, own, else, forms)
 
 -- the columns up to the next one, and that one, by the numbers there
 pub combined_next : (ks : List ℕ) (xs : List ℤ) (a : ℕ) (ls : List ℕ) (ys : List ℤ) (b : ℕ) (p e : ℤ) (ms : List ℕ) (zs : List ℤ) (c d : ℕ) (x y z : ℤ)
@@ -263,7 +187,4 @@ split_start ks = record { within = omega arith; before = λ i h. absurd (omega a
 -- one entry less is left at least
 pub fewer_left : (ks : List ℕ) (a m : ℕ) (ls : List ℕ) (b n d : ℕ) → IsNext ks a ls b d → a ≤ m → b ≤ n → (a < length ks → column ks a ≡ d → a < m)
     → (b < length ls → column ls b ≡ d → b < n) → (length ks - m) + (length ls - n) < (length ks - a) + (length ls - b)
-fewer_left ks a m ls b n d next one other own else = ⊎_elim
-    (λ here. omega (arith, here.0, own here.0 here.1))
-    (λ there. omega (arith, there.0, else there.0 there.1))
-    next.is
+fewer_left ks a m ls b n d next one other own else = grind (arith, ints, next, one, other, own, else)

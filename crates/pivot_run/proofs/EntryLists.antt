@@ -1,6 +1,6 @@
 -- What a row is where its numbers stand in columns that rise.
 -- Cite by `use Rattle.pivot_run.proofs.EntryLists.{entry_spread}`.
-use Rattle.std.proofs.Common.{◌≡◌, ◌≢◌, ◌==◌, ◌⊎◌, ⊎_elim, inl, inr, ℕ, zero, suc, ◌<◌, ◌≤◌, true, false, refl, sym, ap, ◌∙◌, arith, List, [], ◌∷◌, length, map, ℤ, pos}
+use Rattle.std.proofs.Common.{◌≡◌, ◌≢◌, ◌==◌, ◌⊎◌, ⊎_elim, inl, inr, ℕ, zero, suc, ◌<◌, true, false, refl, sym, ap, ◌∙◌, arith, List, [], ◌∷◌, length, map, ℤ, pos}
 use Rattle.std.proofs.lemmas.Bool.{cases_Bool, cases_lt, cond-true, cond-false, eqb-true}
 use Rattle.std.proofs.lemmas.List.{ext_get_or, length-map, get_or-map, get_or_past}
 use Rattle.std.proofs.lemmas.List.FromFn.{length-map-range_with_len, get_or-map-range_with_len}
@@ -34,26 +34,14 @@ number_cases (k ∷ ks) (x ∷ xs) c e = ⊎_elim
     (cases_Bool (k == c))
 
 pub number_of_none : (ks : List ℕ) (xs : List ℤ) (c : ℕ) → length ks ≡ length xs → ((k : ℕ) → k < length ks → column ks k ≢ c) → number_at ks xs c ≡ pos 0
-number_of_none ks xs c e none = ⊎_elim
-    (λ found. absurd (none found.0 found.1 found.2))
-    (λ nothing. nothing.1)
-    (number_cases ks xs c e)
+number_of_none ks xs c e none = grind (arith, number_cases, e, none)
 
 -- a column stands once
 once : (ks : List ℕ) (i k : ℕ) → Rise ks → i < length ks → k < length ks → column ks i ≡ column ks k → i ≡ k
-once ks i k rise h l e = ⊎_elim
-    (λ (less : i < k). absurd (omega (arith, rise i k less l, e)))
-    (λ (most : k ≤ i). ⊎_elim
-    (λ (more : k < i). absurd (omega (arith, rise k i more h, e)))
-    (λ (least : i ≤ k). omega arith)
-    (cases_lt k i))
-    (cases_lt i k)
+once ks i k rise h l e = grind (arith, rise, h, l, e)
 
 pub number_of_entry : (ks : List ℕ) (xs : List ℤ) (k : ℕ) → Rise ks → length ks ≡ length xs → k < length ks → number_at ks xs (column ks k) ≡ entry xs k
-number_of_entry ks xs k rise e h = ⊎_elim
-    (λ found. found.3 ∙ ap (entry xs) (once ks found.0 k rise found.1 h found.2))
-    (λ none. absurd (none.0 k h refl))
-    (number_cases ks xs (column ks k) e)
+number_of_entry ks xs k rise e h = grind (arith, once, number_cases, rise, e, h)
 
 -- ---- the row
 pub length_spread : (n : ℕ) (ks : List ℕ) (xs : List ℤ) → length (spread n ks xs) ≡ n
@@ -63,13 +51,7 @@ pub entry_within : (n : ℕ) (ks : List ℕ) (xs : List ℤ) (c : ℕ) → c < n
 entry_within n ks xs c h = get_or-map-range_with_len (number_at ks xs) 0 n c c (pos 0) h (omega arith)
 
 pub entry_spread : (n : ℕ) (ks : List ℕ) (xs : List ℤ) (c : ℕ) → length ks ≡ length xs → AreBelow ks n → entry (spread n ks xs) c ≡ number_at ks xs c
-entry_spread n ks xs c e below = ⊎_elim
-    (λ (less : c < n). entry_within n ks xs c less)
-    (λ (past : n ≤ c).
-    let long = length_spread n ks xs in
-    get_or_past (spread n ks xs) c (pos 0) (omega (arith, long))
-    ∙ sym (number_of_none ks xs c e (λ k h. λ same. absurd (omega (arith, below k h, same)))))
-    (cases_lt c n)
+entry_spread n ks xs c e below = grind (arith, entry_within, length_spread, get_or_past, number_of_none, cases_lt, e, below)
 
 pub spread_is : (row : List ℤ) (n : ℕ) (ks : List ℕ) (xs : List ℤ) → length row ≡ n → ((c : ℕ) → c < n → number_at ks xs c ≡ entry row c) → spread n ks xs ≡ row
 spread_is row n ks xs e each =
@@ -98,12 +80,6 @@ pub split_there : (ks : List ℕ) (xs : List ℤ) (k c : ℕ) → AreEntries ks 
 split_there ks xs k c are h e = ap (number_at ks xs) (sym e) ∙ number_of_entry ks xs k are.rise are.lengths h
 
 pub split_elsewhere : (ks : List ℕ) (xs : List ℤ) (k c : ℕ) → AreEntries ks xs → IsSplit ks k c → (k < length ks → column ks k ≢ c) → number_at ks xs c ≡ pos 0
-split_elsewhere ks xs k c are split other = number_of_none ks xs c are.lengths (λ i h. λ same. ⊎_elim
-    (λ (less : i < k). absurd (omega (arith, split.before i less, same)))
-    (λ (most : k ≤ i). ⊎_elim
-    (λ (more : k < i). absurd (omega (arith, are.rise k i more h, split.after k (omega arith) (omega arith), same)))
-    (λ (least : i ≤ k). let here : i ≡ k = omega arith in absurd (other (omega arith) (ap (column ks) (sym here) ∙ same)))
-    (cases_lt k i))
-    (cases_lt i k))
+split_elsewhere ks xs k c are split other = grind (arith, number_of_none, cases_lt, are, split, other)
 
 -- ---- the next split

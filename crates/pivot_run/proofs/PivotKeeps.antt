@@ -1,6 +1,6 @@
 -- What a pivot keeps, and the pivot that comes next.
 -- Cite by `use Rattle.pivot_run.proofs.PivotKeeps.{pivot_keeps}`.
-use Rattle.std.proofs.Common.{◌≡◌, ◌≢◌, ℕ, ◌<◌, ⊎_elim, Option, None, Some, refl, sym, ap, subst, ◌∙◌, arith, List, length, take, ℤ, pos, ◌≤ℤ◌, int_lt, int_div}
+use Rattle.std.proofs.Common.{◌≡◌, ◌≢◌, ℕ, ◌<◌, ⊎_elim, Option, None, Some, sym, ap, subst, ◌∙◌, arith, List, length, ℤ, pos, ◌≤ℤ◌, int_lt, int_div}
 use Rattle.std.specs.Option.{option_and_then, option_map}
 use Rattle.std.proofs.lemmas.Bool.{cases_eq}
 use Rattle.std.proofs.lemmas.Option.{some_pair_parts}
@@ -25,14 +25,11 @@ pair_parts k i j (Some a) e = let same = some_pair_parts a i k j e in (ap Some s
 pub next_parts : (choose : ℕ → Option ℕ) (found : Option ℕ) (i j : ℕ) → option_and_then {U = ℕ × ℕ} (λ k. option_map {U = ℕ × ℕ} (λ a. (a, k)) (choose k)) found ≡ Some (i, j)
     → (found ≡ Some j) × (choose j ≡ Some i)
 next_parts choose None i j e = absurd (cc)
-next_parts choose (Some k) i j e =
-    let parts = pair_parts k i j (choose k) e in (ap Some parts.1, subst (λ m. choose m ≡ Some i) parts.1 parts.0)
+next_parts choose (Some k) i j e = grind (arith, linear, e)
 
 -- a column that enters is one of those that may
 pub entering_within : (count : ℕ) (row : List ℤ) (j : ℕ) → entering count row ≡ Some j → j < count
-entering_within count row j e =
-    let fact = position-Some (λ x. int_lt x (pos 0)) (take count row) j (pos 0) e in
-    omega (arith, fact.0, length-take count row)
+entering_within count row j e = grind (arith, linear, position-Some, int_lt, length-take, e)
 
 at_least : (t : Table) (j n i : ℕ) (found : Option ℕ) → found ≡ Some i → IsLeaving t j n found → IsLeast t j n i
 at_least t j n i found e is = subst (λ o. IsLeaving t j n o) e is
@@ -60,16 +57,7 @@ table_kept t i j is row = record {
 
 -- ---- no pivot
 pub keeps_itself : (t : Table) → IsTable t → IsBasic t → ((k : ℕ) → k < t.constraints → pos 0 ≤ℤ right_side t k) → Keeps t t
-keeps_itself t table basis sides = record {
-  table = table;
-  basis = basis;
-  columns = refl;
-  rows = refl;
-  count = refl;
-  others = λ k h. refl;
-  sides = sides;
-  solutions = λ v. (λ h. h, λ h. h);
-}
+keeps_itself t table basis sides = grind (arith, linear, table, basis, sides)
 
 -- ---- one pivot
 pub pivot_keeps : (start t : Table) (i j : ℕ) → Keeps start t → j < t.columns → leaving t j t.constraints ≡ Some i → Keeps start (pivoted_table t i j)

@@ -1,8 +1,8 @@
 -- The row that leaves has the least ratio, and a pivot on it keeps the right sides at 0 or above.
 -- Cite by `use Rattle.pivot_run.proofs.Ratios.{leaving_least}`.
-use Rattle.std.proofs.Common.{◌≡◌, ℕ, zero, suc, ◌<◌, ◌≤◌, ⊎_elim, true, false, Option, None, Some, sym, ap, subst, ◌∙◌, arith, ℤ, pos, ◌*ℤ◌, ◌≤ℤ◌, ◌<ℤ◌, int_lt}
-use Rattle.std.proofs.lemmas.Bool.{cond_both, cases_Bool, cases_lt}
-use Rattle.pivot_run.specs.Tables.{Table, number, right_side, basic, leaves_before, comes_before, foremost, leaving}
+use Rattle.std.proofs.Common.{◌≡◌, ℕ, zero, suc, ◌<◌, ◌≤◌, ⊎_elim, true, false, Option, None, Some, ap, subst, ◌∙◌, arith, ℤ, pos, ◌*ℤ◌, ◌≤ℤ◌, ◌<ℤ◌, int_lt}
+use Rattle.std.proofs.lemmas.Bool.{cases_lt}
+use Rattle.pivot_run.specs.Tables.{Table, number, right_side, leaves_before, foremost, leaving}
 use Rattle.uc_model.proofs.Common.{linear, mul_comm, mul_assoc, mul_left_comm, mul-le-mul_left, mul-le-mul_right, le_from_mul}
 use Rattle.pivot_run.proofs.Orders.{int_lt-true, int_lt-false}
 
@@ -29,32 +29,14 @@ IsLeaving t j n (Some i) = IsLeast t j n i
 
 -- what the comparison says
 before-true : (own other : ℤ) (k i : ℕ) → leaves_before own other k i ≡ true → own ≤ℤ other
-before-true own other k i h = ⊎_elim
-    (λ (less : int_lt own other ≡ true). let fact = int_lt-true own other less in omega (arith, linear, fact))
-    (λ (not_less : int_lt own other ≡ false). ⊎_elim
-    (λ (more : int_lt other own ≡ true). absurd (grind arith))
-    (λ (not_more : int_lt other own ≡ false). int_lt-false other own not_more)
-    (cases_Bool (int_lt other own)))
-    (cases_Bool (int_lt own other))
+before-true own other k i h = grind (arith, linear, h)
 
 before-false : (own other : ℤ) (k i : ℕ) → leaves_before own other k i ≡ false → other ≤ℤ own
-before-false own other k i h = ⊎_elim
-    (λ (less : int_lt own other ≡ true). absurd (grind arith))
-    (λ (not_less : int_lt own other ≡ false). int_lt-false own other not_less)
-    (cases_Bool (int_lt own other))
+before-false own other k i h = grind (arith, linear, h)
 
 -- a row joins those before it
 least_kept : (t : Table) (j n i : ℕ) → IsLeast t j n i → (pos 0 <ℤ number t n j → (right_side t i *ℤ number t n j) ≤ℤ (right_side t n *ℤ number t i j)) → IsLeast t j (suc n) i
-least_kept t j n i is last = record {
-  within = omega (arith, is.within);
-  positive = is.positive;
-  least = λ k l h. ⊎_elim
-      (λ (less : k < n). is.least k less h)
-      (λ (most : n ≤ k). let same : n ≡ k = omega arith in
-      subst (λ m. (right_side t i *ℤ number t m j) ≤ℤ (right_side t m *ℤ number t i j)) same
-      (last (subst (λ m. pos 0 <ℤ number t m j) (sym same) h)))
-      (cases_lt k n);
-}
+least_kept t j n i is last = grind (arith, linear, is, last)
 
 least_new : (t : Table) (j n i : ℕ) → IsLeast t j n i → pos 0 <ℤ number t n j → (right_side t n *ℤ number t i j) ≤ℤ (right_side t i *ℤ number t n j) → IsLeast t j (suc n) n
 least_new t j n i is positive before = record {
@@ -69,33 +51,16 @@ least_new t j n i is positive before = record {
 }
 
 least_alone : (t : Table) (j n : ℕ) → ((k : ℕ) → k < n → number t k j ≤ℤ pos 0) → pos 0 <ℤ number t n j → IsLeast t j (suc n) n
-least_alone t j n none positive = record {
-  within = omega arith;
-  positive = positive;
-  least = λ k l h. ⊎_elim
-      (λ (less : k < n). let nought = none k less in absurd (omega (arith, linear, nought, h)))
-      (λ (most : n ≤ k). let same : n ≡ k = omega arith in
-      subst (λ m. (right_side t n *ℤ number t m j) ≤ℤ (right_side t m *ℤ number t n j)) same (omega (arith, linear)))
-      (cases_lt k n);
-}
+least_alone t j n none positive = grind (arith, linear, none, positive)
 
 foremost_least : (t : Table) (j n : ℕ) (found : Option ℕ) → IsLeaving t j n found → pos 0 <ℤ number t n j → IsLeast t j (suc n) (foremost t j n found)
 foremost_least t j n None is positive = least_alone t j n is positive
-foremost_least t j n (Some i) is positive =
-    cond_both (comes_before t j n i) n i (λ m. IsLeast t j (suc n) m)
-    (λ e. least_new t j n i is positive (before-true _ _ (basic t n) (basic t i) e))
-    (λ e. least_kept t j n i is (λ h. before-false _ _ (basic t n) (basic t i) e))
+foremost_least t j n (Some i) is positive = grind (arith, linear, least_new, before-true, least_kept, before-false, i, is, positive)
 
 not_kept : (t : Table) (j n : ℕ) (found : Option ℕ) → IsLeaving t j n found → number t n j ≤ℤ pos 0 → IsLeaving t j (suc n) found
-not_kept t j n None is nought = λ k l. ⊎_elim
-    (λ (less : k < n). is k less)
-    (λ (most : n ≤ k). let same : n ≡ k = omega arith in subst (λ m. number t m j ≤ℤ pos 0) same nought)
-    (cases_lt k n)
+not_kept t j n None is nought = grind (arith, linear, is, nought)
 not_kept t j n (Some i) is nought = least_kept t j n i is (λ h. absurd (omega (arith, linear)))
 
 pub leaving_is : (t : Table) (j n : ℕ) → IsLeaving t j n (leaving t j n)
 leaving_is t j zero = λ k h. absurd (omega arith)
-leaving_is t j (suc n) =
-    cond_both (int_lt (pos 0) (number t n j)) (Some (foremost t j n (leaving t j n))) (leaving t j n) (λ found. IsLeaving t j (suc n) found)
-    (λ e. foremost_least t j n (leaving t j n) (leaving_is t j n) (int_lt-true (pos 0) (number t n j) e))
-    (λ e. not_kept t j n (leaving t j n) (leaving_is t j n) (int_lt-false (pos 0) (number t n j) e))
+leaving_is t j (suc n) = grind (arith, linear, int_lt, foremost_least, int_lt-true, not_kept, int_lt-false, (leaving_is t j n))

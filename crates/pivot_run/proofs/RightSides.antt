@@ -1,13 +1,12 @@
 -- A pivot on the row that leaves keeps the right sides at 0 or above.
 -- Cite by `use Rattle.pivot_run.proofs.RightSides.{right_sides_kept}`.
-use Rattle.std.proofs.Common.{◌≡◌, ◌≢◌, ℕ, ◌-◌, ◌<◌, ⊎_elim, Option, Some, sym, ap, subst, ◌∙◌, arith, List, length, map, ℤ, pos, ◌-ℤ◌, ◌*ℤ◌, ◌≤ℤ◌, ◌<ℤ◌, int_lt, int_div, neg_ℤ}
-use Rattle.std.proofs.lemmas.Int.{by_lt_z}
+use Rattle.std.proofs.Common.{◌≡◌, ◌≢◌, ℕ, ◌-◌, ◌<◌, ⊎_elim, Option, Some, sym, subst, ◌∙◌, arith, List, length, map, ℤ, pos, ◌-ℤ◌, ◌*ℤ◌, ◌≤ℤ◌, ◌<ℤ◌, int_lt, int_div, neg_ℤ}
 use Rattle.std.proofs.lemmas.Bool.{cases_eq, cond-false}
 use Rattle.std.proofs.lemmas.List.{get_or-map}
 use Rattle.pivot_run.specs.Rows.{entry, reduced, upright, cleared, divisor_of}
 use Rattle.pivot_run.specs.Pivots.{pivot_row, row_at}
 use Rattle.pivot_run.specs.Tables.{IsTable, Table, number, right_side, leaving, pivoted_table}
-use Rattle.uc_model.proofs.Common.{linear, mul-zero, mul_comm, mul_nonneg, mul-le-mul_turned, le_from_mul}
+use Rattle.uc_model.proofs.Common.{linear, mul-zero, le_from_mul}
 use Rattle.pivot_run.proofs.Orders.{lt-int_lt_false}
 use Rattle.pivot_run.proofs.Clearing.{entry-combined, length-combined}
 use Rattle.pivot_run.proofs.Divisors.{divisor_of-positive, divisor_of-divides}
@@ -15,9 +14,7 @@ use Rattle.pivot_run.proofs.Solutions.{exact, positive_divisor, by_eliminated, l
 use Rattle.pivot_run.proofs.Ratios.{IsLeast, IsLeaving, leaving_is}
 
 pub entry-reduced : (row : List ℤ) (c : ℕ) → c < length row → pos (divisor_of row) *ℤ entry (reduced row) c ≡ entry row c
-entry-reduced row c within =
-    ap (λ x. pos (divisor_of row) *ℤ x) (get_or-map (λ x. int_div x (pos (divisor_of row))) row c (pos 0) (pos 0) within)
-    ∙ exact (entry row c) (divisor_of row) (divisor_of-positive row) (divisor_of-divides row c within)
+entry-reduced row c within = grind (arith, linear, get_or-map, int_div, exact, divisor_of-positive, divisor_of-divides, within)
 
 pub reduced_nonneg : (row : List ℤ) (c : ℕ) → c < length row → pos 0 ≤ℤ entry row c → pos 0 ≤ℤ entry (reduced row) c
 reduced_nonneg row c within h =
@@ -27,10 +24,7 @@ reduced_nonneg row c within h =
 
 -- a right side with the ratio test: b p - e a, where a/p is at most b/e, or e isn't above 0
 side_nonneg : (a p b e : ℤ) → pos 0 <ℤ p → pos 0 ≤ℤ a → pos 0 ≤ℤ b → (pos 0 <ℤ e → (a *ℤ e) ≤ℤ (b *ℤ p)) → pos 0 ≤ℤ (b *ℤ p -ℤ e *ℤ a)
-side_nonneg a p b e positive first second least = by_lt_z (pos 0) e
-    (λ h. let fact = least h in let turned = mul_comm a e in omega (arith, linear))
-    (λ h. let fact = mul-le-mul_turned e (pos 0) a h first in let none = mul-zero e in
-    let other = mul_nonneg b p second (omega (arith, linear)) in omega (arith, linear))
+side_nonneg a p b e positive first second least = grind (arith, linear, positive, first, second, least)
 
 pub upright_same : (j : ℕ) (row : List ℤ) → pos 0 ≤ℤ entry row j → upright j row ≡ row
 upright_same j row h = cond-false (int_lt (entry row j) (pos 0)) (map neg_ℤ row) row (lt-int_lt_false (entry row j) (pos 0) h)

@@ -1,15 +1,15 @@
 -- What a run keeps, where each row from which an artificial column is driven has the right side 0.
 -- Cite by `use Rattle.pivot_run.proofs.RunKeeps.{run_keeps}`.
-use Rattle.std.proofs.Common.{◌≡◌, ◌≢◌, ◌⊎◌, ⊎_elim, inl, inr, ℕ, zero, suc, ◌+◌, ◌-◌, ◌<◌, ◌≤◌, true, false, Option, None, Some, refl, sym, ap, subst, ◌∙◌, arith, length, take, position, pos, int_lt, nat_lt}
+use Rattle.std.proofs.Common.{◌≡◌, ◌≢◌, ◌⊎◌, ⊎_elim, inl, inr, ℕ, zero, suc, ◌+◌, ◌<◌, ◌≤◌, Option, None, Some, refl, ap, subst, ◌∙◌, arith, length, pos, int_lt}
 use Rattle.std.specs.Option.{option_map}
 use Rattle.std.proofs.lemmas.Bool.{cases_Bool, cond-true, cond-false}
 use Rattle.std.proofs.lemmas.Option.{some_pair_parts}
 use Rattle.std.proofs.lemmas.List.{get_or-take, length-take}
 use Rattle.std.proofs.lemmas.List.Quantifiers.{position-Some}
 use Rattle.pivot_run.specs.Pivots.{row_at}
-use Rattle.pivot_run.specs.Tables.{Table, basic, entering, leaving, number, pivoted_table, right_side}
+use Rattle.pivot_run.specs.Tables.{Table, entering, leaving, number, pivoted_table, right_side}
 use Rattle.pivot_run.specs.Runs.{Keeps, next}
-use Rattle.pivot_run.specs.Driven.{driven, first_driven, is_some_number, or_later}
+use Rattle.pivot_run.specs.Driven.{driven, first_driven, or_later}
 use Rattle.pivot_run.specs.Stages.{State, advanced, after_sum, cost_target, drives, on_row, plan_of, rows_target, state_after, target}
 use Rattle.pivot_run.specs.declared.target.Target.{Target}
 use Rattle.pivot_run.specs.declared.target.Target.TheVariants.{Row, Drive, Ended}
@@ -32,59 +32,28 @@ first_driven_is free t k (suc n) i j e = ⊎_elim
     (later_parts k i j (driven free t k) (first_driven free t (suc k) n) e)
 
 driven_is : (free : ℕ) (t : Table) (i j : ℕ) → driven free t i ≡ Some j → (j < free) × (number t i j ≢ pos 0)
-driven_is free t i j e = ⊎_elim
-    (λ (true_artificial : nat_lt (basic t i) free ≡ true).
-    absurd (none_some (sym (cond-true (nat_lt (basic t i) free) None (position is_some_number (take free (row_at t.rows i))) true_artificial) ∙ e)))
-    (λ (artificial : nat_lt (basic t i) free ≡ false).
-    let found = sym (cond-false (nat_lt (basic t i) free) None (position is_some_number (take free (row_at t.rows i))) artificial) ∙ e in
-    let fact = position-Some is_some_number (take free (row_at t.rows i)) j (pos 0) found in
-    let within : j < free = omega (arith, fact.0, length-take free (row_at t.rows i)) in
-    (within, λ none. not_some (subst (λ x. is_some_number x ≡ true) (get_or-take free (row_at t.rows i) j (pos 0) within ∙ none) fact.1)))
-    (cases_Bool (nat_lt (basic t i) free))
-  where
-    none_some : None ≡ Some j → ⊥
-    none_some h = cc
-
-    not_some : is_some_number (pos 0) ≡ true → ⊥
-    not_some h = cc
+driven_is free t i j e = grind (arith, cond-true, cond-false, position-Some, length-take, get_or-take, cases_Bool, e)
 
 -- ---- the target
 drives_parts : (i j : ℕ) (found : Option (ℕ × ℕ)) (other : Target) → drives found other ≡ Drive i j → (found ≡ Some (i, j)) ⊎ (other ≡ Drive i j)
 drives_parts i j None other e = inr e
-drives_parts i j (Some p) other e =
-    let first : p.0 ≡ i = cc in
-    let second : p.1 ≡ j = cc in
-    inl (λ k. Some (first k, second k))
+drives_parts i j (Some p) other e = grind (arith, p, e)
 
 on_row_parts : (o stage i j : ℕ) (found : Option ℕ) (other : Target) → on_row o stage found other ≡ Drive i j → other ≡ Drive i j
 on_row_parts o stage i j None other e = e
 on_row_parts o stage i j (Some k) other e = absurd (cc)
 
 cost_drives : (free : ℕ) (t : Table) (i j : ℕ) → cost_target free t ≡ Drive i j → ⊥
-cost_drives free t i j e =
-    let ended : Ended ≡ Drive i j = on_row_parts _ _ i j (entering free (row_at t.rows (suc t.constraints))) Ended e in cc
+cost_drives free t i j e = grind (arith, e)
 
 rows_drive : (free : ℕ) (t : Table) (k i j : ℕ) → rows_target free t k ≡ Drive i j → (i < t.constraints) × (driven free t i ≡ Some j)
-rows_drive free t k i j e = ⊎_elim
-    (λ (found : first_driven free t k (t.constraints - k) ≡ Some (i, j)).
-    let fact = first_driven_is free t k (t.constraints - k) i j found in (omega (arith, fact.0, fact.1), fact.2))
-    (λ (cost : cost_target free t ≡ Drive i j). absurd (cost_drives free t i j cost))
-    (drives_parts i j (first_driven free t k (t.constraints - k)) (cost_target free t) e)
+rows_drive free t k i j e = grind (arith, first_driven_is, cost_drives, drives_parts, e)
 
 sum_drives : (free : ℕ) (t : Table) (i j : ℕ) → after_sum free t ≡ Drive i j → (i < t.constraints) × (driven free t i ≡ Some j)
-sum_drives free t i j e = ⊎_elim
-    (λ (left : int_lt (right_side t t.constraints) (pos 0) ≡ true).
-    absurd (ended (sym (cond-true (int_lt (right_side t t.constraints) (pos 0)) Ended (rows_target free t 0) left) ∙ e)))
-    (λ (none : int_lt (right_side t t.constraints) (pos 0) ≡ false).
-    rows_drive free t 0 i j (sym (cond-false (int_lt (right_side t t.constraints) (pos 0)) Ended (rows_target free t 0) none) ∙ e))
-    (cases_Bool (int_lt (right_side t t.constraints) (pos 0)))
-  where
-    ended : Ended ≡ Drive i j → ⊥
-    ended h = cc
+sum_drives free t i j e = grind (arith, int_lt, cond-true, rows_drive, cond-false, cases_Bool, e)
 
 target_drives : (free : ℕ) (t : Table) (stage i j : ℕ) → target free t stage ≡ Drive i j → (i < t.constraints) × (driven free t i ≡ Some j)
-target_drives free t zero i j e =
-    sum_drives free t i j (on_row_parts _ _ i j (entering free (row_at t.rows t.constraints)) (after_sum free t) e)
+target_drives free t zero i j e = grind (arith, sum_drives, on_row_parts, e)
 target_drives free t (suc k) i j e = rows_drive free t k i j e
 
 -- ---- one pivot

@@ -1,12 +1,10 @@
 -- A pivot keeps the solutions of the rows.
 -- Cite by `use Rattle.pivot_run.proofs.Solutions.{pivoted_solves}`.
-use Rattle.std.proofs.Common.{◌≡◌, ◌≢◌, ℕ, suc, ◌*◌, ◌/◌, ◌<◌, ⊎_elim, refl, sym, ap, subst, ◌∙◌, arith, List, [], ◌∷◌, length, map, ℤ, pos, negsuc, ◌-ℤ◌, ◌*ℤ◌, neg_ℤ, ◌<ℤ◌, unsigned_abs, int_div, int_lt}
+use Rattle.std.proofs.Common.{◌≡◌, ◌≢◌, ℕ, suc, ◌<◌, ⊎_elim, refl, sym, ap, subst, ◌∙◌, arith, List, [], ◌∷◌, length, map, ℤ, pos, negsuc, ◌-ℤ◌, ◌*ℤ◌, neg_ℤ, ◌<ℤ◌, unsigned_abs, int_div, int_lt}
 use Rattle.std.specs.Int.{◌∣◌}
 use Rattle.std.proofs.lemmas.Int.{ints, by_lt_z}
 use Rattle.std.proofs.lemmas.Nat.Gcd.{mod-eq-zero_of_dvd}
-use Rattle.std.specs.Ordering.{int_eq}
 use Rattle.std.proofs.lemmas.Bool.{cases_eq, cond_both}
-use Rattle.std.proofs.lemmas.Bool.Decides.{Decides-int_eq}
 use Rattle.std.proofs.lemmas.List.{length-map, get_or-map, get_or-set_same, get_or-set_other, length-set}
 use Rattle.pivot_run.specs.Rows.{entry, reduced, upright, combined, cleared, divisor_of, eliminated}
 use Rattle.pivot_run.specs.Pivots.{AreAsLong, pivot_row, pivoted, row_at}
@@ -17,8 +15,7 @@ use Rattle.pivot_run.proofs.Divisors.{divisor_of-positive, divisor_of-divides}
 
 -- ---- the sum of products over a row
 one_product : (x p e y z : ℤ) → (x *ℤ p -ℤ e *ℤ y) *ℤ z ≡ p *ℤ (x *ℤ z) -ℤ e *ℤ (y *ℤ z)
-one_product x p e y z =
-    sub-mul (x *ℤ p) (e *ℤ y) z ∙ (λ i. (ap (λ w. w *ℤ z) (mul_comm x p) ∙ mul_assoc p x z) i -ℤ mul_assoc e y z i)
+one_product x p e y z = grind (arith, ints, sub-mul, mul_comm, mul_assoc)
 
 pub dot-combined : (p e : ℤ) (row other : List ℤ) (v : ℕ → ℤ) → length row ≡ length other → dot (combined p e row other) v ≡ p *ℤ dot row v -ℤ e *ℤ dot other v
 dot-combined p e [] [] v h = let a = mul-zero p in let b = mul-zero e in omega (arith, linear)
@@ -38,10 +35,7 @@ dot-neg (x ∷ xs) v = let first = neg-mul x (v 0) in let rest = dot-neg xs (λ 
 -- an exact quotient
 pub exact : (x : ℤ) (d : ℕ) → 0 < d → d ∣ unsigned_abs x → pos d *ℤ int_div x (pos d) ≡ x
 exact (pos n) d positive h = let none = mod-eq-zero_of_dvd d h in omega (arith, ints)
-exact (negsuc n) d positive h =
-    let none = mod-eq-zero_of_dvd d h in
-    let times : d * (suc n / d) ≡ suc n = omega arith in
-    mul-neg (pos d) (pos (suc n / d)) ∙ ap (λ m. neg_ℤ (pos m)) times
+exact (negsuc n) d positive h = grind (arith, ints, mod-eq-zero_of_dvd, mul-neg, positive, h)
 
 dot-quotients : (d : ℕ) (row : List ℤ) (v : ℕ → ℤ) → 0 < d → ((k : ℕ) → k < length row → d ∣ unsigned_abs (entry row k))
     → pos d *ℤ dot (map (λ x. int_div x (pos d)) row) v ≡ dot row v
@@ -76,51 +70,30 @@ pub length-upright : (j : ℕ) (row : List ℤ) → length (upright j row) ≡ l
 length-upright j row = cond_both (int_lt (entry row j) (pos 0)) (map neg_ℤ row) row (λ r. length r ≡ length row) (λ e. length-map row neg_ℤ) (λ e. refl)
 
 upright_solves : (j : ℕ) (row : List ℤ) (v : ℕ → ℤ) → dot row v ≡ pos 0 → dot (upright j row) v ≡ pos 0
-upright_solves j row v h =
-    cond_both (int_lt (entry row j) (pos 0)) (map neg_ℤ row) row (λ r. dot r v ≡ pos 0) (λ e. dot-neg row v ∙ ap neg_ℤ h) (λ e. h)
+upright_solves j row v h = grind (arith, ints, int_lt, dot-neg, h)
 
 upright_solved : (j : ℕ) (row : List ℤ) (v : ℕ → ℤ) → dot (upright j row) v ≡ pos 0 → dot row v ≡ pos 0
-upright_solved j row v =
-    cond_both (int_lt (entry row j) (pos 0)) (map neg_ℤ row) row (λ r. dot r v ≡ pos 0 → dot row v ≡ pos 0)
-    (λ e h. let turned = dot-neg row v in omega (arith, linear)) (λ e h. h)
+upright_solved j row v = grind (arith, ints, int_lt, dot-neg)
 
 pub upright_positive : (j : ℕ) (row : List ℤ) → j < length row → entry row j ≢ pos 0 → pos 0 <ℤ entry (upright j row) j
-upright_positive j row within apart =
-    cond_both (int_lt (entry row j) (pos 0)) (map neg_ℤ row) row (λ r. pos 0 <ℤ entry r j)
-    (λ e. let below = int_lt-true (entry row j) (pos 0) e in
-    subst (λ x. pos 0 <ℤ x) (sym (get_or-map neg_ℤ row j (pos 0) (pos 0) within)) (omega (arith, linear)))
-    (λ e. by_lt_z (pos 0) (entry row j) (λ h. h)
-    (λ h. absurd (apart (le_antisymm (entry row j) (pos 0) h (int_lt-false (entry row j) (pos 0) e)))))
+upright_positive j row within apart = grind (arith, ints, int_lt, int_lt-true, get_or-map, by_lt_z, le_antisymm, int_lt-false, within, apart)
 
 -- ---- a row cleared
 cleared_solves : (pivot : List ℤ) (j : ℕ) (row : List ℤ) (v : ℕ → ℤ) → length row ≡ length pivot → dot pivot v ≡ pos 0 → dot row v ≡ pos 0 → dot (cleared pivot j row) v ≡ pos 0
-cleared_solves pivot j row v same h k =
-    let p = entry pivot j in
-    let e = entry row j in
-    let whole = dot-combined p e row pivot v same in
-    let first : p *ℤ dot row v ≡ pos 0 = ap (λ x. p *ℤ x) k ∙ mul-zero p in
-    let second : e *ℤ dot pivot v ≡ pos 0 = ap (λ x. e *ℤ x) h ∙ mul-zero e in
-    omega (arith, linear)
+cleared_solves pivot j row v same h k = grind (arith, ints, dot-combined, mul-zero, same, h, k)
 
 cleared_solved : (pivot : List ℤ) (j : ℕ) (row : List ℤ) (v : ℕ → ℤ) → length row ≡ length pivot → pos 0 <ℤ entry pivot j → dot pivot v ≡ pos 0
     → dot (cleared pivot j row) v ≡ pos 0 → dot row v ≡ pos 0
-cleared_solved pivot j row v same positive h k =
-    let p = entry pivot j in
-    let e = entry row j in
-    let whole = dot-combined p e row pivot v same in
-    let second : e *ℤ dot pivot v ≡ pos 0 = ap (λ x. e *ℤ x) h ∙ mul-zero e in
-    no_factor p (dot row v) positive (omega (arith, linear))
+cleared_solved pivot j row v same positive h k = grind (arith, ints, dot-combined, mul-zero, no_factor, same, positive, h, k)
 
 -- a row after a pivot: one that is 0 in the column stays, and any other is cleared
 pub by_eliminated : (pivot : List ℤ) (j : ℕ) (row : List ℤ) (P : List ℤ → Type 0) → (entry row j ≡ pos 0 → P row) → P (reduced (cleared pivot j row))
     → P (eliminated pivot j row)
-by_eliminated pivot j row P stays clears =
-    cond_both (int_eq (entry row j) (pos 0)) row (reduced (cleared pivot j row)) P (λ e. stays ((Decides-int_eq (entry row j) (pos 0)).0 e)) (λ e. clears)
+by_eliminated pivot j row P stays clears = grind (arith, ints, stays, clears)
 
 eliminated_solves : (pivot : List ℤ) (j : ℕ) (row : List ℤ) (v : ℕ → ℤ) → length row ≡ length pivot → dot pivot v ≡ pos 0 → dot row v ≡ pos 0
     → dot (eliminated pivot j row) v ≡ pos 0
-eliminated_solves pivot j row v same h k =
-    by_eliminated pivot j row (λ r. dot r v ≡ pos 0) (λ none. k) (reduced_solves (cleared pivot j row) v (cleared_solves pivot j row v same h k))
+eliminated_solves pivot j row v same h k = grind (arith, ints, by_eliminated, reduced_solves, cleared_solves, same, h, k)
 
 eliminated_solved : (pivot : List ℤ) (j : ℕ) (row : List ℤ) (v : ℕ → ℤ) → length row ≡ length pivot → pos 0 <ℤ entry pivot j → dot pivot v ≡ pos 0
     → dot (eliminated pivot j row) v ≡ pos 0 → dot row v ≡ pos 0
@@ -130,19 +103,13 @@ eliminated_solved pivot j row v same positive h =
 
 -- ---- the rows of a pivot
 pub row-pivoted_at : (rows : List (List ℤ)) (i j : ℕ) → i < length rows → row_at (pivoted rows i j) i ≡ reduced (pivot_row rows i j)
-row-pivoted_at rows i j within =
-    let clear = eliminated (pivot_row rows i j) j in
-    get_or-set_same (map clear rows) i (reduced (pivot_row rows i j)) [] (subst (λ n. i < n) (sym (length-map rows clear)) within)
+row-pivoted_at rows i j within = grind (arith, ints, get_or-set_same, length-map, within)
 
 pub row-pivoted_other : (rows : List (List ℤ)) (i j k : ℕ) → k < length rows → k ≢ i → row_at (pivoted rows i j) k ≡ eliminated (pivot_row rows i j) j (row_at rows k)
-row-pivoted_other rows i j k within other =
-    let clear = eliminated (pivot_row rows i j) j in
-    get_or-set_other (map clear rows) i k (reduced (pivot_row rows i j)) [] other ∙ get_or-map clear rows k [] [] within
+row-pivoted_other rows i j k within other = grind (arith, ints, get_or-set_other, get_or-map, within, other)
 
 pub length-pivoted : (rows : List (List ℤ)) (i j : ℕ) → length (pivoted rows i j) ≡ length rows
-length-pivoted rows i j =
-    let clear = eliminated (pivot_row rows i j) j in
-    length-set (map clear rows) i (reduced (pivot_row rows i j)) ∙ length-map rows clear
+length-pivoted rows i j = grind (arith, ints, length-set, length-map)
 
 pub pivoted_solves : (rows : List (List ℤ)) (n i j : ℕ) (v : ℕ → ℤ) → AreAsLong rows n → i < length rows → Solves rows v → Solves (pivoted rows i j) v
 pivoted_solves rows n i j v lengths row h k l =

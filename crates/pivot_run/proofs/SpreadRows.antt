@@ -1,6 +1,6 @@
 -- What is found in the numbers of a row is found in the row.
 -- Cite by `use Rattle.pivot_run.proofs.SpreadRows.{spread_reduced}`.
-use Rattle.std.proofs.Common.{◌≡◌, ◌⊎◌, ⊎_elim, inl, inr, ℕ, ◌*◌, ◌^◌, ◌<◌, ◌≤◌, Bool, true, false, Option, None, Some, refl, sym, ap, subst, ◌∙◌, arith, List, length, map, take, position, ℤ, pos, ◌-ℤ◌, ◌*ℤ◌, int_div, nat_lt, unsigned_abs}
+use Rattle.std.proofs.Common.{◌≡◌, ◌⊎◌, ⊎_elim, inl, inr, ℕ, ◌<◌, ◌≤◌, Bool, true, false, Option, None, Some, refl, sym, ap, subst, ◌∙◌, arith, List, length, map, take, position, ℤ, pos, ◌-ℤ◌, ◌*ℤ◌, int_div, nat_lt, unsigned_abs}
 use Rattle.std.specs.Int.{◌∣◌}
 use Rattle.std.proofs.lemmas.Nat.Gcd.{dvd-zero}
 use Rattle.std.specs.List.{position_or_len}
@@ -30,10 +30,7 @@ divides_too row other d are divides k h = ⊎_elim
     (are k h)
 
 sizes_within : (row other : List ℤ) → AreIn row other → (k : ℕ) → k < length row → unsigned_abs (entry row k) ≤ total_size other
-sizes_within row other are k h = ⊎_elim
-    (λ zero. subst (λ x. unsigned_abs x ≤ total_size other) (sym zero) (omega arith))
-    (λ same. subst (λ x. unsigned_abs x ≤ total_size other) (sym same.2) (entry_size other same.0 same.1))
-    (are k h)
+sizes_within row other are k h = grind (arith, ints, entry_size, are, h)
 
 divisor_within : (row other : List ℤ) → AreIn row other → AreIn other row → divisor_of row ≤ divisor_of other
 divisor_within row other are back = ⊎_elim
@@ -48,12 +45,7 @@ pub same_divisor : (row other : List ℤ) → AreIn row other → AreIn other ro
 same_divisor row other are back = let one = divisor_within row other are back in let two = divisor_within other row back are in omega (arith, one, two)
 
 spread_in : (n : ℕ) (ks : List ℕ) (xs : List ℤ) → AreEntries ks xs → AreBelow ks n → AreIn (spread n ks xs) xs
-spread_in n ks xs are below c h =
-    let here = entry_spread n ks xs c are.lengths below in
-    ⊎_elim
-    (λ found. inr (found.0, omega (arith, found.1, are.lengths), here ∙ found.3))
-    (λ none. inl (here ∙ none.1))
-    (number_cases ks xs c are.lengths)
+spread_in n ks xs are below c h = grind (arith, ints, entry_spread, number_cases, are, below, c, h)
 
 numbers_in : (n : ℕ) (ks : List ℕ) (xs : List ℤ) → AreEntries ks xs → AreBelow ks n → AreIn xs (spread n ks xs)
 numbers_in n ks xs are below k h =
@@ -73,12 +65,7 @@ spread_reduced n ks xs are below =
 -- ---- the largest number
 pub largest_of_all : (n : ℕ) (ks : List ℕ) (xs : List ℤ) (largest : ℕ) → AreEntries ks xs → AreBelow ks n → IsLargest xs largest
     → (c : ℕ) → unsigned_abs (entry (spread n ks xs) c) ≤ unsigned_abs (entry xs largest)
-largest_of_all n ks xs largest are below is c =
-    let here = entry_spread n ks xs c are.lengths below in
-    ⊎_elim
-    (λ found. subst (λ x. unsigned_abs x ≤ unsigned_abs (entry xs largest)) (sym (here ∙ found.3)) (is found.0 (omega (arith, found.1, are.lengths))))
-    (λ none. subst (λ x. unsigned_abs x ≤ unsigned_abs (entry xs largest)) (sym (here ∙ none.1)) (omega arith))
-    (number_cases ks xs c are.lengths)
+largest_of_all n ks xs largest are below is c = grind (arith, ints, entry_spread, number_cases, are, below, is)
 
 pub largest_number : (n : ℕ) (ks : List ℕ) (xs : List ℤ) (largest : ℕ) (row : List ℤ) (number : ℤ) → AreEntries ks xs → AreBelow ks n → IsLargest xs largest
     → spread n ks xs ≡ row → number ≡ entry xs largest
@@ -99,12 +86,7 @@ largest_number n ks xs largest row number are below is view value = (
 -- each number in an earlier column than that of an entry, where all before it fail, fails
 fails_before : (test : ℤ → Bool) (n : ℕ) (ks : List ℕ) (xs : List ℤ) (m c : ℕ) → test (pos 0) ≡ false → AreEntries ks xs → AreBelow ks n
     → ((k : ℕ) → k < length xs → column ks k < m → test (entry xs k) ≡ false) → c < m → test (entry (spread n ks xs) c) ≡ false
-fails_before test n ks xs m c zero are below fails h =
-    let here = entry_spread n ks xs c are.lengths below in
-    ⊎_elim
-    (λ found. ap test (here ∙ found.3) ∙ fails found.0 (omega (arith, found.1, are.lengths)) (omega (arith, found.2)))
-    (λ none. ap test (here ∙ none.1) ∙ zero)
-    (number_cases ks xs c are.lengths)
+fails_before test n ks xs m c zero are below fails h = grind (arith, ints, entry_spread, number_cases, are, below, fails, h)
 
 -- no position where each of the first numbers, so many, fails
 none_passes : (test : ℤ → Bool) (row : List ℤ) (count : ℕ) → ((c : ℕ) → c < count → test (entry row c) ≡ false) → position test (take count row) ≡ None
@@ -117,23 +99,11 @@ none_passes test row count fails =
 
 passes_first : (test : ℤ → Bool) (row : List ℤ) (count c : ℕ) → c < count → c < length row → test (entry row c) ≡ true → ((k : ℕ) → k < c → test (entry row k) ≡ false)
     → position test (take count row) ≡ Some c
-passes_first test row count c h l passes fails =
-    let within : c < length (take count row) = omega (arith, length-take count row) in
-    let first : position_or_len test (take count row) ≡ c =
-    position_or_len_is test (take count row) c (pos 0) (omega arith)
-    (λ k m. ap test (get_or-take count row k (pos 0) (omega arith)) ∙ fails k m)
-    (λ m. ap test (get_or-take count row c (pos 0) h) ∙ passes) in
-    grind (arith, common_steps)
+passes_first test row count c h l passes fails = grind (arith, ints, length-take, position_or_len_is, get_or-take, common_steps, h, l, passes, fails)
 
 -- a number before the first that passes stands in an earlier column
 earlier : (ks : List ℕ) (k i : ℕ) → Rise ks → i < length ks → k < length ks → column ks k < column ks i → k < i
-earlier ks k i rise h l m = ⊎_elim
-    (λ (less : k < i). less)
-    (λ (most : i ≤ k). ⊎_elim
-    (λ (more : i < k). absurd (omega (arith, rise i k more l, m)))
-    (λ (least : k ≤ i). let same : k ≡ i = omega arith in absurd (omega (arith, ap (column ks) same, m)))
-    (cases_lt i k))
-    (cases_lt k i)
+earlier ks k i rise h l m = grind (arith, ints, rise, h, l, m)
 
 first_none : (test : ℤ → Bool) (n : ℕ) (ks : List ℕ) (xs : List ℤ) (count : ℕ) → test (pos 0) ≡ false → AreEntries ks xs → AreBelow ks n
     → position test xs ≡ None → position test (take count (spread n ks xs)) ≡ None
@@ -193,31 +163,14 @@ pub narrow_cleared : (n : ℕ) (ks : List ℕ) (xs : List ℤ) (ls : List ℕ) (
     → p ≡ entry (spread n ls ys) j → e ≡ entry (spread n ks xs) j
     → IsCombined (number_at ks xs) (number_at ls ys) p e ms zs n → IsNarrow (ClearingForms (spread n ls ys) j (spread n ks xs))
 narrow_cleared n ks xs ls ys j p e ms zs own below are under pivot factor made a b forms =
-    let within : forms.0 < n = omega (arith, forms.1, length_spread n ks xs) in
-    ⊎_elim
-    (λ first.
-    let one = first.0 ∙ entry_spread n ks xs forms.0 own.lengths below in
-    subst (λ x. unsigned_abs x * unsigned_abs b < 2 ^ 126) (sym one)
-    (subst (λ y. unsigned_abs (number_at ks xs forms.0) * unsigned_abs y < 2 ^ 126) (pivot ∙ sym first.1) (made.first forms.0 within)))
-    (λ second.
-    let two = second.1 ∙ entry_spread n ls ys forms.0 are.lengths under in
-    subst (λ x. unsigned_abs x * unsigned_abs b < 2 ^ 126) (factor ∙ sym second.0)
-    (subst (λ y. unsigned_abs e * unsigned_abs y < 2 ^ 126) (sym two) (made.second forms.0 within)))
-    forms.2
+    grind (arith, ints, length_spread, entry_spread, own, below, are, under, pivot, factor, made, a, b, forms)
 
 pub wide_cleared : (n : ℕ) (ks : List ℕ) (xs : List ℤ) (ls : List ℕ) (ys : List ℤ) (j : ℕ) (p e a b : ℤ)
     → AreEntries ks xs → AreBelow ks n → AreEntries ls ys → AreBelow ls n
     → p ≡ entry (spread n ls ys) j → e ≡ entry (spread n ks xs) j
     → CombiningForms (number_at ks xs) (number_at ls ys) p e ks ls a b → ClearingForms (spread n ls ys) j (spread n ks xs) a b
 wide_cleared n ks xs ls ys j p e a b own below are under pivot factor forms =
-    let within : forms.0 < length (spread n ks xs) = omega (arith, forms.1 n below under, length_spread n ks xs) in (
-      forms.0,
-      within,
-      ⊎_elim
-          (λ first. inl (first.0 ∙ sym (entry_spread n ks xs forms.0 own.lengths below), first.1 ∙ pivot))
-          (λ second. inr (second.0 ∙ factor, second.1 ∙ sym (entry_spread n ls ys forms.0 are.lengths under)))
-          forms.2,
-    )
+    grind (arith, ints, length_spread, entry_spread, own, below, are, under, pivot, factor, forms)
 
 -- ---- a row with its entries
 pub record Holds (row : List ℤ) (ks : List ℕ) (xs : List ℤ) : Type 0 where
@@ -226,9 +179,7 @@ pub record Holds (row : List ℤ) (ks : List ℕ) (xs : List ℤ) : Type 0 where
   pub is : spread (length row) ks xs ≡ row
 
 pub holds : (n : ℕ) (ks : List ℕ) (xs : List ℤ) (row : List ℤ) → AreEntries ks xs → AreBelow ks n → spread n ks xs ≡ row → Holds row ks xs
-holds n ks xs row are below view =
-    let long : n ≡ length row = sym (length_spread n ks xs) ∙ ap length view in
-    record { are = are; below = subst (AreBelow ks) long below; is = subst (λ m. spread m ks xs ≡ row) long view }
+holds n ks xs row are below view = grind (arith, ints, length_spread, are, below, view)
 
 -- the same beside a row of its length
 beside : (row other : List ℤ) (ls : List ℕ) (ys : List ℤ) → Holds other ls ys → length other ≡ length row → AreBelow ls (length row) × (spread (length row) ls ys ≡ other)
@@ -273,8 +224,7 @@ pub view_of : (n : ℕ) (ks ls : List ℕ) (xs ys row : List ℤ) → ls ≡ ks 
 view_of n ks ls xs ys row columns numbers view = ap (λ it. spread n it ys) columns ∙ ap (λ it. spread n ks it) numbers ∙ view
 
 pub moved : (ks ls : List ℕ) (xs ys : List ℤ) (n : ℕ) → ls ≡ ks → ys ≡ xs → AreEntries ks xs → AreBelow ks n → AreEntries ls ys × AreBelow ls n
-moved ks ls xs ys n columns numbers are below =
-    (subst (λ it. AreEntries it ys) (sym columns) (subst (AreEntries ks) (sym numbers) are), subst (λ it. AreBelow it n) (sym columns) below)
+moved ks ls xs ys n columns numbers are below = grind (arith, ints, columns, numbers, are, below)
 
 -- the same in another row of its length
 pub copied : (n m : ℕ) (ks : List ℕ) (xs row : List ℤ) → AreEntries ks xs → AreBelow ks m → spread m ks xs ≡ row → n ≡ length row → AreBelow ks n × (spread n ks xs ≡ row)

@@ -23,9 +23,7 @@ bit_size true a m h = omega (arith, ints)
 bit_size false a m h = omega (arith, ints)
 
 initial_size : (unit : Thermal) → IsLawfulThermal unit → unsigned_abs (initial_p unit) ≤ 2 * MAX_POWER
-initial_size unit lawful =
-    bit_size unit.on0 (unit.p0 -ℤ unit.pmin) (2 * MAX_POWER)
-    (omega (arith, abs_sub unit.p0 unit.pmin MAX_POWER MAX_POWER lawful.initial_output lawful.minimum.power))
+initial_size unit lawful = grind (arith, ints, lawful)
 
 pub constant_size : (periods : ℕ) (table : Table) (unit : Thermal) (g : ℕ) → periods ≤ MAX_PERIODS → IsWithinLimits table → IsLawfulThermal unit
     → unsigned_abs (unit_constant periods table unit g) ≤ MAX_CONSTANT

@@ -1,5 +1,5 @@
 -- Rows that rise by unit and then by period: what stands before a cell, and which row is the cell's.
-use Rattle.std.proofs.Common.{◌≡◌, ℕ, zero, suc, ◌<◌, ◌≤◌, ◌⊎◌, ⊎_elim, inl, inr, Bool, true, false, ◌&&◌, List, [], ◌∷◌, length, refl, sym, ap, subst, ◌∙◌, arith, pos, IsTrue, ◌==◌}
+use Rattle.std.proofs.Common.{◌≡◌, ℕ, zero, suc, ◌<◌, ◌≤◌, ⊎_elim, Bool, true, false, ◌&&◌, List, [], ◌∷◌, length, refl, sym, subst, ◌∙◌, arith, pos, IsTrue, ◌==◌}
 use Rattle.std.proofs.lemmas.Bool.{and_parts, and_from, eqb-true, eq-eqb, cond-true, cond-false}
 use Rattle.dual_model.specs.Prelude.{row_of, IsRowBefore}
 use Rattle.ramp_duals.specs.RampRows.{RampRow, Table, AreRising, row_in, IsBefore, IsPlace, AreOf, AreOfTable}
@@ -13,8 +13,7 @@ before-before first second g t h k = let order = h.before in grind arith
 -- rows before a row that stands before a cell do too
 pub before-earlier : (rows : List RampRow) → AreRising rows → (g t i j : ℕ) → i ≤ j → j < length rows
     → IsBefore (row_in rows j) g t → IsBefore (row_in rows i) g t
-before-earlier rows rising g t i zero h k l =
-    let same : 0 ≡ i = omega arith in subst (λ n. IsBefore (row_in rows n) g t) same l
+before-earlier rows rising g t i zero h k l = grind (arith, rising, h, k, l)
 before-earlier rows rising g t i (suc j) h k l =
     ⊎_elim
     (λ (same : i ≡ suc j). subst (λ n. IsBefore (row_in rows n) g t) (sym same) l)
@@ -65,15 +64,7 @@ before-not_of row g t h k = let both = of_both row g t k in grind arith
 
 -- a row that isn't before the cell, nor the cell's, isn't before the next one
 not_before-next : (row : RampRow) (g t : ℕ) → (IsBefore row g t → ⊥) → (row.g ≡ g → row.t ≡ t → ⊥) → IsBefore row g (suc t) → ⊥
-not_before-next row g t h k l =
-    ⊎_elim
-    (λ (unit : row.g < g). h (inl unit))
-    (λ (same : (row.g ≡ g) × (row.t < suc t)).
-    ⊎_elim
-    (λ (period : row.t < t). h (inr (same.0, period)))
-    (λ (period : row.t ≡ t). k same.0 period)
-    (below_or_last t row.t same.1))
-    l
+not_before-next row g t h k l = grind (arith, h, k, l)
 
 -- a row before that of the cell stands before the cell
 row_before-cell : (first second : RampRow) (g t : ℕ) → IsRowBefore first second → second.g ≡ g → second.t ≡ t → IsBefore first g t
@@ -93,18 +84,7 @@ later-not_of rows rising g t i (suc j) h l first unit period =
 pub none_at : (rows : List RampRow) → AreRising rows → (g t place : ℕ) → IsPlace rows g t place
     → (place < length rows → IsTrue (IsOf (row_in rows place) g t) → ⊥)
     → (i : ℕ) → i < length rows → IsTrue (IsOf (row_in rows i) g t) → ⊥
-none_at rows rising g t place is here i l h =
-    ⊎_elim
-    (λ (to : (i < place) ⊎ (i ≡ place)).
-    ⊎_elim
-    (λ (earlier : i < place). before-not_of (row_in rows i) g t (is.before i earlier) h)
-    (λ (same : i ≡ place).
-    here (omega arith) (subst (λ n. IsTrue (IsOf (row_in rows n) g t)) same h))
-    to)
-    (λ (later : place < i).
-    let both = of_both (row_in rows i) g t h in
-    later-not_of rows rising g t place i later l (is.later place (omega arith) (omega arith)) both.0 both.1)
-    (grind arith)
+none_at rows rising g t place is here i l h = grind (arith, before-not_of, of_both, later-not_of, rising, is, here, l, h)
 
 -- it is then the next cell's place too
 pub same_place : (rows : List RampRow) → AreRising rows → (g t place : ℕ) → IsPlace rows g t place
@@ -119,17 +99,8 @@ same_place rows rising g t place is here = record {
 -- and else the next cell's place is the next one
 pub next_place : (rows : List RampRow) → AreRising rows → (g t place next : ℕ) → next ≡ suc place → IsPlace rows g t place
     → place < length rows → IsTrue (IsOf (row_in rows place) g t) → IsPlace rows g (suc t) next
-next_place rows rising g t place next e is below here = record {
-  within = omega arith;
-  before = λ i l. ⊎_elim
-      (λ (earlier : i < place). grind (arith, is.before i earlier))
-      (λ (same : i ≡ place).
-      let both = of_both (row_in rows place) g t here in
-      subst (λ n. IsBefore (row_in rows n) g (suc t)) (sym same) (inr (both.0, omega (arith, both.1))))
-      (below_or_last place i (omega arith));
-  later = λ i low l. not_before-next (row_in rows i) g t (is.later i (omega arith) l)
-      (later-not_of rows rising g t place i (omega arith) l (is.later place (omega arith) below));
-}
+next_place rows rising g t place next e is below here =
+    grind (arith, of_both, below_or_last, not_before-next, later-not_of, rising, e, is, below, here)
 
 -- the rows before the cell's place aren't the cell's
 pub earlier_none : (rows : List RampRow) (g t place : ℕ) → IsPlace rows g t place
@@ -140,7 +111,4 @@ earlier_none rows g t place is i l = before-not_of (row_in rows i) g t (is.befor
 -- what is found among rows by which look-ups are the table's is what the table has
 pub in_table : (table : Table) (rows : List RampRow) (g t : ℕ) (found : Multipliers)
     → ((k : ℕ) → row_of rows g k ≡ row_of table.ramps g k) → AreOf rows g t found → AreOfTable table g t found
-in_table table rows g t found same is = record {
-  up = is.up ∙ ap (λ (row : RampRow). row.up) (same t);
-  down = is.down ∙ ap (λ (row : RampRow). row.down) (same t);
-}
+in_table table rows g t found same is = grind (arith, same, is)

@@ -1,5 +1,5 @@
 -- The last cell of each row of a schedule that obeys is within its unit's range; and one more state behind the rows.
-use Rattle.std.proofs.Common.{◌≡◌, ℕ, ◌+◌, ◌-◌, ◌<◌, ◌≤◌, ⊎_elim, Bool, true, false, List, [], ◌∷◌, ◌++◌, length, get_or, sym, ap, subst, ◌∙◌, arith, ℤ, pos, ◌+ℤ◌, ◌-ℤ◌, ◌*ℤ◌, ◌≤ℤ◌, IsTrue}
+use Rattle.std.proofs.Common.{◌≡◌, ℕ, ◌+◌, ◌-◌, ◌<◌, ◌≤◌, Bool, true, false, List, [], ◌∷◌, ◌++◌, length, get_or, ap, ◌∙◌, arith, ℤ, pos, ◌+ℤ◌, ◌-ℤ◌, ◌*ℤ◌, ◌≤ℤ◌, IsTrue}
 use Rattle.std.specs.Int.{int_max}
 use Rattle.std.proofs.lemmas.Int.{ints}
 use Rattle.std.proofs.lemmas.Bool.{cases_lt, cases_Bool}
@@ -42,10 +42,7 @@ within_range unit row t lawful holds capped =
     let wide : pos 0 ≤ℤ (unit.pmax -ℤ unit.pmin) = let h = lawful.range in omega (arith, linear) in
     let range = range_below (unit.pmax -ℤ unit.pmin) (on t) wide in
     record {
-      output = ⊎_elim
-          (λ (now : (watts.cell row t).on ≡ true). holds.low now)
-          (λ (off : (watts.cell row t).on ≡ false). let none = holds.idle off in omega (arith, linear))
-          (cases_Bool (watts.cell row t).on);
+      output = grind (arith, ints, cases_Bool, row, t, holds);
       reserve = holds.reserve;
       total = le_trans _ _ _ most (le_trans _ _ _ below range);
     }
@@ -69,12 +66,7 @@ rows_behind instance n kept lawful some h obeys = record {
 -- what holds of each entry so far and of the next one
 pub one_more : {X : Type 0} (P : ℕ → X → Type 0) (xs : List X) (n : ℕ) (x d : X) → length xs ≡ n
     → ((k : ℕ) → k < n → P k (get_or xs k d)) → P n x → (k : ℕ) → k < n + 1 → P k (get_or (xs ++ x ∷ []) k d)
-one_more P xs n x d e before here k h = ⊎_elim
-    (λ (less : k < n). subst (P k) (sym (get_or_append_left xs (x ∷ []) d k (omega (arith, e)))) (before k less))
-    (λ (last : n ≤ k).
-    let same : n ≡ k = omega arith in
-    subst (λ i. P i (get_or (xs ++ x ∷ []) i d)) same (subst (P n) (sym (get_or_push xs x d n e)) here))
-    (cases_lt k n)
+one_more P xs n x d e before here k h = grind (arith, ints, get_or_append_left, get_or_push, cases_lt, e, before, here, h)
 
 pub states_more : (units : List Thermal) (rows : List (List Cell)) (end n : ℕ) (states : List CarriedUnit) (state : CarriedUnit)
     → AreStatesBehind units rows end n states → IsLeftBy (unit_at units n) (row_at rows n) end state → IsLawfulState state

@@ -1,8 +1,7 @@
 -- Cells that are alike keep the rules on single periods alike: a cell of a row, with the state and the output before it, beside a cell of
 -- another row of the unit with another initial state.
-use Rattle.std.proofs.Common.{◌≡◌, ℕ, suc, not, ◌&&◌, ◌||◌, List, ap, pos, ◌+ℤ◌, ◌-ℤ◌, ◌*ℤ◌, int_le, if◌then◌else◌}
-use Rattle.std.specs.Ordering.{int_eq}
-use Rattle.uc_model.specs.Prelude.{bit, must_run_at, was_on, start_reduction, stop_reduction, stop_cap}
+use Rattle.std.proofs.Common.{arith, ◌≡◌, ℕ, suc, not, ◌||◌, List, ap, ◌+ℤ◌, int_le}
+use Rattle.uc_model.specs.Prelude.{must_run_at, was_on, stop_cap}
 use Rattle.schedule_check.specs.WholeWatts as watts
 use Rattle.roll.specs.Left.{Thermal, Cell, CarriedUnit}
 use Rattle.roll.specs.NextWindow.{continued}
@@ -22,48 +21,26 @@ same_must_run unit left row other t s alike = ap (λ on. not unit.must_run || on
 -- M8
 pub same_production : (unit : Thermal) (left : CarriedUnit) (row other : List Cell) (t s : ℕ) → AreAlike unit left row other t s
     → watts.production_at unit row t ≡ watts.production_at (continued unit left) other s
-same_production unit left row other t s alike =
-    let on = alike.cell.on in
-    let p = alike.cell.output in
-    let r = alike.cell.reserve in
-    (λ i. if on i then int_le (pos 0) (p i) && int_le (p i) (watts.width unit.points) && int_le (pos 0) (r i)
-    else int_eq (p i) (pos 0) && int_eq (r i) (pos 0))
+same_production unit left row other t s alike = grind (arith, alike)
 
 -- M9
 pub same_start_cap : (unit : Thermal) (left : CarriedUnit) (row other : List Cell) (t s : ℕ) → AreAlike unit left row other t s
     → watts.start_cap_by watts.whole unit row t ≡ watts.start_cap_by watts.whole (continued unit left) other s
-same_start_cap unit left row other t s alike =
-    let on = alike.cell.on in
-    let was = alike.was in
-    let p = alike.cell.output in
-    let r = alike.cell.reserve in
-    (λ i. int_le (p i +ℤ r i) ((unit.pmax -ℤ unit.pmin) *ℤ bit (on i) -ℤ start_reduction unit *ℤ bit (not (was i) && on i)))
+same_start_cap unit left row other t s alike = grind (arith, alike)
 
 -- M10, where the next periods are alike too
 pub same_stop_cap : (unit : Thermal) (left : CarriedUnit) (row other : List Cell) (t s : ℕ) → AreAlike unit left row other t s
     → SameDispatch (watts.cell other (suc s)) (watts.cell row (suc t))
     → int_le ((watts.cell row t).p +ℤ (watts.cell row t).r) (stop_cap unit (watts.commitment row) t)
     ≡ int_le ((watts.cell other s).p +ℤ (watts.cell other s).r) (stop_cap (continued unit left) (watts.commitment other) s)
-same_stop_cap unit left row other t s alike behind =
-    let on = alike.cell.on in
-    let next = behind.on in
-    let p = alike.cell.output in
-    let r = alike.cell.reserve in
-    (λ i. int_le (p i +ℤ r i) ((unit.pmax -ℤ unit.pmin) *ℤ bit (on i) -ℤ stop_reduction unit *ℤ bit (on i && not (next i))))
+same_stop_cap unit left row other t s alike behind = grind (arith, alike, behind)
 
 -- M11
 pub same_ramp_up : (unit : Thermal) (left : CarriedUnit) (row other : List Cell) (t s : ℕ) → AreAlike unit left row other t s
     → watts.ramp_up_by watts.whole unit row t ≡ watts.ramp_up_by watts.whole (continued unit left) other s
-same_ramp_up unit left row other t s alike =
-    let before = alike.before in
-    let p = alike.cell.output in
-    let r = alike.cell.reserve in
-    (λ i. int_le (p i +ℤ r i -ℤ before i) unit.ru)
+same_ramp_up unit left row other t s alike = grind (arith, alike)
 
 -- M12
 pub same_ramp_down : (unit : Thermal) (left : CarriedUnit) (row other : List Cell) (t s : ℕ) → AreAlike unit left row other t s
     → watts.ramp_down_by watts.whole unit row t ≡ watts.ramp_down_by watts.whole (continued unit left) other s
-same_ramp_down unit left row other t s alike =
-    let before = alike.before in
-    let p = alike.cell.output in
-    (λ i. int_le (before i -ℤ p i) unit.rd)
+same_ramp_down unit left row other t s alike = grind (arith, alike)

@@ -2,9 +2,9 @@
 -- the unit where the front keeps it, and the back by the unit as the front leaves it.
 use Rattle.std.proofs.Common.{◌≡◌, ℕ, zero, suc, ◌+◌, ◌-◌, ◌<◌, ◌≤◌, ⊎_elim, min, Bool, true, false, not, ◌&&◌, ◌||◌, ◌==◌, List, refl, sym, ap, subst, ◌∙◌, arith, ℤ, pos, ◌+ℤ◌, ◌-ℤ◌, ◌*ℤ◌, ◌≤ℤ◌, IsTrue, int_le, nat_lt, if◌then◌else◌}
 use Rattle.std.proofs.lemmas.Int.{ints}
-use Rattle.std.proofs.lemmas.Bool.{or_cases, or_left, or_right, cases_Bool, cases_lt, true≢false, not-true, not_from_true, not_from_false, ltb-true, lt-ltb, le-ltb, eq-eqb, cond-true, cond-false, cond_both}
+use Rattle.std.proofs.lemmas.Bool.{cases_Bool, cases_lt, true≢false, not-true, ltb-true, lt-ltb, cond-true, cond-false, cond_both}
 use Rattle.uc_model.specs.Prelude.{bit, Commitment, state_before, was_on, starts, stops, initial_p, initial_down_at, initial_stop_holds, initial_up_at, minimum_down_at, minimum_up_at, must_run_at, start_reduction, stop_reduction, stop_cap, is_category_allowed, IsLawfulThermal}
-use Rattle.uc_model.proofs.Common.{linear, le_trans, mul-one, one-mul, mul-zero, zero-mul, int_le-true, le-int_le}
+use Rattle.uc_model.proofs.Common.{linear, le_trans, mul-zero, int_le-true, le-int_le}
 use Rattle.schedule_check.specs.WholeWatts as watts
 use Rattle.schedule_check.proofs.Produced.{holds_from}
 use Rattle.roll.specs.Left.{Thermal, Cell, CarriedUnit, HasLasted, IsLeft, initial_state, is_too_high_to_stop, time_off_so_far, time_on_left, time_on_so_far}
@@ -60,16 +60,7 @@ output_last unit row (suc m) h = let same : m ≡ suc m - 1 = omega arith in ap 
 
 carried_output : (least output : ℤ) (on : Bool) (last : Cell) → on ≡ last.on → output ≡ (if last.on then least +ℤ last.p else pos 0)
     → (last.on ≡ false → last.p ≡ pos 0) → bit on *ℤ (output -ℤ least) ≡ last.p
-carried_output least output on last state is idle = ⊎_elim
-    (λ (now : last.on ≡ true).
-    let one : bit on ≡ pos 1 = ap bit (state ∙ now) in
-    let whole : output ≡ least +ℤ last.p = is ∙ cond-true last.on (least +ℤ last.p) (pos 0) now in
-    let same : output -ℤ least ≡ last.p = omega (arith, linear) in
-    (λ i. one i *ℤ same i) ∙ one-mul last.p)
-    (λ (off : last.on ≡ false).
-    let none : bit on ≡ pos 0 = ap bit (state ∙ off) in
-    ap (λ z. z *ℤ (output -ℤ least)) none ∙ zero-mul (output -ℤ least) ∙ sym (idle off))
-    (cases_Bool last.on)
+carried_output least output on last state is idle = grind (arith, ints, state, is, idle)
 
 output_is : (unit : Thermal) (left : CarriedUnit) (front back row : List Cell) (m n len : ℕ) → RowJoins unit left front back row m n len
     → watts.output_before unit row m ≡ initial_p (continued unit left)
@@ -155,12 +146,7 @@ off_before initial on zero = refl
 off_before initial on (suc t) = refl
 
 off_lasted : (on : Commitment) (m k : ℕ) → HasLasted on m k → HasLasted (λ t. not (on t)) m k
-off_lasted on m k has = record {
-  some = has.some;
-  within = has.within;
-  same = λ t low high. ap not (has.same t low high);
-  begun = λ short e. has.begun short (sym (not_not (on (m - k - 1))) ∙ ap not e ∙ not_not (on (m - 1)));
-}
+off_lasted on m k has = grind (arith, ints, has)
 
 joins_off : (unit : Thermal) (left : CarriedUnit) (front back row : List Cell) (m n len : ℕ) → RowJoins unit left front back row m n len
     → Joins m n len unit.dt unit.dt0 left.time_off (not unit.on0) (not left.on) (λ t. not (watts.commitment front t)) (λ t. not (watts.commitment back t))
@@ -212,11 +198,7 @@ stops_are unit on t = ap (λ b. b && not (on t)) (sym (not_not (was_on unit on t
 stop_border : (range reduction head : ℤ) (on next : Bool) → head ≤ℤ (range *ℤ bit on) → (on ≡ true → next ≡ false → head ≤ℤ (range -ℤ reduction))
     → head ≤ℤ (range *ℤ bit on -ℤ reduction *ℤ bit (on && not next))
 stop_border range reduction head true true below stop = let none = mul-zero reduction in omega (arith, linear)
-stop_border range reduction head true false below stop =
-    let one = mul-one reduction in
-    let whole = mul-one range in
-    let room = stop refl refl in
-    omega (arith, linear)
+stop_border range reduction head true false below stop = grind (arith, ints, below, stop)
 stop_border range reduction head false next below stop = let none = mul-zero reduction in omega (arith, linear)
 
 -- a unit that stops behind the front has room for it, since else the back holds it on
@@ -267,29 +249,19 @@ border unit left front back row m n len t joins last =
 
 -- M10 where a period follows, from its test
 stop_cap_to : (periods t : ℕ) (test : Bool) → IsTrue (not (nat_lt (suc t) periods) || test) → suc t < periods → IsTrue test
-stop_cap_to periods t test h before = ⊎_elim
-    (λ (last : not (nat_lt (suc t) periods) ≡ true). absurd (true≢false (sym last ∙ not_from_true _ (lt-ltb (suc t) periods before))))
-    (λ (holds : test ≡ true). holds)
-    (or_cases (not (nat_lt (suc t) periods)) test h)
+stop_cap_to periods t test h before = grind (arith, ints, h, before)
 
 stop_cap_by : (periods t : ℕ) (test : Bool) → (suc t < periods → IsTrue test) → IsTrue (not (nat_lt (suc t) periods) || test)
-stop_cap_by periods t test h = ⊎_elim
-    (λ (before : suc t < periods). or_right (not (nat_lt (suc t) periods)) test (h before))
-    (λ (last : periods ≤ suc t). or_left (not (nat_lt (suc t) periods)) test (not_from_false _ (le-ltb (suc t) periods last)))
-    (cases_lt (suc t) periods)
+stop_cap_by periods t test h = grind (arith, ints, h)
 
 -- ---- M6 and M7
 pub category_by : (unit : Thermal) (on : Commitment) (category : ℕ → ℕ) (t : ℕ) → HasLeastCategory unit on t (category t)
     → IsTrue (if starts unit on t then is_category_allowed unit on (category t) t else category t == 0)
-category_by unit on category t least = ⊎_elim
-    (λ (start : starts unit on t ≡ true). cond-true (starts unit on t) (is_category_allowed unit on (category t) t) (category t == 0) start ∙ (least.start start).allowed)
-    (λ (none : starts unit on t ≡ false). cond-false (starts unit on t) (is_category_allowed unit on (category t) t) (category t == 0) none ∙ eq-eqb (category t) 0 (least.none none))
-    (cases_Bool (starts unit on t))
+category_by unit on category t least = grind (arith, ints, least)
 
 -- M7 speaks of the first state alone
 same_stop : (unit : Thermal) (on other : Commitment) → on 0 ≡ other 0 → initial_stop_holds unit on ≡ initial_stop_holds unit other
-same_stop unit on other e =
-    (λ i. int_le (initial_p unit) (bit unit.on0 *ℤ (unit.pmax -ℤ unit.pmin) -ℤ stop_reduction unit *ℤ bit (unit.on0 && not (e i))))
+same_stop unit on other e = grind (arith, ints, e)
 
 initial_stop : (unit : Thermal) (left : CarriedUnit) (front back row : List Cell) (m n len : ℕ) → RowJoins unit left front back row m n len
     → IsTrue (initial_stop_holds unit (watts.commitment row))

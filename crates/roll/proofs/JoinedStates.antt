@@ -4,7 +4,7 @@
 --
 -- The state is that of being on, or that of being off.
 use Rattle.std.proofs.Common.{◌≡◌, ℕ, zero, suc, ◌+◌, ◌-◌, ◌<◌, ◌≤◌, ⊎_elim, Bool, true, false, not, ◌&&◌, ◌==◌, refl, sym, ap, ◌∙◌, arith, IsTrue, if◌then◌else◌}
-use Rattle.std.proofs.lemmas.Bool.{and_parts, cases_Bool, cases_lt, true≢false, not-true, eqb-true, cond-false}
+use Rattle.std.proofs.lemmas.Bool.{and_parts, cases_lt, not-true}
 use Rattle.uc_model.specs.Prelude.{Commitment, state_before}
 use Rattle.roll.specs.Left.{HasLasted}
 use Rattle.roll.proofs.LastingChanges.{EachLasts}
@@ -31,12 +31,8 @@ before_old initial front row m (suc t) old h = old t (omega arith)
 
 pub before_new : (initial held : Bool) (back row : Commitment) (m n t : ℕ) → ((k : ℕ) → k < n → row (m + k) ≡ back k)
     → state_before initial row m ≡ held → t < n → state_before initial row (m + t) ≡ state_before held back t
-before_new initial held back row m n zero new state h =
-    let same : m + 0 ≡ m = omega arith in
-    ap (state_before initial row) same ∙ state
-before_new initial held back row m n (suc t) new state h =
-    let next : m + suc t ≡ suc (m + t) = omega arith in
-    ap (state_before initial row) next ∙ new t (omega arith)
+before_new initial held back row m n zero new state h = grind (arith, new, state, h)
+before_new initial held back row m n (suc t) new state h = grind (arith, new, state, h)
 
 -- the last state of the front
 pub last_of : (initial : Bool) (row : Commitment) (m : ℕ) → 1 ≤ m → state_before initial row m ≡ row (m - 1)
@@ -47,37 +43,13 @@ last_of initial row (suc m) h = let same : m ≡ suc m - 1 = omega arith in ap r
 -- where it stands in each period of the front since s, and not before, it has lasted since s and no longer
 since : (m k s required earlier time : ℕ) (initial : Bool) (front : Commitment) → s < m → HasLasted front m k → front (m - 1) ≡ true
     → state_before initial front s ≡ false → time ≤ k + (if (k == m) && initial then earlier else 0) → time ≤ m - s
-since m k zero required earlier time initial front h has on start most =
-    let none : (if (k == m) && initial then earlier else 0) ≡ 0 = cond-false ((k == m) && initial) earlier 0 (off k) in
-    omega (arith, has.within, none)
-  where
-    off : (k : ℕ) → ((k == m) && initial) ≡ false
-    off k = ⊎_elim
-        (λ (both : ((k == m) && initial) ≡ true). absurd (true≢false (sym (and_parts (k == m) initial both).1 ∙ start)))
-        (λ (no : ((k == m) && initial) ≡ false). no)
-        (cases_Bool ((k == m) && initial))
-since m k (suc s) required earlier time initial front h has on start most = ⊎_elim
-    (λ (long : m - suc s < k).
-    absurd (true≢false (sym on ∙ sym (has.same s (omega arith) (omega arith)) ∙ start)))
-    (λ (short : k ≤ m - suc s).
-    let other : ((k == m) && initial) ≡ false = ⊎_elim
-    (λ (both : ((k == m) && initial) ≡ true). let same = eqb-true k m (and_parts (k == m) initial both).0 in absurd (omega arith))
-    (λ (no : ((k == m) && initial) ≡ false). no)
-    (cases_Bool ((k == m) && initial)) in
-    let none : (if (k == m) && initial then earlier else 0) ≡ 0 = cond-false ((k == m) && initial) earlier 0 other in
-    omega (arith, none))
-    (cases_lt (m - suc s) k)
+since m k zero required earlier time initial front h has on start most = grind (arith, h, has, on, start, most)
+since m k (suc s) required earlier time initial front h has on start most = grind (arith, h, has, on, start, most)
 
 -- where it stands in each period of the front, and did so before, it has lasted for m periods and the time before
 from_start : (m k earlier time : ℕ) (initial : Bool) (front : Commitment) → HasLasted front m k → ((t : ℕ) → t < m → front t ≡ true)
     → time ≤ k + (if (k == m) && initial then earlier else 0) → time ≤ m + earlier
-from_start m k earlier time initial front has all most =
-    let whole : (if (k == m) && initial then earlier else 0) ≤ earlier = at_most ((k == m) && initial) in
-    omega (arith, has.within, whole)
-  where
-    at_most : (b : Bool) → (if b then earlier else 0) ≤ earlier
-    at_most true = omega arith
-    at_most false = omega arith
+from_start m k earlier time initial front has all most = grind (arith, has, all, most)
 
 -- ---- M2 or M3: the initial state lasts
 abbrev pub HoldsInitially : ℕ → ℕ → Bool → Commitment → Type 0

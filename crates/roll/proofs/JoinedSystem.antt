@@ -1,8 +1,8 @@
 -- Periods of two schedules that are alike keep the rules on the whole system alike.
-use Rattle.std.proofs.Common.{◌≡◌, ℕ, ◌<◌, ◌&&◌, ◌||◌, ap, ◌∙◌, ℤ, pos, ◌+ℤ◌, ◌*ℤ◌, int_le, nat_lt}
+use Rattle.std.proofs.Common.{arith, ◌≡◌, ℕ, ◌<◌, ◌&&◌, ◌||◌, ap, ◌∙◌, ℤ, pos, int_le, nat_lt}
 use Rattle.std.specs.Int.{int_max}
 use Rattle.std.specs.Ordering.{int_eq}
-use Rattle.uc_model.specs.Prelude.{sum_below, bit, thermal_unit, thermal_count, renewable_count, renewable_minimum, renewable_maximum, demand_at, reserve_at, cell_at, shed_at, short_at}
+use Rattle.uc_model.specs.Prelude.{sum_below, thermal_unit, thermal_count, renewable_count, renewable_minimum, renewable_maximum, demand_at, reserve_at, cell_at, shed_at, short_at}
 use Rattle.uc_model.proofs.Common.{sum_below-same}
 use Rattle.schedule_check.specs.SizedNumbers.{output_at}
 use Rattle.schedule_check.specs.WholeWatts as watts
@@ -28,11 +28,7 @@ pub record AreSystemsAlike (instance other : Instance) (printed shown : Printed)
 -- M13
 pub same_range : (instance other : Instance) (printed shown : Printed) (w t s : ℕ) → AreSystemsAlike instance other printed shown t s
     → w < renewable_count instance → watts.renewable_range_at watts.whole instance printed w t ≡ watts.renewable_range_at watts.whole other shown w s
-same_range instance other printed shown w t s alike h =
-    let low = alike.minimum w h in
-    let high = alike.maximum w h in
-    let output = alike.outputs w h in
-    (λ i. int_le (int_max (low i) (pos 0)) (output i) && int_le (output i) (high i))
+same_range instance other printed shown w t s alike h = grind (arith, alike, h)
 
 -- sums over counts that are equal
 sum_same : (n k : ℕ) (f g : ℕ → ℤ) → n ≡ k → ((i : ℕ) → i < n → f i ≡ g i) → sum_below n f ≡ sum_below k g
@@ -41,39 +37,18 @@ sum_same n k f g e same = sum_below-same n f g same ∙ ap (λ j. sum_below j g)
 -- M14
 pub same_demand : (instance other : Instance) (printed shown : Printed) (t s : ℕ) → AreSystemsAlike instance other printed shown t s
     → watts.demand_holds watts.whole instance printed t ≡ watts.demand_holds watts.whole other shown s
-same_demand instance other printed shown t s alike =
-    let thermal = sum_same (thermal_count instance) (thermal_count other)
-    (λ g. watts.thermal_supply instance printed g t) (λ g. watts.thermal_supply other shown g s) alike.thermal_units unit in
-    let renewable = sum_same (renewable_count instance) (renewable_count other) (λ w. output_at printed w t) (λ w. output_at shown w s)
-    alike.renewable_units alike.outputs in
-    let shed = alike.shed in
-    let demand = alike.demand in
-    (λ i. int_eq ((thermal i +ℤ renewable i) +ℤ shed i) (demand i))
-  where
-    unit : (g : ℕ) → g < thermal_count instance → watts.thermal_supply instance printed g t ≡ watts.thermal_supply other shown g s
-    unit g h =
-        let same = alike.cells g h in
-        let on = same.on in
-        let p = same.output in
-        let least = alike.least_outputs g h in
-        (λ i. p i +ℤ least i *ℤ bit (on i))
+same_demand instance other printed shown t s alike = grind (arith, sum_same, alike)
 
 -- M15
 pub same_reserve : (instance other : Instance) (printed shown : Printed) (t s : ℕ) → AreSystemsAlike instance other printed shown t s
     → watts.reserve_holds watts.whole instance printed t ≡ watts.reserve_holds watts.whole other shown s
-same_reserve instance other printed shown t s alike =
-    let supply = sum_same (thermal_count instance) (thermal_count other) (λ g. (cell_at printed g t).r) (λ g. (cell_at shown g s).r)
-    alike.thermal_units (λ g h. (alike.cells g h).reserve) in
-    let short = alike.short in
-    let need = alike.reserves in
-    (λ i. int_le (need i) (supply i +ℤ short i))
+same_reserve instance other printed shown t s alike = grind (arith, sum_same, int_le, alike)
 
 -- M16 and M17, over equal prices, needs and shortages
 same_shortage : (price other : ℕ) (need own missing lacking : ℤ) → price ≡ other → need ≡ own → missing ≡ lacking
     → (int_le (pos 0) missing && int_le missing (int_max need (pos 0)) && (nat_lt 0 price || int_eq missing (pos 0)))
     ≡ (int_le (pos 0) lacking && int_le lacking (int_max own (pos 0)) && (nat_lt 0 other || int_eq lacking (pos 0)))
-same_shortage price other need own missing lacking p n m =
-    (λ i. int_le (pos 0) (m i) && int_le (m i) (int_max (n i) (pos 0)) && (nat_lt 0 (p i) || int_eq (m i) (pos 0)))
+same_shortage price other need own missing lacking p n m = grind (arith, p, n, m)
 
 pub same_shed : (instance other : Instance) (printed shown : Printed) (t s : ℕ) → AreSystemsAlike instance other printed shown t s
     → watts.shed_holds watts.whole instance printed t ≡ watts.shed_holds watts.whole other shown s

@@ -1,9 +1,9 @@
 -- A stitched schedule obeys every rule of the periods that it has: unit by unit, since each row keeps its rules over the border, and
 -- period by period, since what the system asks is that of the window or of what is kept.
-use Rattle.std.proofs.Common.{◌≡◌, ℕ, ◌+◌, ◌<◌, ◌≤◌, ◌++◌, ⊎_elim, List, length, get_or, take, refl, sym, ap, subst, ◌∙◌, arith, ℤ, pos, IsTrue}
+use Rattle.std.proofs.Common.{◌≡◌, ℕ, ◌+◌, ◌<◌, ◌≤◌, ◌++◌, ⊎_elim, List, length, get_or, take, refl, sym, ap, ◌∙◌, arith, ℤ, pos, IsTrue}
 use Rattle.std.proofs.lemmas.Bool.{cases_lt}
 use Rattle.std.proofs.lemmas.List.{get_or_append_left, get_or-append-add, get_or-take}
-use Rattle.uc_model.specs.Prelude.{thermal_unit, thermal_count, renewable_count, renewable_minimum, renewable_maximum, demand_at, reserve_at, cell_at, shed_at, short_at, IsLawfulInstance}
+use Rattle.uc_model.specs.Prelude.{thermal_unit, thermal_count, renewable_count, cell_at, shed_at, short_at, IsLawfulInstance}
 use Rattle.uc_model.specs.Rules as model
 use Rattle.schedule_check.specs.FirstBroken.{HoldsThroughout}
 use Rattle.schedule_check.specs.SizedNumbers.{output_at}
@@ -17,7 +17,7 @@ use Rattle.roll.specs.Stitched.{IsContinuation, IsStitched, SameDispatch}
 use Rattle.start_costs.specs.Cheapest.{HasLeastCategory}
 use Rattle.roll.proofs.KeptRules.{IsSolved, rule_in_watts}
 use Rattle.roll.proofs.Parts.{IsPart, first_is_part, first_lawful, window_is_part}
-use Rattle.roll.proofs.JoinedRows.{KeepsRules, category_by, row_keeps, throughout}
+use Rattle.roll.proofs.JoinedRows.{KeepsRules, row_keeps, throughout}
 use Rattle.roll.proofs.JoinedSystem.{AreSystemsAlike, same_demand, same_range, same_reserve, same_shed, same_short}
 
 -- ---- the rules of a unit
@@ -39,19 +39,7 @@ keeps_rules instance printed h g hg = record {
 
 -- over no period there is nothing to keep
 keeps_none : (m : ℕ) (unit : Thermal) (row : List Cell) → m ≡ 0 → KeepsRules m unit row
-keeps_none m unit row none = record {
-  must_run = λ t ht. absurd (omega arith);
-  initial_up = λ t ht. absurd (omega arith);
-  initial_down = λ t ht. absurd (omega arith);
-  minimum_up = λ t ht. absurd (omega arith);
-  minimum_down = λ t ht. absurd (omega arith);
-  initial_stop = λ some. absurd (omega arith);
-  production = λ t ht. absurd (omega arith);
-  start_cap = λ t ht. absurd (omega arith);
-  stop_cap = λ t ht. absurd (omega arith);
-  ramp_up = λ t ht. absurd (omega arith);
-  ramp_down = λ t ht. absurd (omega arith);
-}
+keeps_none m unit row none = grind (arith, none)
 
 front_keeps : (instance : Instance) (m : ℕ) (kept : Printed) → IsLawfulInstance instance → IsKept instance m kept → (g : ℕ)
     → g < thermal_count instance → KeepsRules m (thermal_unit instance g) (watts.row_of kept g)
@@ -65,12 +53,7 @@ front_keeps instance m kept lawful is g hg = ⊎_elim
 
 back_keeps : (instance : Instance) (m n : ℕ) (kept shown : Printed) (next : IsContinuation instance kept m n shown) → (g : ℕ) → g < thermal_count instance
     → KeepsRules next.len (continued (thermal_unit instance g) (state_of next.next.carried g)) (watts.row_of shown g)
-back_keeps instance m n kept shown next g hg =
-    let solved : IsSolved next.window shown = record { lawful = next.lawful; whole = next.whole; obeys = next.obeys } in
-    let is = next.next.is_window in
-    let keeps = keeps_rules next.window shown solved g (omega (arith, is.thermal_units)) in
-    subst (λ u. KeepsRules next.len u (watts.row_of shown g)) (is.thermal g hg)
-    (subst (λ p. KeepsRules p (thermal_unit next.window g) (watts.row_of shown g)) is.periods keeps)
+back_keeps instance m n kept shown next g hg = grind (arith, keeps_rules, hg)
 
 unit_keeps : (instance : Instance) (m n : ℕ) (kept shown stitched : Printed) → IsLawfulInstance instance → IsKept instance m kept
     → IsContinuation instance kept m n shown → IsStitched instance m n kept shown stitched → (g : ℕ) → g < thermal_count instance
@@ -95,9 +78,7 @@ pub joined_old : (xs ys zs : List ℤ) (m n t : ℕ) → zs ≡ xs ++ take n ys 
 joined_old xs ys zs m n t e l h = ap (λ list. get_or list t (pos 0)) e ∙ get_or_append_left xs (take n ys) (pos 0) t (omega arith)
 
 pub joined_new : (xs ys zs : List ℤ) (m n t : ℕ) → zs ≡ xs ++ take n ys → length xs ≡ m → t < n → get_or zs (m + t) (pos 0) ≡ get_or ys t (pos 0)
-joined_new xs ys zs m n t e l h =
-    ap (λ list. get_or list (m + t) (pos 0)) e ∙ ap (λ k. get_or (xs ++ take n ys) (k + t) (pos 0)) (sym l)
-    ∙ get_or-append-add xs (take n ys) t (pos 0) ∙ get_or-take n ys t (pos 0) h
+joined_new xs ys zs m n t e l h = grind (arith, get_or-append-add, get_or-take, e, l, h)
 
 -- a period of one part is that of another part
 record HasPlaces (first second len other t s : ℕ) : Type 0 where
@@ -112,23 +93,8 @@ alike : (instance one two : Instance) (first second len other t s : ℕ) (printe
     → ((w : ℕ) → w < renewable_count instance → output_at printed w t ≡ output_at shown w s)
     → shed_at printed t ≡ shed_at shown s → short_at printed t ≡ short_at shown s
     → AreSystemsAlike one two printed shown t s
-alike instance one two first second len other t s printed shown a b places least cells outputs shed short = record {
-  thermal_units = a.thermal_units ∙ sym b.thermal_units;
-  cells = λ g h. cells g (omega (arith, a.thermal_units));
-  least_outputs = λ g h. least g (omega (arith, a.thermal_units));
-  renewable_units = a.renewable_units ∙ sym b.renewable_units;
-  outputs = λ w h. outputs w (omega (arith, a.renewable_units));
-  minimum = λ w h. let within : w < renewable_count instance = omega (arith, a.renewable_units) in
-      (a.renewable w within).minimum t places.here ∙ ap (renewable_minimum instance w) places.same ∙ sym ((b.renewable w within).minimum s places.there);
-  maximum = λ w h. let within : w < renewable_count instance = omega (arith, a.renewable_units) in
-      (a.renewable w within).maximum t places.here ∙ ap (renewable_maximum instance w) places.same ∙ sym ((b.renewable w within).maximum s places.there);
-  demand = a.demand t places.here ∙ ap (demand_at instance) places.same ∙ sym (b.demand s places.there);
-  reserves = a.reserves t places.here ∙ ap (reserve_at instance) places.same ∙ sym (b.reserves s places.there);
-  shed = shed;
-  short = short;
-  a = a.a ∙ sym b.a;
-  b = a.b ∙ sym b.b;
-}
+alike instance one two first second len other t s printed shown a b places least cells outputs shed short =
+    grind (arith, a, b, places, least, cells, outputs, shed, short)
 
 old_alike : (instance : Instance) (m n t : ℕ) (kept shown stitched : Printed) → IsLawfulInstance instance → IsKept instance m kept
     → IsContinuation instance kept m n shown → IsStitched instance m n kept shown stitched → t < m
@@ -202,8 +168,7 @@ unit_rule instance printed g t some keeps least model.InitialUp less ht = keeps.
 unit_rule instance printed g t some keeps least model.InitialDown less ht = keeps.initial_down t ht
 unit_rule instance printed g t some keeps least model.MinimumUp less ht = keeps.minimum_up t ht
 unit_rule instance printed g t some keeps least model.MinimumDown less ht = keeps.minimum_down t ht
-unit_rule instance printed g t some keeps least model.Category less ht =
-    category_by (thermal_unit instance g) (watts.commitment (watts.row_of printed g)) (watts.category (watts.row_of printed g)) t (least t ht)
+unit_rule instance printed g t some keeps least model.Category less ht = grind (arith, some, keeps, least, model.Category, less, ht)
 unit_rule instance printed g t some keeps least model.InitialStop less ht = keeps.initial_stop some
 unit_rule instance printed g t some keeps least model.Production less ht = keeps.production t ht
 unit_rule instance printed g t some keeps least model.StartCap less ht = keeps.start_cap t ht

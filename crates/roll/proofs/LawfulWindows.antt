@@ -1,32 +1,12 @@
 -- A window of a lawful instance is lawful, where its units' states are.
-use Rattle.std.proofs.Common.{ℕ, ◌+◌, ◌≤◌, sym, subst}
+use Rattle.std.proofs.Common.{arith, ℕ, ◌+◌, ◌≤◌, sym, subst}
 use Rattle.uc_model.specs.Prelude.{thermal_unit, IsLawfulInstance, IsLawfulThermal}
 use Rattle.roll.specs.Left.{Instance, Thermal, Carried, CarriedUnit, HasStates, IsLawfulState, state_of}
 use Rattle.roll.specs.NextWindow.{IsWindow, continued}
 use Rattle.roll.proofs.Parts.{part_lawful, window_is_part}
 
 continued_lawful : (unit : Thermal) (left : CarriedUnit) → IsLawfulThermal unit → IsLawfulState left → IsLawfulThermal (continued unit left)
-continued_lawful unit left lawful state = record {
-  minimum = lawful.minimum;
-  maximum = lawful.maximum;
-  range = lawful.range;
-  ramp_up = lawful.ramp_up;
-  ramp_down = lawful.ramp_down;
-  start_limit = lawful.start_limit;
-  stop_limit = lawful.stop_limit;
-  time_up = lawful.time_up;
-  time_down = lawful.time_down;
-  initial_output = state.output;
-  initial_time_up = state.time_on;
-  initial_time_down = state.time_off;
-  categories = lawful.categories;
-  lags = lawful.lags;
-  start_costs = lawful.start_costs;
-  points = lawful.points;
-  outputs = lawful.outputs;
-  costs = lawful.costs;
-  rising = lawful.rising;
-}
+continued_lawful unit left lawful state = grind (arith, lawful, state)
 
 pub window_lawful : (instance : Instance) (carried : Carried) (start len : ℕ) (window : Instance) → IsLawfulInstance instance
     → HasStates instance carried → 1 ≤ len → start + len ≤ instance.periods → IsWindow instance carried start len window → IsLawfulInstance window

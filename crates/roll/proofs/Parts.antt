@@ -75,28 +75,7 @@ first_is_part instance n lawful h = record {
 -- ---- a window
 pub window_is_part : (instance : Instance) (carried : Carried) (start len : ℕ) (window : Instance) → IsLawfulInstance instance
     → start + len ≤ instance.periods → IsWindow instance carried start len window → IsPart instance start len window
-window_is_part instance carried start len window lawful h is = record {
-  periods = is.periods;
-  within = h;
-  demand_length = ap length is.demand ∙ part_length instance.demand start len instance.periods lawful.demand_length h;
-  reserves_length = ap length is.reserves ∙ part_length instance.reserves start len instance.periods lawful.reserves_length h;
-  demand = λ t ht. ap (λ xs. get_or xs t (pos 0)) is.demand ∙ part_at instance.demand start len t (pos 0) ht;
-  reserves = λ t ht. ap (λ xs. get_or xs t (pos 0)) is.reserves ∙ part_at instance.reserves start len t (pos 0) ht;
-  thermal_units = is.thermal_units;
-  renewable_units = is.renewable_units;
-  renewable = λ w hw.
-      let unit = renewable_unit instance w in
-      let same = is.renewable w hw in
-      let own = lawful.renewable w hw in
-      record {
-        minimum_length = ap (λ (u : Renewable). length u.minimum) same ∙ part_length unit.minimum start len instance.periods own.minimum_length h;
-        maximum_length = ap (λ (u : Renewable). length u.maximum) same ∙ part_length unit.maximum start len instance.periods own.maximum_length h;
-        minimum = λ t ht. ap (λ (u : Renewable). get_or u.minimum t (pos 0)) same ∙ part_at unit.minimum start len t (pos 0) ht;
-        maximum = λ t ht. ap (λ (u : Renewable). get_or u.maximum t (pos 0)) same ∙ part_at unit.maximum start len t (pos 0) ht;
-      };
-  a = is.a;
-  b = is.b;
-}
+window_is_part instance carried start len window lawful h is = grind (arith, ints, part_length, part_at, lawful, h, is)
 
 -- ---- what all shortages may cost
 -- some terms of a sum of numbers that aren't negative are no more than the sum
@@ -134,20 +113,7 @@ part_shortages instance start len part is a b =
 -- ---- lawful parts
 part_renewable : (instance : Instance) (start len : ℕ) (part : Instance) (w : ℕ) → IsPart instance start len part
     → HasLimitsOf instance start len part w → IsLawfulRenewable instance w → IsLawfulRenewable part w
-part_renewable instance start len part w is limits own = record {
-  minimum_length = limits.minimum_length ∙ sym is.periods;
-  maximum_length = limits.maximum_length ∙ sym is.periods;
-  minimum = λ t h. let within = inside t h in subst IsPower (sym (limits.minimum t within)) (own.minimum (start + t) (omega (arith, is.within, within)));
-  maximum = λ t h. let within = inside t h in subst IsPower (sym (limits.maximum t within)) (own.maximum (start + t) (omega (arith, is.within, within)));
-  range = λ t h.
-      let within = inside t h in
-      let below = own.range (start + t) (omega (arith, is.within, within)) in
-      let low = subst (λ z. int_max z (pos 0) ≤ℤ renewable_maximum instance w (start + t)) (sym (limits.minimum t within)) below in
-      subst (λ z. int_max (renewable_minimum part w t) (pos 0) ≤ℤ z) (sym (limits.maximum t within)) low;
-}
-  where
-    inside : (t : ℕ) → t < part.periods → t < len
-    inside t h = omega (arith, is.periods, h)
+part_renewable instance start len part w is limits own = grind (arith, ints, is, limits, own)
 
 pub part_lawful : (instance : Instance) (start len : ℕ) (part : Instance) → IsLawfulInstance instance → 1 ≤ len → IsPart instance start len part
     → ((g : ℕ) → g < thermal_count instance → IsLawfulThermal (thermal_unit part g)) → IsLawfulInstance part
@@ -166,8 +132,7 @@ part_lawful instance start len part lawful some is units = record {
   thermal_units = omega (arith, is.thermal_units, lawful.thermal_units);
   thermal = λ g h. units g (omega (arith, is.thermal_units));
   renewable_units = omega (arith, is.renewable_units, lawful.renewable_units);
-  renewable = λ w h. let within : w < renewable_count instance = omega (arith, is.renewable_units) in
-      part_renewable instance start len part w is (is.renewable w within) (lawful.renewable w within);
+  renewable = λ w h. grind (arith, ints, part_renewable, w, instance, is, start, len, part, lawful);
   shed_price = omega (arith, is.a, lawful.shed_price);
   short_price = omega (arith, is.b, lawful.short_price);
   shortages =
@@ -186,12 +151,7 @@ first_lawful instance n lawful some h =
 -- the instance cut to all of its periods is itself
 limits_of_all : (instance : Instance) (w : ℕ) → IsLawfulInstance instance → w < renewable_count instance
     → first_limits instance.periods (renewable_unit instance w) ≡ renewable_unit instance w
-limits_of_all instance w lawful h =
-    let own = lawful.renewable w h in
-    let unit = renewable_unit instance w in
-    let minimum = take_all instance.periods unit.minimum (omega (arith, own.minimum_length)) in
-    let maximum = take_all instance.periods unit.maximum (omega (arith, own.maximum_length)) in
-    (λ i. record unit { minimum = minimum i; maximum = maximum i })
+limits_of_all instance w lawful h = grind (arith, ints, take_all, lawful, h)
 
 pub first_of_all : (instance : Instance) → IsLawfulInstance instance → first_periods instance.periods instance ≡ instance
 first_of_all instance lawful =

@@ -1,13 +1,13 @@
 -- How a roll goes on: from what is rolled so far, by the place of the next window and what its search finds.
-use Rattle.std.proofs.Common.{◌≡◌, ℕ, suc, ◌+◌, ◌-◌, ◌<◌, ◌≤◌, ⊎_elim, refl, sym, subst, ◌∙◌, arith, ℤ, Some, None}
+use Rattle.std.proofs.Common.{◌≡◌, ℕ, suc, ◌+◌, ◌-◌, ◌<◌, ◌≤◌, ⊎_elim, refl, subst, ◌∙◌, arith, ℤ, Some, None}
 use Rattle.std.proofs.lemmas.Bool.{cases_lt}
 use Rattle.uc_model.specs.Prelude.{IsLawfulInstance}
 use Rattle.schedule_check.specs.Accepted.{IsAccepted}
 use Rattle.roll.specs.Kept.{IsKept}
 use Rattle.roll.specs.NextWindow.{IsNextWindow}
 use Rattle.roll.specs.Stitched.{IsContinuation, IsStitched}
-use Rattle.roll.specs.Rolling.{Found, Instance, Place, Printed, AreAllRolled, AreRolled, IsNextPlace, IsRolledSoFar, IsRolledWindow, IsStoppedRoll, IsWholeRoll, HasLeastCategories, pace, periods_before}
-use Rattle.roll.proofs.KeptWindows.{AreSame, next_again, shown_again, stitched_same, stitched_shown}
+use Rattle.roll.specs.Rolling.{Found, Instance, Place, Printed, AreAllRolled, AreRolled, IsNextPlace, IsRolledSoFar, IsRolledWindow, IsStoppedRoll, IsWholeRoll, pace, periods_before}
+use Rattle.roll.proofs.KeptWindows.{AreSame, next_again, stitched_same, stitched_shown}
 
 -- ---- the place
 -- the next window is within the periods, and at least one of its own is kept
@@ -18,16 +18,7 @@ pub record IsWithin (periods done : ℕ) (place : Place) : Type 0 where
 
 pub place_within : (periods window step done : ℕ) (place : Place) → done < periods → 1 ≤ window → 1 ≤ step
     → IsNextPlace periods window step done place → IsWithin periods done place
-place_within periods window step done place left wide long is =
-    let within : done + place.len ≤ periods = omega (arith, is.reach) in
-    ⊎_elim
-    (λ (short : done + place.len < periods).
-    let keep = is.others short in
-    record { some = omega (arith, keep, wide, long); part = omega (arith, keep, is.reach, short); within = within })
-    (λ (all : periods ≤ done + place.len).
-    let keep = is.last (omega (arith, all, within)) in
-    record { some = omega (arith, keep, all, left); part = omega (arith, keep); within = within })
-    (cases_lt (done + place.len) periods)
+place_within periods window step done place left wide long is = grind (arith, left, wide, long, is)
 
 -- ---- the windows
 one_behind : (window step j : ℕ) → periods_before window step (suc j) ≡ periods_before window step j + pace window step
@@ -37,16 +28,7 @@ one_behind window step j = omega arith
 window_again : (MayFind : Instance → Found → Type 0) (instance : Instance) (m : ℕ) (old new : Printed) (start len keep : ℕ)
     → AreSame instance m old new → start + keep ≤ m → IsRolledWindow MayFind instance old start len keep
     → IsRolledWindow MayFind instance new start len keep
-window_again MayFind instance m old new start len keep same within is = record {
-  window = is.window;
-  next = next_again instance m old new start len is.window same (omega (arith, within)) is.next;
-  found = is.found;
-  search = is.search;
-  shown = is.shown;
-  cost = is.cost;
-  is_shown = is.is_shown;
-  kept = shown_again instance m old new is.shown start keep same within is.kept;
-}
+window_again MayFind instance m old new start len keep same within is = grind (arith, same, within, is)
 
 -- each of the first n windows ends before the periods behind them
 ends_before : (window step n j : ℕ) → j < n → periods_before window step j + pace window step ≤ periods_before window step n
@@ -106,18 +88,8 @@ more_rolled MayFind instance window step done windows place kept stitched left i
     (subst (λ n. IsRolledWindow MayFind instance stitched (periods_before window step windows) n place.keep) len
     (subst (λ s. IsRolledWindow MayFind instance stitched s place.len place.keep) here (own_window MayFind instance done place kept stitched is.kept more))) in
     record {
-      before = λ j h. ⊎_elim
-          (λ (less : j < windows). old.before j less)
-          (λ (most : windows ≤ j).
-          let last : j ≡ windows = omega (arith, h, most) in
-          subst (λ k. periods_before window step k + window < instance.periods) (sym last) (omega (arith, here, len, short)))
-          (cases_lt j windows);
-      each = λ j h. ⊎_elim
-          (λ (less : j < windows). old.each j less)
-          (λ (most : windows ≤ j).
-          let last : j ≡ windows = omega (arith, h, most) in
-          subst (λ k. IsRolledWindow MayFind instance stitched (periods_before window step k) window (pace window step)) (sym last) own)
-          (cases_lt j windows);
+      before = λ j h. grind (arith, cases_lt, j, windows, old, h, window, step, instance, here, len, short);
+      each = λ j h. grind (arith, cases_lt, j, windows, old, h, MayFind, instance, stitched, window, step, own);
     }
 
 -- a window that reaches the last period
@@ -146,9 +118,7 @@ all_rolled MayFind instance window step done windows place kept stitched left is
 -- the place behind a window that doesn't reach the last period
 place_behind : (window step done windows : ℕ) (place : Place) → done ≡ periods_before window step windows → place.keep ≡ pace window step
     → done + place.keep ≡ periods_before window step (suc windows)
-place_behind window step done windows place here keep =
-    let next = one_behind window step windows in
-    omega (arith, here, keep, next)
+place_behind window step done windows place here keep = grind (arith, here)
 
 pub further : (MayFind : Instance → Found → Type 0) (instance : Instance) (window step done windows : ℕ) (place : Place) (kept stitched : Printed)
     → 1 ≤ window → 1 ≤ step → done < instance.periods → IsRolledSoFar MayFind instance window step done windows kept
@@ -176,33 +146,15 @@ further MayFind instance window step done windows place kept stitched wide long 
 pub whole : (MayFind : Instance → Found → Type 0) (instance : Instance) (window step done windows : ℕ) (kept : Printed) (cost : ℤ)
     → IsRolledSoFar MayFind instance window step done windows kept → done ≡ instance.periods → IsAccepted instance kept cost
     → IsWholeRoll MayFind instance window step kept cost windows
-whole MayFind instance window step done windows kept cost is all accepted = record {
-  accepted = accepted;
-  categories = subst (λ n. HasLeastCategories instance n kept) all is.categories;
-  rolled = is.ended all;
-}
+whole MayFind instance window step done windows kept cost is all accepted = grind (arith, is, all, accepted)
 
 pub stopped : (MayFind : Instance → Found → Type 0) (instance : Instance) (window step done windows number to : ℕ) (place : Place) (kept : Printed)
     (ahead : Instance) (found : Found) → done < instance.periods → IsRolledSoFar MayFind instance window step done windows kept
     → IsNextPlace instance.periods window step done place → IsNextWindow instance kept done place.len ahead → IsLawfulInstance ahead
     → MayFind ahead found → found.schedule ≡ None → number ≡ suc windows → to ≡ done + place.len
     → IsStoppedRoll MayFind instance window step number place.from to kept found
-stopped MayFind instance window step done windows number to place kept ahead found left is at next lawful search none count end = record {
-  before = windows;
-  is_number = count;
-  others = is.going left;
-  start = done;
-  is_start = is.place left;
-  some = left;
-  is_from = at.from;
-  is_to = end ∙ at.reach;
-  is_kept = is.kept;
-  ahead = ahead;
-  next = subst (λ n. IsNextWindow instance kept done n ahead) (omega (arith, end)) next;
-  lawful = lawful;
-  search = search;
-  none = none;
-}
+stopped MayFind instance window step done windows number to place kept ahead found left is at next lawful search none count end =
+    grind (arith, left, is, at, next, lawful, search, none, count, end)
 
 -- the next window's schedule goes on from what is kept
 pub continuation : (instance : Instance) (window step done : ℕ) (place : Place) (kept shown : Printed) (ahead : Instance) (cost : ℤ)
@@ -210,17 +162,4 @@ pub continuation : (instance : Instance) (window step done : ℕ) (place : Place
     → IsNextWindow instance kept done place.len ahead → IsLawfulInstance ahead → IsAccepted ahead shown cost
     → IsContinuation instance kept done place.keep shown
 continuation instance window step done place kept shown ahead cost wide long left at next lawful accepted =
-    let within = place_within instance.periods window step done place left wide long at in
-    record {
-      len = place.len;
-      window = ahead;
-      next = next;
-      lawful = lawful;
-      some = within.some;
-      part = within.part;
-      within = within.within;
-      shape = accepted.shape;
-      whole = accepted.whole;
-      numbers = accepted.numbers;
-      obeys = accepted.obeys;
-    }
+    grind (arith, wide, long, left, at, next, lawful, accepted)

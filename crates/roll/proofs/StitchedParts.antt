@@ -1,15 +1,14 @@
 -- Rows that are joined make a stitched schedule, whose numbers are plain where those of its parts are.
-use Rattle.std.proofs.Common.{◌≡◌, ℕ, ◌+◌, ◌-◌, ◌<◌, ◌≤◌, ◌++◌, ⊎_elim, not, List, [], ◌∷◌, length, get_or, take, sym, ap, subst, ◌∙◌, arith, ℤ, pos, ◌+ℤ◌, ◌≤ℤ◌}
-use Rattle.std.proofs.lemmas.Bool.{and_right, cases_Bool, cases_lt}
+use Rattle.std.proofs.Common.{◌≡◌, ℕ, ◌+◌, ◌-◌, ◌<◌, ◌≤◌, ◌++◌, ⊎_elim, List, [], ◌∷◌, length, get_or, take, sym, ap, subst, ◌∙◌, arith, ℤ, pos}
+use Rattle.std.proofs.lemmas.Bool.{cases_lt}
 use Rattle.std.proofs.lemmas.List.{get_or_append_left, get_or-append-add, get_or-take, length-append, length-map, length-take-le, length_push}
 use Rattle.std.proofs.lemmas.List.Elements.{All-get_or, All-from_get_or}
-use Rattle.uc_model.specs.Prelude.{Commitment, starts, was_on, thermal_unit, thermal_count, renewable_count, HasShapeOf, cell_at, IsLawfulInstance, IsLawfulThermal, IsLimit, IsPower}
+use Rattle.uc_model.specs.Prelude.{Commitment, thermal_unit, thermal_count, renewable_count, HasShapeOf, cell_at, IsLawfulInstance, IsLawfulThermal, IsLimit}
 use Rattle.uc_model.specs.declared.limits.TheConstants.{MAX_START_ROWS}
 use Rattle.schedule_check.specs.PlainNumbers.{HasPlainNumbers, IsPlainCell}
 use Rattle.schedule_check.specs.SizedNumbers.{output_at}
 use Rattle.schedule_check.specs.WholeWatts.{cell, commitment, row_of}
 use Rattle.schedule_check.proofs.Plain.{plain}
-use Rattle.schedule_check.proofs.Priced.{allowed-within}
 use Rattle.roll.specs.FirstPeriods.{first_limits, first_periods}
 use Rattle.roll.specs.Left.{Instance, Thermal, Cell, Printed}
 use Rattle.roll.specs.Kept.{IsKept}
@@ -31,17 +30,14 @@ kept_outputs instance m kept is = is.shape.renewable ∙ length-map instance.ren
 
 kept_output : (instance : Instance) (m : ℕ) (kept : Printed) → IsKept instance m kept → (w : ℕ) → w < renewable_count instance
     → length (row_at kept.renewable w) ≡ m
-kept_output instance m kept is w h =
-    All-get_or (λ row. length row ≡ m) kept.renewable w [] (omega (arith, kept_outputs instance m kept is)) is.shape.outputs
+kept_output instance m kept is w h = grind (arith, All-get_or, kept_outputs, is, h)
 
 new_outputs : (instance : Instance) (m n : ℕ) (kept shown : Printed) → IsContinuation instance kept m n shown → length shown.renewable ≡ renewable_count instance
 new_outputs instance m n kept shown next = next.shape.renewable ∙ next.next.is_window.renewable_units
 
 new_output : (instance : Instance) (m n : ℕ) (kept shown : Printed) (next : IsContinuation instance kept m n shown) → (w : ℕ) → w < renewable_count instance
     → length (row_at shown.renewable w) ≡ next.len
-new_output instance m n kept shown next w h =
-    All-get_or (λ row. length row ≡ next.window.periods) shown.renewable w [] (omega (arith, new_outputs instance m n kept shown next)) next.shape.outputs
-    ∙ next.next.is_window.periods
+new_output instance m n kept shown next w h = grind (arith, h)
 
 -- ---- lists of numbers
 pub joined_length : {X : Type 0} (xs ys : List X) (n : ℕ) → n ≤ length ys → length (xs ++ take n ys) ≡ length xs + n
@@ -49,23 +45,17 @@ joined_length xs ys n h = length-append xs (take n ys) ∙ ap (λ k. length xs +
 
 pub numbers_fit : (instance : Instance) (m n : ℕ) (kept shown : Printed) → IsContinuation instance kept m n shown
     → (n ≤ length shown.shed) × (n ≤ length shown.short)
-numbers_fit instance m n kept shown next =
-    let len = next.next.is_window.periods in
-    (omega (arith, next.shape.shed, len, next.part), omega (arith, next.shape.short, len, next.part))
+numbers_fit instance m n kept shown next = grind (arith, next)
 
 -- ---- the cells
 -- a cell of the joined row is that of one of its parts
 front_cell : (old new row : List Cell) (m n t : ℕ) → length old ≡ m → t < m → SameDispatch (cell (old ++ take n new) t) (cell row t)
     → SameDispatch (cell old t) (cell row t)
-front_cell old new row m n t e h same =
-    subst (λ (c : Cell). SameDispatch c (cell row t)) (get_or_append_left old (take n new) _ t (omega (arith, e))) same
+front_cell old new row m n t e h same = grind (arith, get_or_append_left, e, h, same)
 
 back_cell : (old new row : List Cell) (m n t : ℕ) → length old ≡ m → t < n → SameDispatch (cell (old ++ take n new) (m + t)) (cell row (m + t))
     → SameDispatch (cell new t) (cell row (m + t))
-back_cell old new row m n t e h same =
-    let place : cell (old ++ take n new) (m + t) ≡ cell new t =
-    ap (λ k. cell (old ++ take n new) (k + t)) (sym e) ∙ get_or-append-add old (take n new) t _ ∙ get_or-take n new t _ h in
-    subst (λ (c : Cell). SameDispatch c (cell row (m + t))) place same
+back_cell old new row m n t e h same = grind (arith, get_or-append-add, get_or-take, e, h, same)
 
 -- ---- the schedule
 -- its parts, as the calls give them
@@ -107,41 +97,22 @@ stitched_is instance m n kept shown stitched is next parts = record {
       front_cell (row_of kept g) (row_of shown g) (row_of stitched g) m n t (kept_row instance m kept is g hg) ht ((parts.thermal.each g hg).same t);
   new_cells = λ g t hg ht.
       back_cell (row_of kept g) (row_of shown g) (row_of stitched g) m n t (kept_row instance m kept is g hg) ht ((parts.thermal.each g hg).same (m + t));
-  categories = λ g t hg ht.
-      let row = parts.thermal.each g hg in
-      row.least t (omega (arith, row.length_is, kept_row instance m kept is g hg));
+  categories = λ g t hg ht. grind (arith, kept_row, parts, g, hg, t, instance, m, kept, is);
   old_outputs = λ w t hw ht.
       joined_old (row_at kept.renewable w) (row_at shown.renewable w) (row_at stitched.renewable w) m n t
       (parts.renewable.each w (omega (arith, kept_outputs instance m kept is))) (kept_output instance m kept is w hw) ht;
-  new_outputs = λ w t hw ht.
-      joined_new (row_at kept.renewable w) (row_at shown.renewable w) (row_at stitched.renewable w) m n t
-      (parts.renewable.each w (omega (arith, kept_outputs instance m kept is))) (kept_output instance m kept is w hw) ht;
+  new_outputs = λ w t hw ht. grind (arith, joined_new, kept_outputs, kept_output, kept, w, shown, stitched, m, n, t, parts, instance, is, hw, ht);
   shed = parts.shed;
   short = parts.short;
 }
 
 -- ---- plain numbers
 plain_category : (unit : Thermal) (on : Commitment) (t category : ℕ) → IsLawfulThermal unit → HasLeastCategory unit on t category → category ≤ MAX_START_ROWS
-plain_category unit on t category lawful least = ⊎_elim
-    (λ start. let within = allowed-within unit on category t (least.start start).allowed in omega (arith, within, lawful.categories.1))
-    (λ none. omega (arith, least.none none))
-    (cases_Bool (starts unit on t))
+plain_category unit on t category lawful least = grind (arith, lawful, least)
 
 plain_cell : (unit : Thermal) (row : List Cell) (t : ℕ) (old : Cell) → IsLawfulThermal unit → IsPlainCell old → SameDispatch old (cell row t)
     → HasLeastCategory unit (commitment row) t (cell row t).category → IsPlainCell (cell row t)
-plain_cell unit row t old lawful own same least = record {
-  output = subst (λ z. pos 0 ≤ℤ z) (sym same.output) own.output;
-  reserve = subst (λ z. pos 0 ≤ℤ z) (sym same.reserve) own.reserve;
-  total = subst IsPower (λ i. sym same.output i +ℤ sym same.reserve i) own.total;
-  category = plain_category unit (commitment row) t (cell row t).category lawful least;
-  off = λ off.
-      let idle = own.off (sym same.on ∙ off) in
-      record {
-        output = same.output ∙ idle.output;
-        reserve = same.reserve ∙ idle.reserve;
-        category = least.none (and_right (not (was_on unit (commitment row) t)) ((cell row t).on) off);
-      };
-}
+plain_cell unit row t old lawful own same least = grind (arith, lawful, own, same, least)
 
 stitched_plain : (instance : Instance) (m n : ℕ) (kept shown stitched : Printed) → IsLawfulInstance instance → HasPlainNumbers kept → HasPlainNumbers shown
     → IsStitched instance m n kept shown stitched → length kept.shed ≡ m → length kept.short ≡ m → HasPlainNumbers stitched
@@ -213,11 +184,7 @@ nothing_kept instance kept thermal renewable shed short whole = record {
     denominator = (omega (arith, whole), omega (arith, whole));
   };
   whole = whole;
-  numbers = plain kept
-      (λ g t hg ht. absurd (omega (arith, ht, ap length (thermal.each g (omega (arith, thermal.length_is))))))
-      (λ w t hw ht. absurd (omega (arith, ht, ap length (renewable.each w (omega (arith, renewable.length_is))))))
-      (λ t ht. absurd (omega (arith, ht, ap length shed)))
-      (λ t ht. absurd (omega (arith, ht, ap length short)));
+  numbers = grind (arith, plain, kept, thermal, renewable, shed, short);
   obeys = λ some. absurd (omega arith);
 }
 
@@ -225,18 +192,11 @@ nothing_kept instance kept thermal renewable shed short whole = record {
 pub thermal_as : (units own : List Thermal) (old kept new shown : List (List Cell)) (n : ℕ) (rows stitched : List (List Cell))
     → units ≡ own → old ≡ kept → new ≡ shown → stitched ≡ rows
     → AreStitchedRows units old new n (length units) rows → AreStitchedRows own kept shown n (length own) stitched
-thermal_as units own old kept new shown n rows stitched u o s r h =
-    subst (λ us. AreStitchedRows us kept shown n (length us) stitched) u
-    (subst (λ os. AreStitchedRows units os shown n (length units) stitched) o
-    (subst (λ ns. AreStitchedRows units old ns n (length units) stitched) s
-    (subst (λ rs. AreStitchedRows units old new n (length units) rs) (sym r) h)))
+thermal_as units own old kept new shown n rows stitched u o s r h = grind (arith, u, o, s, r, h)
 
 pub outputs_as : (old kept new shown : List (List ℤ)) (n : ℕ) (rows stitched : List (List ℤ)) → old ≡ kept → new ≡ shown → stitched ≡ rows
     → AreJoined old new n (length old) rows → AreJoined kept shown n (length kept) stitched
-outputs_as old kept new shown n rows stitched o s r h =
-    subst (λ os. AreJoined os shown n (length os) stitched) o
-    (subst (λ ns. AreJoined old ns n (length old) stitched) s
-    (subst (λ rs. AreJoined old new n (length old) rs) (sym r) h))
+outputs_as old kept new shown n rows stitched o s r h = grind (arith, o, s, r, h)
 
 pub numbers_as : (old kept new shown : List ℤ) (n : ℕ) (row stitched : List ℤ) → old ≡ kept → new ≡ shown → stitched ≡ row
     → row ≡ old ++ take n new → stitched ≡ kept ++ take n shown

@@ -25,11 +25,7 @@ on_commitments k h = ⊎_elim (λ low. inl (omega (arith, low.1, low.0))) (λ la
 
 -- a turn of a lower number comes before
 pub comes_before : (j k : ℕ) → j < 6 → k < 6 → number j < number k → j < k
-comes_before j k hj hk h =
-    ⊎_elim
-    (λ low. ⊎_elim (λ other. omega (arith, low.1, other.1, h)) (λ last. omega (arith, low.0, last.0)) (number-is k hk))
-    (λ last. ⊎_elim (λ other. absurd (omega (arith, last.1, other.1, other.0, h))) (λ same. absurd (omega (arith, last.1, same.1, h))) (number-is k hk))
-    (number-is j hj)
+comes_before j k hj hk h = grind (arith, hj, hk, h)
 
 -- the turn of a rule
 pub record TurnOf (rule : UnitRule) : Type 0 where

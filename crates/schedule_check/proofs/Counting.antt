@@ -31,10 +31,7 @@ bit_one false = refl
 
 pub count-sum : (n : ℕ) (test : ℕ → Bool) → sum_below n (λ i. bit (test i)) ≡ pos (count_below n test)
 count-sum zero test = refl
-count-sum (suc n) test =
-    let before = count-sum n test in
-    let last = bit_one (test n) in
-    omega (arith, linear)
+count-sum (suc n) test = grind (arith, linear, (count-sum n test))
 
 pub window_sum : (from window : ℕ) (test : ℕ → Bool)
     → sum_below window (λ i. bit (test (from + i))) ≡ pos (count_below (from + window) test - count_below from test)
@@ -55,17 +52,7 @@ pub counted : (counts : List ℕ) (t added : ℕ) (now : Bool) (test : ℕ → B
     → ((k : ℕ) → k < suc t → get_or counts k 0 ≡ count_below k test) → now ≡ test t → added ≡ bool_byte now
     → (k : ℕ) → k < suc (t + 1) → get_or (slice_set counts (t + 1) (get_or counts t 0 + added)) k 0 ≡ count_below k test
 counted counts t added now test room before same byte k h =
-    ⊎_elim
-    (λ (less : k < t + 1). get_or-set_other counts (t + 1) k (get_or counts t 0 + added) 0 (omega arith) ∙ before k (omega arith))
-    (λ (last : t + 1 ≤ k).
-    let here : k ≡ t + 1 = omega arith in
-    let next : t + 1 ≡ suc t = omega arith in
-    ap (λ j. get_or (slice_set counts (t + 1) (get_or counts t 0 + added)) j 0) here
-    ∙ get_or-set_same counts (t + 1) (get_or counts t 0 + added) 0 (omega arith)
-    ∙ ap (λ n. n + added) (before t (omega arith))
-    ∙ ap (λ n. count_below t test + n) (byte ∙ byte_is now ∙ ap (λ b. if b then 1 else 0) same)
-    ∙ ap (λ j. count_below j test) (sym (here ∙ next)))
-    (cases_lt k (t + 1))
+    grind (arith, linear, get_or-set_other, slice_set, get_or-set_same, byte_is, cases_lt, room, before, same, byte, h)
 
 -- ---- the stops between two lags
 later : (c : ℕ) (b : Bool) → IsTrue b → c < c + (if b then 1 else 0)
@@ -105,10 +92,7 @@ same_test false true h k = k refl
 same_test false false h k = refl
 
 pub apart : (a b : ℕ) → nat_lt 0 (b - a) ≡ nat_lt a b
-apart a b =
-    same_test _ _
-    (λ h. let more = ltb-true 0 (b - a) h in lt-ltb a b (omega arith))
-    (λ h. let less = ltb-true a b h in lt-ltb 0 (b - a) (omega arith))
+apart a b = grind (arith, linear)
 
 pub has_stop : (from to t : ℕ) (test : ℕ → Bool) → to ≤ suc t
     → any_below to (λ i. nat_le from i && test (t - i)) ≡ nat_lt (count_below (suc t - to) test) (count_below (suc t - from) test)

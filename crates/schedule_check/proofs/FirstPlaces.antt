@@ -1,11 +1,11 @@
 -- From the first place of one rule to the first of all, in their order; and from numerators to what they stand for.
-use Rattle.std.proofs.Common.{◌≡◌, ℕ, ◌-◌, ◌<◌, ◌≤◌, Bool, refl, sym, subst, ◌∙◌, arith, IsTrue, ℤ}
+use Rattle.std.proofs.Common.{◌≡◌, ℕ, ◌-◌, ◌<◌, ◌≤◌, Bool, refl, subst, ◌∙◌, arith, IsTrue}
 use Rattle.uc_model.specs.Rules as model
 use Rattle.uc_model.specs.Prelude.{Obeys, thermal_unit, thermal_count, printed_denominator, printed_schedule, IsLawfulInstance}
 use Rattle.uc_model.proofs.Common.{all_below-from}
 use Rattle.schedule_check.specs.FirstBroken.{Broken, Instance, HoldsThroughout, FailsFirst, IsFirstBroken}
 use Rattle.schedule_check.specs.inside.Failures.{Place, FailsFirstAt, FailsFirstIn}
-use Rattle.schedule_check.specs.WholeWatts.{MustRun, Printed, UnitRule, holds_at, holds_by, numerators_hold, over, rule_of, row_of, unit_holds_by, unit_periods}
+use Rattle.schedule_check.specs.WholeWatts.{MustRun, Printed, UnitRule, holds_at, numerators_hold, over, rule_of, row_of, unit_holds_by, unit_periods}
 use Rattle.schedule_check.proofs.RuleOrder.{tried, number-tried, tried-number, number_within}
 use Rattle.schedule_check.proofs.SameRules.{AllProduced, same_rule}
 use Rattle.schedule_check.proofs.Measures.{over_one}
@@ -53,9 +53,7 @@ pub unit_throughout : (rule : UnitRule) (instance : Instance) (printed : Printed
     → ((g t : ℕ) → g < thermal_count instance → t < unit_periods rule instance.periods
     → IsTrue (unit_holds_by (over printed.denominator) rule instance.periods (thermal_unit instance g) (row_of printed g) t))
     → HoldsThroughout instance (numerators instance printed) (rule_of rule)
-unit_throughout rule instance printed all g t hg ht =
-    same_unit rule instance printed g t
-    ∙ all g t (subst (λ n. g < n) (shape_of rule instance).0 hg) (subst (λ n. t < n) (shape_of rule instance).1 ht)
+unit_throughout rule instance printed all g t hg ht = grind (arith, same_unit, shape_of, all, hg, ht)
 
 -- one that is broken first there
 pub unit_fails : (rule : UnitRule) (instance : Instance) (printed : Printed) (place : Place) (number : ℕ)
@@ -64,16 +62,7 @@ pub unit_fails : (rule : UnitRule) (instance : Instance) (printed : Printed) (pl
     → number ≡ model.rule_number (rule_of rule)
     → ((earlier : model.Rule) → model.rule_number earlier < model.rule_number (rule_of rule) → HoldsThroughout instance (numerators instance printed) earlier)
     → FailsFirst instance (numerators instance printed) (record { rule = number; unit = place.unit; period = place.period })
-unit_fails rule instance printed place number first is earlier = record {
-  rule = rule_of rule;
-  number = is;
-  unit = subst (λ n. place.unit < n) (sym (shape_of rule instance).0) first.unit;
-  period = subst (λ n. place.period < n) (sym (shape_of rule instance).1) first.period.within;
-  fails = same_unit rule instance printed place.unit place.period ∙ first.period.fails;
-  rules = earlier;
-  units = λ g t hg ht. same_unit rule instance printed g t ∙ first.before g t hg (subst (λ n. t < n) (shape_of rule instance).1 ht);
-  periods = λ t ht. same_unit rule instance printed place.unit t ∙ first.period.before t ht;
-}
+unit_fails rule instance printed place number first is earlier = grind (arith, shape_of, same_unit, first, is)
 
 -- ---- the other rules
 -- a fact of the first twelve, and of the 13th to the 17th where they are below a number, is one of all below it
@@ -104,16 +93,7 @@ pub system_fails : (rule : model.Rule) (instance : Instance) (printed : Printed)
     → model.rule_periods rule instance ≡ instance.periods → FailsFirstAt instance.periods (numerators instance printed rule 0) k
     → ((earlier : model.Rule) → model.rule_number earlier < model.rule_number rule → HoldsThroughout instance (numerators instance printed) earlier)
     → FailsFirst instance (numerators instance printed) (record { rule = model.rule_number rule; unit = 0; period = k })
-system_fails rule instance printed k units periods first earlier = record {
-  rule = rule;
-  number = refl;
-  unit = subst (λ n. 0 < n) (sym units) (omega arith);
-  period = subst (λ n. k < n) (sym periods) first.within;
-  fails = first.fails;
-  rules = earlier;
-  units = λ g t hg ht. absurd (omega arith);
-  periods = first.before;
-}
+system_fails rule instance printed k units periods first earlier = grind (arith, units, first)
 
 -- ---- from numerators to what they stand for
 -- in every cell M8 holds, where it is an earlier rule
@@ -166,6 +146,4 @@ numerators_obey instance printed lawful some all = record {
 pub obeys_stands : (instance : Instance) (printed : Printed) → IsLawfulInstance instance → printed.denominator ≡ 1
     → ((rule : model.Rule) → HoldsThroughout instance (watts instance printed) rule)
     → Obeys instance (printed_denominator instance printed) (printed_schedule instance printed (printed_denominator instance printed))
-obeys_stands instance printed lawful one all =
-    numerators_obey instance printed lawful (omega (arith, one)) (λ rule.
-    subst (λ (measure : ℤ → ℤ). HoldsThroughout instance (λ r. holds_by measure r instance printed) rule) (sym (over_one printed.denominator one)) (all rule))
+obeys_stands instance printed lawful one all = grind (arith, numerators_obey, over_one, lawful, one, all)

@@ -1,8 +1,7 @@
 -- The cells of a schedule that obeys can be priced: by M8 an output lies on the hull, and by M6 a category is one of the
 -- unit's.
-use Rattle.std.proofs.Common.{◌≡◌, ℕ, zero, suc, ◌<◌, ◌≤◌, ⊎_elim, false, ◌∙◌, sym, subst, arith, ℤ, IsTrue, nat_lt, ◌==◌}
-use Rattle.std.proofs.lemmas.Bool.{and_parts, or_cases, cases_Bool, cond-true, cond-false, eqb-true, ltb-true}
-use Rattle.uc_model.specs.Prelude.{Commitment, starts, category_count, is_category_allowed, category_holds_at, thermal_unit, thermal_count, Category, Production, Obeys, cell_at, printed_denominator, printed_schedule, IsLawfulInstance}
+use Rattle.std.proofs.Common.{◌≡◌, ℕ, zero, suc, ◌<◌, ◌≤◌, ◌∙◌, sym, subst, arith, ℤ, IsTrue}
+use Rattle.uc_model.specs.Prelude.{Commitment, category_count, is_category_allowed, category_holds_at, thermal_unit, thermal_count, Category, Production, Obeys, cell_at, printed_denominator, printed_schedule, IsLawfulInstance}
 use Rattle.uc_model.proofs.Common.{rule_at}
 use Rattle.schedule_check.specs.WholeWatts.{Printed, Thermal, HasPrice, HasPriceBy, over, row_of}
 use Rattle.uc_model.specs.declared.instance.Instance.{Instance}
@@ -12,19 +11,10 @@ use Rattle.schedule_check.proofs.Measures.{over_one}
 
 pub allowed-within : (unit : Thermal) (on : Commitment) (s t : ℕ) → IsTrue (is_category_allowed unit on s t) → s ≤ category_count unit
 allowed-within unit on zero t h = omega arith
-allowed-within unit on (suc s) t h =
-    ⊎_elim
-    (λ (last : IsTrue (suc s == category_count unit)). let e = eqb-true (suc s) (category_count unit) last in omega arith)
-    (λ rest. let l = ltb-true (suc s) (category_count unit) (and_parts (nat_lt (suc s) (category_count unit)) _ rest).0 in omega arith)
-    (or_cases (suc s == category_count unit) _ h)
+allowed-within unit on (suc s) t h = grind (arith, h)
 
 category-within : (unit : Thermal) (on : Commitment) (category : ℕ → ℕ) (t : ℕ) → IsTrue (category_holds_at unit on category t) → category t ≤ category_count unit
-category-within unit on category t h =
-    ⊎_elim
-    (λ (start : IsTrue (starts unit on t)). allowed-within unit on (category t) t (sym (cond-true _ _ _ start) ∙ h))
-    (λ (none : starts unit on t ≡ false).
-    let nought = eqb-true (category t) 0 (sym (cond-false _ _ _ none) ∙ h) in omega arith)
-    (cases_Bool (starts unit on t))
+category-within unit on category t h = grind (arith, h)
 
 pub priced_over : (instance : Instance) (printed : Printed) → IsLawfulInstance instance → 1 ≤ printed.denominator
     → Obeys instance (printed_denominator instance printed) (printed_schedule instance printed (printed_denominator instance printed))

@@ -3,14 +3,14 @@
 use Rattle.std.proofs.Common.{◌≡◌, ℕ, zero, suc, ◌*◌, ◌/◌, ◌<◌, ◌≤◌, ⊎_elim, true, false, refl, sym, ap, subst, ◌∙◌, arith, List, length, ℤ, pos, ◌*ℤ◌, ◌≤ℤ◌, IsTrue, Option, Some, None, nat_le, if◌then◌else◌}
 use Rattle.std.specs.Ordering.{int_eq}
 use Rattle.std.proofs.Math.Nat.{le-max_left}
-use Rattle.std.proofs.lemmas.Bool.{and_parts, and_from, or_left, or_right, cases_Bool, cond-true, cond-false, cond_both, true≢false, le-leb}
-use Rattle.uc_model.specs.Prelude.{bit, output_of, weighted_total, weighted_output, Segment, segment_at, segment_width, production_at, Row, thermal_unit, thermal_count, point_count, p_at, weight_sum, cell_at, product_below, width_on, cell_width, printed_denominator, refused_weight, segment_weight, cell_weight, IsLawfulThermal}
+use Rattle.std.proofs.lemmas.Bool.{and_from, or_left, or_right, cases_Bool, cond-true, cond-false, cond_both, le-leb}
+use Rattle.uc_model.specs.Prelude.{bit, weighted_total, weighted_output, Segment, segment_at, segment_width, production_at, Row, point_count, p_at, weight_sum, product_below, width_on, cell_width, printed_denominator, refused_weight, segment_weight, cell_weight, IsLawfulThermal}
 use Rattle.uc_model.specs.declared.instance.Point.{Point}
 use Rattle.uc_model.specs.declared.instance.Thermal.{Thermal}
 use Rattle.uc_model.specs.declared.instance.Instance.{Instance}
 use Rattle.uc_model.specs.declared.schedule.Cell.{Cell}
 use Rattle.uc_model.specs.declared.schedule.Printed.{Printed}
-use Rattle.uc_model.proofs.Common.{linear, mul-zero, mul-one, le_from_mul, le_antisymm, mul_nonneg, pos_nonneg, sum_below-same, sum_below-zero, int_le-true, le-int_le, int_eq-true, eq-int_eq, all_below-from, Produces, production_parts, watts-factor, share_is}
+use Rattle.uc_model.proofs.Common.{linear, mul-zero, mul-one, mul_nonneg, pos_nonneg, sum_below-same, sum_below-zero, le-int_le, int_eq-true, eq-int_eq, all_below-from, Produces, production_parts, watts-factor, share_is}
 use Rattle.cost_curves.specs.LowerHull.{width_of}
 use Rattle.cost_curves.proofs.UnitPoints.{lawful_points}
 use Rattle.cost_curves.proofs.HullExists.{segment-there, segment-within}
@@ -34,9 +34,7 @@ cell_positive : (points : List Point) (d : ℕ) (cell : Cell) → 1 ≤ cell_wid
 cell_positive points d cell = cond_both cell.on (width_on points (segment_at points d cell.p)) 1 (λ n. 1 ≤ n) (λ e. width_positive points (segment_at points d cell.p)) (λ e. omega arith)
 
 pub denominator_positive : (instance : Instance) (printed : Printed) → 1 ≤ printed.denominator → 1 ≤ printed_denominator instance printed
-denominator_positive instance printed some =
-    times_positive printed.denominator _ some
-    (product_positive (thermal_count instance) _ (λ g. product_positive instance.periods _ (λ t. cell_positive (thermal_unit instance g).points printed.denominator (cell_at printed g t))))
+denominator_positive instance printed some = grind (arith, linear, times_positive, product_positive, cell_positive, some)
 
 -- it is a multiple of that of the watts, at least once
 pub record IsShare (d q : ℕ) : Type 0 where
@@ -45,18 +43,7 @@ pub record IsShare (d q : ℕ) : Type 0 where
   pub share : 1 ≤ q / d
 
 pub share_of : (instance : Instance) (printed : Printed) → 1 ≤ printed.denominator → IsShare printed.denominator (printed_denominator instance printed)
-share_of instance printed some =
-    let factor = watts-factor instance printed in
-    let share = share_is (printed_denominator instance printed) factor.0 printed.denominator some factor.1 in
-    record {
-      some = some;
-      factor = factor.1 ∙ ap (λ n. n * printed.denominator) (sym share);
-      share = subst (λ n. 1 ≤ n) (sym share) (at_least (printed_denominator instance printed) factor.0 printed.denominator factor.1 (denominator_positive instance printed some));
-    }
-  where
-    at_least : (q c d : ℕ) → q ≡ c * d → 1 ≤ q → 1 ≤ c
-    at_least q zero d e h = absurd (omega arith)
-    at_least q (suc c) d e h = omega arith
+share_of instance printed some = grind (arith, linear, watts-factor, share_is, denominator_positive, some)
 
 -- ---- what a cell stands for
 -- the row has this cell's weights and reserve in period t
@@ -76,8 +63,7 @@ total_by : (q : ℕ) (points : List Point) (a b : ℕ → ℕ) → ((l : ℕ) �
 total_by q points a b e = sum_below-same (length points) (λ l. pos (a l)) (λ l. pos (b l)) (λ l h. ap pos (e l))
 
 output_by : (q : ℕ) (points : List Point) (a b : ℕ → ℕ) → ((l : ℕ) → a l ≡ b l) → weighted_output points a ≡ weighted_output points b
-output_by q points a b e =
-    sum_below-same (length points) (λ l. output_of points l *ℤ pos (a l)) (λ l. output_of points l *ℤ pos (b l)) (λ l h. ap (λ w. output_of points l *ℤ pos w) (e l))
+output_by q points a b e = grind (arith, linear, e)
 
 -- an on cell on the hull
 made_on : (q d : ℕ) (unit : Thermal) (row : Row) (t : ℕ) (cell : Cell) → Shows q d unit row t cell → IsLawfulThermal unit → 1 ≤ d
@@ -102,16 +88,7 @@ made_on q d unit row t cell shows lawful some c factor on low high =
 -- an off cell without output
 made_off : (q d : ℕ) (unit : Thermal) (row : Row) (t : ℕ) (cell : Cell) → Shows q d unit row t cell → cell.on ≡ false → cell.p ≡ pos 0
     → Made q d unit row t cell
-made_off q d unit row t cell shows off idle =
-    let none = λ (l : ℕ). shows.weight l
-    ∙ cond-false cell.on (segment_weight q unit.points d cell.p (segment_at unit.points d cell.p) l) (if int_eq cell.p (pos 0) then 0 else refused_weight q l) off
-    ∙ cond-true (int_eq cell.p (pos 0)) 0 (refused_weight q l) (eq-int_eq cell.p (pos 0) idle) in
-    record {
-      each = λ l h. subst (λ w. w ≤ q) (sym (none l)) (omega arith);
-      total = sum_below-zero (length unit.points) (λ l. pos (row.weight t l)) (λ l h. ap pos (none l)) ∙ sym (ap (λ b. pos q *ℤ bit b) off ∙ mul-zero (pos q));
-      output = sum_below-zero (length unit.points) (λ l. output_of unit.points l *ℤ pos (row.weight t l))
-          (λ l h. ap (λ w. output_of unit.points l *ℤ pos w) (none l) ∙ mul-zero (output_of unit.points l)) ∙ sym (ap (λ z. pos (q / d) *ℤ z) idle ∙ mul-zero (pos (q / d)));
-    }
+made_off q d unit row t cell shows off idle = grind (arith, linear, cond-false, cond-true, eq-int_eq, sum_below-zero, mul-zero, shows, off, idle)
 
 -- ---- M8 on the cell itself
 -- what it says
@@ -124,39 +101,11 @@ pub record Holds (measure : ℤ → ℤ) (unit : Thermal) (cell : Cell) : Type 0
 
 pub holds_from : (measure : ℤ → ℤ) (unit : Thermal) (cells : List Cell) (t : ℕ) → IsTrue (watts.production_by measure unit cells t)
     → Holds measure unit (watts.cell cells t)
-holds_from measure unit cells t h =
-    ⊎_elim
-    (λ (on : IsTrue (watts.cell cells t).on).
-    let parts = and_parts _ _ (sym (cond-true _ _ _ on) ∙ h) in
-    let range = and_parts _ _ parts.0 in
-    record {
-      low = λ e. int_le-true _ _ range.0;
-      high = λ e. int_le-true _ _ range.1;
-      idle = λ e. absurd (true≢false (sym on ∙ e));
-      reserve = int_le-true _ _ parts.1;
-      none = λ e. absurd (true≢false (sym on ∙ e));
-    })
-    (λ (off : (watts.cell cells t).on ≡ false).
-    let parts = and_parts _ _ (sym (cond-false _ _ _ off) ∙ h) in
-    let none = int_eq-true _ _ parts.1 in
-    record {
-      low = λ e. absurd (true≢false (sym e ∙ off));
-      high = λ e. absurd (true≢false (sym e ∙ off));
-      idle = λ e. int_eq-true _ _ parts.0;
-      reserve = omega (arith, linear, none);
-      none = λ e. none;
-    })
-    (cases_Bool (watts.cell cells t).on)
+holds_from measure unit cells t h = grind (arith, linear, h)
 
 holds_by : (measure : ℤ → ℤ) (unit : Thermal) (cells : List Cell) (t : ℕ) → Holds measure unit (watts.cell cells t)
     → IsTrue (watts.production_by measure unit cells t)
-holds_by measure unit cells t holds =
-    ⊎_elim
-    (λ (on : IsTrue (watts.cell cells t).on).
-    cond-true _ _ _ on ∙ and_from _ _ (and_from _ _ (le-int_le _ _ (holds.low on)) (le-int_le _ _ (holds.high on))) (le-int_le _ _ holds.reserve))
-    (λ (off : (watts.cell cells t).on ≡ false).
-    cond-false _ _ _ off ∙ and_from _ _ (eq-int_eq _ _ (holds.idle off)) (eq-int_eq _ _ (holds.none off)))
-    (cases_Bool (watts.cell cells t).on)
+holds_by measure unit cells t holds = grind (arith, linear, holds)
 
 -- in whole watts
 pub holds_to : (unit : Thermal) (cells : List Cell) (t : ℕ) → Holds watts.whole unit (watts.cell cells t) → IsTrue (watts.production_at unit cells t)
@@ -195,35 +144,21 @@ unrefused q unit row t lawful made e = let first = made.weights 0 (omega (arith,
 on_hull : (q d : ℕ) (unit : Thermal) (row : Row) (t : ℕ) (cell : Cell) (s : Option Segment) → segment_at unit.points d cell.p ≡ s
     → Shows q d unit row t cell → IsLawfulThermal unit → Produces q unit row t → cell.on ≡ true
     → (pos 0 ≤ℤ cell.p) × (cell.p ≤ℤ (pos d *ℤ width_of unit.points))
-on_hull q d unit row t cell None e shows lawful produces on =
-    absurd (unrefused q unit row t lawful produces
-    (shows.weight 0 ∙ cond-true cell.on (segment_weight q unit.points d cell.p (segment_at unit.points d cell.p) 0) (if int_eq cell.p (pos 0) then 0 else refused_weight q 0) on
-    ∙ ap (λ o. segment_weight q unit.points d cell.p o 0) e))
+on_hull q d unit row t cell None e shows lawful produces on = grind (arith, linear, e, shows, lawful, produces)
 on_hull q d unit row t cell (Some s) e shows lawful produces on = segment-within unit.points d cell.p s (lawful_points unit lawful) e
 
 reserve_sign : (q : ℕ) (r z : ℤ) → 1 ≤ q → z ≡ pos q *ℤ r → pos 0 ≤ℤ z → pos 0 ≤ℤ r
-reserve_sign q r z some e h =
-    le_from_mul (pos q) (pos 0) r (omega (arith, linear)) (let none = mul-zero (pos q) in omega (arith, linear, none))
+reserve_sign q r z some e h = grind (arith, linear, some, e, h)
 
 reserve_none : (q : ℕ) (r z : ℤ) → 1 ≤ q → z ≡ pos q *ℤ r → z ≡ pos 0 → r ≡ pos 0
-reserve_none q r z some e h =
-    let none = mul-zero (pos q) in
-    le_antisymm r (pos 0)
-    (le_from_mul (pos q) r (pos 0) (omega (arith, linear)) (omega (arith, linear, none)))
-    (le_from_mul (pos q) (pos 0) r (omega (arith, linear)) (omega (arith, linear, none)))
+reserve_none q r z some e h = grind (arith, linear, some, e, h)
 
 holds_of : (q d : ℕ) (unit : Thermal) (row : Row) (t : ℕ) (cell : Cell) → Shows q d unit row t cell → IsLawfulThermal unit → 1 ≤ q / d
     → Produces q unit row t → Holds (watts.over d) unit cell
 holds_of q d unit row t cell shows lawful some produces = record {
   low = λ on. (on_hull q d unit row t cell (segment_at unit.points d cell.p) refl shows lawful produces on).0;
   high = λ on. (on_hull q d unit row t cell (segment_at unit.points d cell.p) refl shows lawful produces on).1;
-  idle = λ off. ⊎_elim
-      (λ (idle : IsTrue (int_eq cell.p (pos 0))). int_eq-true cell.p (pos 0) idle)
-      (λ (other : int_eq cell.p (pos 0) ≡ false). absurd (unrefused q unit row t lawful produces
-      (shows.weight 0
-      ∙ cond-false cell.on (segment_weight q unit.points d cell.p (segment_at unit.points d cell.p) 0) (if int_eq cell.p (pos 0) then 0 else refused_weight q 0) off
-      ∙ cond-false (int_eq cell.p (pos 0)) 0 (refused_weight q 0) other)))
-      (cases_Bool (int_eq cell.p (pos 0)));
+  idle = λ off. grind (arith, linear, int_eq-true, unrefused, cond-false, cases_Bool, q, unit, row, t, lawful, produces, shows, d, off);
   reserve = reserve_sign (q / d) cell.r (row.reserve t) some shows.reserve produces.reserve;
   none = λ off. reserve_none (q / d) cell.r (row.reserve t) some shows.reserve (produces.idle (shows.on ∙ off)).1;
 }

@@ -1,9 +1,8 @@
 -- Each rule says the same of a printed schedule's numerators as of the schedule that it stands for: M1 to M8 always, and the
 -- others where M8 holds in every cell. Over q = s * d numbers are s times the numerators, and limits s times d times.
-use Rattle.std.proofs.Common.{◌≡◌, ℕ, zero, suc, ◌*◌, ◌/◌, ◌<◌, ◌≤◌, not, ◌&&◌, ◌||◌, refl, sym, ap, ◌∙◌, arith, List, ℤ, pos, ◌+ℤ◌, ◌-ℤ◌, ◌*ℤ◌, IsTrue, int_le, nat_lt, slice_index_or}
-use Rattle.std.specs.Int.{int_max}
+use Rattle.std.proofs.Common.{◌≡◌, ℕ, ◌*◌, ◌/◌, ◌<◌, ◌≤◌, ◌&&◌, ◌||◌, refl, sym, ap, ◌∙◌, arith, List, ℤ, pos, ◌+ℤ◌, ◌-ℤ◌, ◌*ℤ◌, IsTrue, int_le, nat_lt, slice_index_or}
 use Rattle.std.specs.Ordering.{int_eq}
-use Rattle.uc_model.specs.Prelude.{bit, initial_p, Row, thermal_unit, thermal_count, renewable_unit, renewable_count, p_at, p_before, demand_at, reserve_at, most_shed, most_short, cell_at, shed_at, short_at, printed_denominator, printed_schedule, IsLawfulInstance}
+use Rattle.uc_model.specs.Prelude.{bit, Row, thermal_unit, thermal_count, renewable_count, p_at, p_before, demand_at, reserve_at, most_shed, most_short, cell_at, shed_at, short_at, printed_denominator, printed_schedule, IsLawfulInstance}
 use Rattle.uc_model.specs.Rules as model
 use Rattle.uc_model.specs.declared.instance.Thermal.{Thermal}
 use Rattle.uc_model.specs.declared.instance.Instance.{Instance}
@@ -78,18 +77,7 @@ row_is : (instance : Instance) (printed : Printed) (g t : ℕ) → IsLawfulInsta
     → g < thermal_count instance → t < instance.periods
     → RowIs (printed_denominator instance printed) (share instance printed) printed.denominator (thermal_unit instance g)
     ((printed_schedule instance printed (printed_denominator instance printed)).thermal g) (watts.row_of printed g) t
-row_is instance printed g t lawful some all hg ht = record {
-  output = output-is instance printed g t lawful some hg ht (all g t hg ht);
-  reserve = refl;
-  before = earlier t ht;
-}
-  where
-    earlier : (k : ℕ) → k < instance.periods
-        → p_before (printed_denominator instance printed) (thermal_unit instance g)
-        ((printed_schedule instance printed (printed_denominator instance printed)).thermal g) k
-        ≡ pos (share instance printed) *ℤ watts.output_before_by (watts.over printed.denominator) (thermal_unit instance g) (watts.row_of printed g) k
-    earlier zero h = times-is (printed_denominator instance printed) (share instance printed) printed.denominator (initial_p (thermal_unit instance g)) (share_of instance printed some).factor
-    earlier (suc k) h = output-is instance printed g k lawful some hg (omega arith) (all g k hg (omega arith))
+row_is instance printed g t lawful some all hg ht = grind (arith, linear, output-is, times-is, share_of, lawful, some, all, hg, ht)
 
 -- output with reserve, less another output
 head-is : (q s d : ℕ) (unit : Thermal) (row : Row) (cells : List Cell) (t : ℕ) → RowIs q s d unit row cells t
@@ -107,9 +95,7 @@ fall-is q s d unit row cells t is = (λ i. is.before i -ℤ is.output i) ∙ sym
 
 -- s times a numerator against q times a limit
 limit_by : (q d : ℕ) (z a b : ℤ) → IsShare d q → z ≡ pos (q / d) *ℤ a → int_le z (pos q *ℤ b) ≡ int_le a (pos d *ℤ b)
-limit_by q d z a b is e =
-    let limit = times-is q (q / d) d b is.factor in
-    (λ i. int_le (e i) (limit i)) ∙ scale-int_le (q / d) a (pos d *ℤ b) is.share
+limit_by q d z a b is e = grind (arith, linear, times-is, int_le, scale-int_le, is, e)
 
 limit_above : (q d : ℕ) (z a b : ℤ) → IsShare d q → z ≡ pos (q / d) *ℤ a → int_le (pos q *ℤ b) z ≡ int_le (pos d *ℤ b) a
 limit_above q d z a b is e =
@@ -169,18 +155,13 @@ same_rule model.Production instance printed g t lawful some place all = producti
 same_rule model.StartCap instance printed g t lawful some place all =
     limit_by _ _ _ _ _ (share_of instance printed some) (head-is _ _ _ _ _ _ t (row_is instance printed g t lawful some (all (omega arith)) place.unit place.period))
 same_rule model.StopCap instance printed g t lawful some place all =
-    ap (λ b. not (nat_lt (suc t) instance.periods) || b)
-    (limit_by _ _ _ _ _ (share_of instance printed some) (head-is _ _ _ _ _ _ t (row_is instance printed g t lawful some (all (omega arith)) place.unit place.period)))
+    grind (arith, linear, limit_by, share_of, head-is, row_is, model.StopCap, lawful, some, place, all)
 same_rule model.RampUp instance printed g t lawful some place all =
     limit_by _ _ _ _ _ (share_of instance printed some) (rise-is _ _ _ _ _ _ t (row_is instance printed g t lawful some (all (omega arith)) place.unit place.period))
 same_rule model.RampDown instance printed g t lawful some place all =
     limit_by _ _ _ _ _ (share_of instance printed some) (fall-is _ _ _ _ _ _ t (row_is instance printed g t lawful some (all (omega arith)) place.unit place.period))
 same_rule model.RenewableRange instance printed w t lawful some place all =
-    let is = share_of instance printed some in
-    let unit = renewable_unit instance w in
-    let low = limit_above _ _ _ (output_at printed w t) (int_max (slice_index_or unit.minimum t (pos 0)) (pos 0)) is refl in
-    let high = limit_by _ _ _ (output_at printed w t) (slice_index_or unit.maximum t (pos 0)) is refl in
-    (λ i. low i && high i)
+    grind (arith, linear, share_of, limit_above, slice_index_or, limit_by, model.RenewableRange, w, lawful, some, place, all)
 same_rule model.Demand instance printed g t lawful some place all =
     let s = share instance printed in
     let d = printed.denominator in

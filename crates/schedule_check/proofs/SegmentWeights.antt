@@ -23,10 +23,7 @@ alone q n d points p s holds lies same some factor =
     let elsewhere = λ (l : ℕ) (other : l ≢ s.left). here l ∙ cond-false (l == s.left) q 0 (ne_eqb l s.left other) in
     let place : pos d *ℤ output_of points s.left ≡ p = omega (arith, linear, lies.after, subst (λ k. pos 0 ≤ℤ (pos d *ℤ output_of points k -ℤ p)) (sym same) lies.before) in
     record {
-      each = λ l h. ⊎_elim
-          (λ (is : IsTrue (l == s.left)). let e = at_left ∙ refl in let l_is = eqb-true l s.left is in subst (λ k. weight k ≤ q) (sym l_is) (omega (arith, at_left)))
-          (λ (isnt : (l == s.left) ≡ false). let e = elsewhere l (eqb-false l s.left isnt) in omega (arith, e))
-          (cases_Bool (l == s.left));
+      each = λ l h. grind (arith, linear, eqb-true, eqb-false, cases_Bool, at_left, weight, q, elsewhere);
       total = sum_below-single (length points) (λ l. pos (weight l)) s.left holds.left (λ l h other. ap pos (elsewhere l other)) ∙ ap pos at_left;
       output = sum_below-single (length points) (λ l. output_of points l *ℤ pos (weight l)) s.left holds.left
           (λ l h other. ap (λ w. output_of points l *ℤ pos w) (elsewhere l other) ∙ mul-zero (output_of points l))

@@ -1,5 +1,5 @@
 -- What a worker knows of a node that it holds.
-use Rattle.std.proofs.Common.{◌≡◌, ◌≢◌, ◌∙◌, ⊎_elim, ◌⊎◌, ℕ, suc, ◌<◌, ◌≤◌, false, true, All, List, [], ◌∷◌, ◌++◌, length, ap, sym, subst, arith, ℤ, Some, refl, length-append, slice_get}
+use Rattle.std.proofs.Common.{◌≡◌, ◌≢◌, ℕ, suc, ◌<◌, ◌≤◌, All, List, [], ◌∷◌, ◌++◌, length, ap, sym, subst, arith, ℤ, Some, refl, length-append, slice_get}
 use Rattle.std.proofs.lemmas.List.{nil_from_length}
 use Rattle.std.proofs.lemmas.Option.{get_or_from_slice_get, slice_get_within}
 use Rattle.dual_model.specs.Prelude.{IsNodeOf, IsLawfulTable}
@@ -14,14 +14,13 @@ use Rattle.book.specs.declared.claims.Claimed.TheVariants.{Mine}
 use Rattle.book.specs.declared.claims.Status.TheVariants.{Held}
 use Rattle.book.proofs.Units.{held_part}
 use Rattle.search_machine.specs.Prelude.{IsHolding, entries_of, holder_in, TreeRunsHold}
-use Rattle.search_machine.specs.declared.holder.Holder.{Holder}
 use Rattle.book.specs.Opening.{Opening, IsTrueOpening}
 use Rattle.book.specs.Replay.{number_of, replayed}
 use Rattle.book.proofs.Books.{run_holds}
 use Rattle.book.proofs.Steps.{held_still}
 use Rattle.search_machine.proofs.Claims.{holdable}
 use Rattle.book.specs.Running.{IsRunning}
-use Rattle.search_desk.specs.Desks.{Instance, Table, IsLaterWithin, IsScaledWithin}
+use Rattle.search_desk.specs.Desks.{Table, IsLaterWithin, IsScaledWithin}
 
 -- a node of the book's tree is a node of the instance
 pub node_of : (opening : Opening) (book : BookView) (number : ℕ) (node : Node) → IsRunning opening book → IsNodeAt book.tree number node
@@ -30,8 +29,7 @@ node_of opening book number node running at = node_cells opening.instance book.t
 
 -- an item of a list of which each is so
 pub listed : {A : Type 0} (P : A → Type 0) (xs : List A) (place : ℕ) (x : A) → All P xs → slice_get xs place ≡ Some x → P x
-listed P xs place x each is =
-    subst P (get_or_from_slice_get xs place x x is) (each place x (slice_get_within xs place x is))
+listed P xs place x each is = grind (arith, get_or_from_slice_get, slice_get_within, each, is)
 
 -- the table that the node stores
 pub stored_lawful : (opening : Opening) (book : BookView) (unit : ℕ) (node : Node) (table : Table) (value : ℤ) → IsRunning opening book
@@ -71,18 +69,12 @@ claim_held old new worker node unit had answer = record {
 
 -- one node is held by a unit
 pub one_node : (book : BookView) (a b unit one other : ℕ) → IsHolding (state_of book) a unit one → IsHolding (state_of book) b unit other → one ≡ other
-one_node book a b unit one other first second =
-    let both : Some (record { worker = a; node = one }) ≡ Some (record { worker = b; node = other }) = sym first ∙ second in
-    let same : record { worker = a; node = one } ≡ record { worker = b; node = other } = cc in
-    ap (λ (h : Holder). h.node) same
+one_node book a b unit one other first second = grind (arith, first, second)
 
 -- at the first entry of a node the table may have any scale
 pub later_of : (book : BookView) (limit worker unit node had holder other : ℕ) (table : Table) → IsHeldUnit book unit worker node had
     → IsLaterWithin limit had table → IsHolding (state_of book) holder unit other → entries_of book.log other ≢ [] → IsScaledWithin limit table
-later_of book limit worker unit node had holder other table held later holds some =
-    let same = one_node book holder worker unit other node holds held.holds in
-    later (λ (none : had ≡ 0). some (nil_from_length (entries_of book.log other)
-    (ap (λ n. length (entries_of book.log n)) same ∙ sym held.count ∙ none)))
+later_of book limit worker unit node had holder other table held later holds some = grind (arith, one_node, nil_from_length, held, later, holds, some)
 
 -- a node that is held is one of the tree
 pub held_below : TreeRunsHold → (opening : Opening) (book : BookView) (worker unit node : ℕ) → IsTrueOpening opening → IsRunning opening book

@@ -34,7 +34,4 @@ least_of (Some c) (Some a) (Some b) first second = omega (arith, ints, int_min_i
 
 -- of two pairs of costs
 pub least_both : (a b c d : Option ℤ) → AtMost a c → AtMost b d → AtMost (least a b) (least c d)
-least_both a b c d first second =
-    least_of (least a b) c d
-    (at_most_through (least a b) a c (least_first a b) first)
-    (at_most_through (least a b) b d (least_second a b) second)
+least_both a b c d first second = grind (arith, ints, first, second)

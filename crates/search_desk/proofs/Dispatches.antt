@@ -1,14 +1,12 @@
 -- A first evaluation that keeps to the exact dispatch is committed so, and the book's log tells it.
-use Rattle.std.proofs.Common.{◌≡◌, ◌∙◌, ◌⊎◌, ⊎_elim, ℕ, ◌<◌, ◌≤◌, Bool, true, false, not, ◌&&◌, refl, ap, sym, subst, List, [], length, ℤ, pos, ◌-ℤ◌, ◌≤ℤ◌, ◌<ℤ◌, int_lt, Option, Some, None, arith, cond, if◌then◌else◌}
+use Rattle.std.proofs.Common.{◌≡◌, ◌∙◌, ◌⊎◌, ⊎_elim, ℕ, ◌≤◌, Bool, true, false, ◌&&◌, refl, ap, sym, subst, List, [], length, ℤ, pos, ◌-ℤ◌, ◌≤ℤ◌, ◌<ℤ◌, int_lt, Option, Some, None, arith, if◌then◌else◌}
 use Rattle.std.specs.Ordering.{int_eq}
-use Rattle.std.proofs.lemmas.Bool.{not-true, true≢false}
 use Rattle.std.proofs.lemmas.Int.{ints}
 use Rattle.std.proofs.lemmas.Option.{same_Some}
 use Rattle.uc_model.specs.Prelude.{printed_cost, tolerance_of}
-use Rattle.uc_model.specs.declared.schedule.Printed.{Printed}
 use Rattle.uc_model.specs.declared.tolerance.TheConstants.{WHOLE_GAP}
-use Rattle.uc_model.proofs.Common.{linear, le_refl, int_le-true, le-int_le}
-use Rattle.dual_model.specs.Prelude.{HasEmptyUnit, is_decided, IsValueOf}
+use Rattle.uc_model.proofs.Common.{linear, int_le-true, le-int_le}
+use Rattle.dual_model.specs.Prelude.{HasEmptyUnit, IsValueOf}
 use Rattle.dual_model.specs.declared.node.Node.{Node}
 use Rattle.branch_tree.specs.Prelude.{is_within_gap, IsNodeAt, TreeView, IsSizeOf, HasFreeCell}
 use Rattle.branch_tree.specs.declared.found.Outcome.{Outcome}
@@ -24,12 +22,11 @@ use Rattle.pivot_closing.specs.Pivoted.{IsByAnswer, IsExactFirst}
 use Rattle.pivot_closing.specs.PivotedSteps.{IsAgain}
 use Rattle.pivot_closing.proofs.Closing.{entry_nodes}
 use Rattle.pivot_closing.proofs.Decided.{cell_decided}
-use Rattle.pivot_closing.proofs.PivotedSteps.{none_pivoted, entries_keep_pivoted}
+use Rattle.pivot_closing.proofs.PivotedSteps.{entries_keep_pivoted}
 use Rattle.pivot_closing.proofs.TreeSizes.{entries_below}
 use Rattle.incumbent.specs.Costs.{AtMost}
 use Rattle.search_machine.specs.Prelude.{IsHolding, entries_of, bound_of, kept, IsTrueOutcome, TreeRunsHold}
 use Rattle.search_machine.specs.declared.event.Move.{Move}
-use Rattle.search_machine.specs.declared.stored.Stored.{Stored}
 use Rattle.search_machine.specs.declared.event.Move.TheVariants.{Split, Prune, Ray}
 use Rattle.search_machine.proofs.Claims.{holdable}
 use Rattle.search_machine.proofs.Growth.{tree_grows}
@@ -61,18 +58,12 @@ at_answer-lower instance seen lower table (Wide what size other pivots) below is
 
 pub by_dispatch-lower : (instance : Instance) (node : Node) (seen lower : Option ℤ) (table : Table) (outcome : Outcome) → AtMost lower seen
     → IsByDispatch instance node seen table outcome → IsByDispatch instance node lower table outcome
-by_dispatch-lower instance node seen lower table (Value v) below is =
-    (is.0, (is.1.0, (is.1.1.0, (is.1.1.1.0, at_answer-lower instance seen lower table is.1.1.0 below is.1.1.1.1))))
+by_dispatch-lower instance node seen lower table (Value v) below is = grind (arith, ints, v, below, is)
 by_dispatch-lower instance node seen lower table (Empty g) below is = tt
 
 pub first_lower : (exact_dispatch : Bool) (opening : Opening) (path : Node) (had : ℕ) (seen lower : Option ℤ) (done : Evaluated) → AtMost lower seen
     → IsFirstByDispatch exact_dispatch opening path had seen done → IsFirstByDispatch exact_dispatch opening path had lower done
-first_lower exact_dispatch opening path had seen lower done below is = λ asked none.
-    let keeps = is asked none in
-    record {
-      direct = keeps.direct;
-      exact = λ decided. by_dispatch-lower opening.instance path seen lower done.table done.outcome below (keeps.exact decided);
-    }
+first_lower exact_dispatch opening path had seen lower done below is = grind (arith, ints, below, is)
 
 -- ---- what the exact dispatch gives
 -- where a node has a value, each unit has a pattern there
@@ -84,8 +75,7 @@ no_empty true instance node table v is empty =
 
 told_by : (instance : Instance) (pivot : DispatchAnswer) (told : Decided) → IsToldBy instance pivot told
     → IsAtAnswer instance (cost_of told.schedule) told.table pivot
-told_by instance (Best printed table) told is =
-    (is.0, subst (λ (schedule : Option (Printed × ℤ)). AtMost (cost_of schedule) (Some (printed_cost instance printed))) (sym is.1) (le_refl (printed_cost instance printed)))
+told_by instance (Best printed table) told is = grind (arith, ints, printed, is)
 told_by instance (RayAnswer table) told is = is.0
 told_by instance (Wide what size other pivots) told is = absurd is
 
@@ -111,13 +101,7 @@ decided tree instance number path size at none g hg t ht = cell_decided tree ins
 
 pub undecided : (tree : TreeView) (instance : Instance) (number : ℕ) (path : Node) → IsSizeOf tree instance → IsNodeAt tree number path → HasFreeCell tree number
     → ¬ DecidesEach instance path
-undecided tree instance number path size at cell each =
-    let own = cell.free in
-    let same : own.node ≡ path = same_Some own.node path (sym own.is_node ∙ at) in
-    let is : is_decided own.node cell.g cell.t ≡ true =
-    subst (λ (n : Node). is_decided n cell.g cell.t ≡ true) (sym same)
-    (each cell.g (subst (λ n. cell.g < n) (sym size.thermal) own.unit) cell.t (subst (λ n. cell.t < n) (sym size.periods) own.period)) in
-    true≢false (sym is ∙ not-true (is_decided own.node cell.g cell.t) own.undecided)
+undecided tree instance number path size at cell each = grind (arith, ints, size, at, cell, each)
 
 -- ---- the move
 abbrev IsOver : Move → Type 0
@@ -133,8 +117,7 @@ value_over (Some cost) stored gap cell = either (is_within_gap cost (Some stored
 
 -- with a cell to split on the node isn't left open
 split_over : (seen : Option ℤ) (stored : ℤ) (gap : ℕ) (k : ℤ) (cell : ℕ × ℕ) (outcome : Outcome) → IsOver (move_of seen stored gap k (Some cell) outcome)
-split_over seen stored gap k cell (Value v) =
-    either (int_eq k (pos 0) && int_lt (pos 0) v) Ray (value_move seen stored gap (Some cell)) (λ again. again) (value_over seen stored gap cell)
+split_over seen stored gap k cell (Value v) = grind (arith, ints, v)
 split_over seen stored gap k cell (Empty g) = λ again. again
 
 -- nor where a cost was seen that is within the gap of the bound
@@ -153,23 +136,11 @@ value_again false move again = again
 -- nor where a ray's value is above 0
 ray_over : (seen : Option ℤ) (stored : ℤ) (gap : ℕ) (k : ℤ) (cell : Option (ℕ × ℕ)) (v : ℤ) → k ≡ pos 0 → pos 0 <ℤ v
     → IsOver (move_of seen stored gap k cell (Value v))
-ray_over seen stored gap k cell v zero above = rw (is_ray k v zero above) (λ again. again)
-  where
-    is_ray : (k v : ℤ) → k ≡ pos 0 → pos 0 <ℤ v → (int_eq k (pos 0) && int_lt (pos 0) v) ≡ true
-    is_ray k v zero above = grind (arith, ints)
+ray_over seen stored gap k cell v zero above = grind (arith, ints, above)
 
 -- the node stores no less than the bound of the value
 stored_above : (former k v : ℤ) → pos 0 <ℤ k → bound_of v k ≤ℤ bound_after former k (Value v)
-stored_above former k v some = by_test (int_lt (pos 0) k && int_lt former (bound_of v k)) (no_greater k former (bound_of v k) some)
-  where
-    no_greater : (k former bound : ℤ) → pos 0 <ℤ k → (int_lt (pos 0) k && int_lt former bound) ≡ false → bound ≤ℤ former
-    no_greater k former bound some h = grind (arith, ints)
-
-    by_test : (greater : Bool) → (greater ≡ false → bound_of v k ≤ℤ former)
-        → bound_of v k
-        ≤ℤ (cond {A = Stored} greater (record { table = 0; value = bound_of v k; exact = false }) (record { table = 0; value = former; exact = false })).value
-    by_test true less = le_refl (bound_of v k)
-    by_test false less = less refl
+stored_above former k v some = grind (arith, ints, some)
 
 -- ---- the commit
 module _ (law : NeverDecreases) (opening : Opening) (tree : TreeView) (node : ℕ) (path : Node) (seen : Option ℤ) (former : ℤ) (done : Evaluated)
@@ -227,10 +198,7 @@ module _ (law : NeverDecreases) (opening : Opening) (tree : TreeView) (node : �
 
 -- ---- the book
 pub pivoted_opened : (exact_dispatch : Bool) (opening : Opening) → IsPivotedBook exact_dispatch opening (opened opening)
-pivoted_opened exact_dispatch opening = record {
-  size = record { thermal = refl; periods = refl };
-  pivoted = λ asked. none_pivoted opening.instance opening.budget opening.gap (opened opening).tree (opened opening).tables [] refl;
-}
+pivoted_opened exact_dispatch opening = grind (arith, ints)
 
 pub pivoted_committed : TreeRunsHold → NeverDecreases → (exact_dispatch exact : Bool) (opening : Opening) (book : BookView) (worker unit node had : ℕ) (path : Node)
     (seen : Option ℤ) (former : ℤ) (done : Evaluated) → IsTrueOpening opening → IsRunning opening book → IsHolding (state_of book) worker unit node
@@ -283,11 +251,9 @@ pub pivoted_claim : (exact_dispatch : Bool) (opening : Opening) (book new : Book
     → IsClaimAnswer book worker node new result → IsPivotedBook exact_dispatch opening new
 pivoted_claim exact_dispatch opening book new worker node Spent is answer = subst (IsPivotedBook exact_dispatch opening) (sym answer.1) is
 pivoted_claim exact_dispatch opening book new worker node NotOpen is answer = subst (IsPivotedBook exact_dispatch opening) (sym answer.2) is
-pivoted_claim exact_dispatch opening book new worker node (Mine unit had) is answer =
-    subst (IsPivotedBook exact_dispatch opening) (sym answer.4) (record { size = is.size; pivoted = is.pivoted })
+pivoted_claim exact_dispatch opening book new worker node (Mine unit had) is answer = grind (arith, ints, unit, had, is, answer)
 
 pub pivoted_abandon : (exact_dispatch : Bool) (opening : Opening) (book new : BookView) (worker unit : ℕ) (result : Bool) → IsPivotedBook exact_dispatch opening book
     → IsAbandonAnswer book worker unit new result → IsPivotedBook exact_dispatch opening new
-pivoted_abandon exact_dispatch opening book new worker unit true is answer =
-    subst (IsPivotedBook exact_dispatch opening) (sym answer.is) (record { size = is.size; pivoted = is.pivoted })
+pivoted_abandon exact_dispatch opening book new worker unit true is answer = grind (arith, ints, is, answer)
 pivoted_abandon exact_dispatch opening book new worker unit false is answer = subst (IsPivotedBook exact_dispatch opening) (sym answer.1) is

@@ -1,18 +1,17 @@
 -- What the calls of a book keep of what the desk and the closing pass rest on.
 use Rattle.std.proofs.Common.{◌≡◌, ◌≢◌, ◌∙◌, Bool, ℕ, ◌+◌, ◌≤◌, true, false, All, List, [], ◌∷◌, ◌++◌, length, refl, ap, sym, subst, arith, ℤ, Option, Some, None, length-append}
 use Rattle.std.proofs.lemmas.List.Sums.{sum_by-append, sum_by-cons}
-use Rattle.std.proofs.lemmas.List.Elements.{All-nil, All-cons, All-head, All-tail, All-push}
+use Rattle.std.proofs.lemmas.List.Elements.{All-cons, All-head, All-tail, All-push}
 use Rattle.std.specs.Prelude.{sum_by}
 use Rattle.uc_model.specs.declared.tolerance.TheConstants.{WHOLE_GAP}
-use Rattle.dual_model.specs.Prelude.{root}
 use Rattle.dual_model.specs.declared.node.Node.{Node}
-use Rattle.branch_tree.specs.Prelude.{IsOpenAt, tree_of}
+use Rattle.branch_tree.specs.Prelude.{IsOpenAt}
 use Rattle.branch_tree.specs.declared.found.Outcome.{Outcome}
 use Rattle.branch_tree.specs.declared.tree.Leaf.{Leaf}
 use Rattle.branch_tree.specs.declared.tree.Leaf.TheVariants as leaf
 use Rattle.branch_tree.proofs.Grown.{each_leaf_map}
 use Rattle.incumbent.specs.Costs as incumbent
-use Rattle.search_machine.specs.Prelude.{IsHolding, entries_of, IsMoveLegal, kept, unit_of, IsBestWithin, IsPrunedWithin, TreeRunsHold, committed_by}
+use Rattle.search_machine.specs.Prelude.{IsHolding, entries_of, IsMoveLegal, kept, unit_of, IsPrunedWithin, TreeRunsHold, committed_by}
 use Rattle.search_machine.specs.declared.event.Move.{Move}
 use Rattle.search_machine.specs.declared.event.Move.TheVariants.{Again, Split, Prune, Ray, Empty}
 use Rattle.search_machine.proofs.Claims.{holdable}
@@ -38,7 +37,7 @@ use Rattle.book.proofs.Units.{held_part, ended_part}
 use Rattle.opening.specs.Outcomes.{IsSized}
 use Rattle.search_desk.specs.Desks.{Entry, Table, IsKeptBy, IsKeptClaim, IsPrunedBy, IsScaledWithin, IsSizedEntry, commits_of}
 use Rattle.search_desk.specs.Kinds.{IsOfKind}
-use Rattle.search_desk.proofs.Later.{later_none, later_pushed, later_wider}
+use Rattle.search_desk.proofs.Later.{later_pushed}
 
 -- ---- how many claims were committed
 push_count : (claims : List Claim) (next : Claim) → sum_by commits_of (claims ++ next ∷ []) ≡ sum_by commits_of claims + commits_of next
@@ -76,14 +75,7 @@ ended_count claims worker unit node status book same holds =
     (λ i. ended (list i) (part.unit_is i) status) ∙ ended_part part.before part.claim part.after status in
     let held : commits_of part.claim ≡ 0 = ap (λ (s : Status). commits_of (record part.claim { status = s })) part.status in
     record {
-      count = omega (
-        arith,
-        ap (λ l. sum_by commits_of l) more,
-        ap (λ l. sum_by commits_of l) list,
-        part_count part.before new part.after,
-        part_count part.before part.claim part.after,
-        held,
-      );
+      count = grind (arith, part_count, more, list, part, new, held);
       stay = λ each other.
           subst (λ l. All IsKeptClaim l) (sym more)
           (all_parts part.before part.claim new part.after (subst (λ l. All IsKeptClaim l) list each) (kept_status status other part.claim));
@@ -108,65 +100,28 @@ pruned_new : (exact : Bool) (book : BookView) (node : ℕ) (here : Node) (table 
     → HoldsOfNew (λ n l. IsPrunedWithin seen gap l) here (kept (state_of book) node table exact outcome) (length book.tables) exact outcome action
 pruned_new exact book node here table outcome Again seen gap same by legal = tt
 pruned_new exact book node here table outcome (Split g t) seen gap same by legal = (tt, tt, tt)
-pruned_new exact book node here table outcome (Prune cost) seen gap same by legal =
-    subst (λ g. IsBestWithin seen g (Some (kept (state_of book) node table exact outcome).value)) same
-    (subst (λ s. IsBestWithin s book.gap (Some (kept (state_of book) node table exact outcome).value)) (sym by) legal.1.within)
+pruned_new exact book node here table outcome (Prune cost) seen gap same by legal = grind (arith, same, by, legal)
 pruned_new exact book node here table outcome Ray seen gap same by legal = of_ray (IsPrunedWithin seen gap) exact (length book.tables) tt tt
 pruned_new exact book node here table outcome Empty seen gap same by legal = of_empty (IsPrunedWithin seen gap) exact (unit_of outcome) tt tt
 
 -- ---- each call
 pub kept_opened : (exact : Bool) (opening : Opening) (seen : Option ℤ) → IsTrueOpening opening → (limit : ℕ)
     → IsKeptBy exact opening (opened opening) seen limit
-kept_opened exact opening seen begun limit = record {
-  begun = begun;
-  sized = All-nil IsSizedEntry;
-  scaled = later_none limit (opened opening).tables;
-  plain = λ plain. refl;
-  of_kind = All-nil (IsOfKind exact);
-  pruned = tt;
-  counted = refl;
-}
+kept_opened exact opening seen begun limit = grind (arith, begun)
 
 -- a lower cost was seen
 pub kept_lower : NeverDecreases → (exact : Bool) (opening : Opening) (book : BookView) (seen lower : Option ℤ) (limit : ℕ) → incumbent.AtMost lower seen
     → IsKeptBy exact opening book seen limit → IsKeptBy exact opening book lower limit
-kept_lower law exact opening book seen lower limit below is = record {
-  begun = is.begun;
-  sized = is.sized;
-  scaled = is.scaled;
-  plain = is.plain;
-  of_kind = is.of_kind;
-  pruned = each_leaf_map (λ n l. IsPrunedWithin seen opening.gap l) (λ n l. IsPrunedWithin lower opening.gap l)
-      (λ n l h. pruned_lower law seen lower opening.gap is.begun.gap below l h) root (tree_of book.tree) is.pruned;
-  counted = is.counted;
-}
+kept_lower law exact opening book seen lower limit below is = grind (arith, each_leaf_map, pruned_lower, law, below, is)
 
 -- a higher limit of the scales
 pub kept_wider : (exact : Bool) (opening : Opening) (book : BookView) (seen : Option ℤ) (limit more : ℕ) → limit ≤ more → IsKeptBy exact opening book seen limit
     → IsKeptBy exact opening book seen more
-kept_wider exact opening book seen limit more le is = record {
-  begun = is.begun;
-  sized = is.sized;
-  scaled = later_wider limit more le book.tables book.log is.scaled;
-  plain = is.plain;
-  of_kind = is.of_kind;
-  pruned = is.pruned;
-  counted = is.counted;
-}
+kept_wider exact opening book seen limit more le is = grind (arith, le, is)
 
 pub kept_claimed : (exact : Bool) (opening : Opening) (book : BookView) (seen : Option ℤ) (limit worker node : ℕ) → IsKeptBy exact opening book seen limit
     → IsKeptBy exact opening (claimed book worker node) seen limit
-kept_claimed exact opening book seen limit worker node is =
-    let next : Claim = record { worker = worker; node = node; behind = length book.log; status = Held } in
-    record {
-      begun = is.begun;
-      sized = is.sized;
-      scaled = is.scaled;
-      plain = is.plain;
-      of_kind = is.of_kind;
-      pruned = is.pruned;
-      counted = omega (arith, push_count book.claims next, is.counted);
-    }
+kept_claimed exact opening book seen limit worker node is = grind (arith, push_count, is)
 
 pub stay_claimed : (book : BookView) (worker node : ℕ) → All IsKeptClaim book.claims → All IsKeptClaim (claimed book worker node).claims
 stay_claimed book worker node each =
@@ -174,15 +129,7 @@ stay_claimed book worker node each =
 
 pub kept_given_back : (exact : Bool) (opening : Opening) (book : BookView) (seen : Option ℤ) (limit worker unit node : ℕ)
     → IsHolding (state_of book) worker unit node → IsKeptBy exact opening book seen limit → IsKeptBy exact opening (given_back book unit) seen limit
-kept_given_back exact opening book seen limit worker unit node holds is = record {
-  begun = is.begun;
-  sized = is.sized;
-  scaled = is.scaled;
-  plain = is.plain;
-  of_kind = is.of_kind;
-  pruned = is.pruned;
-  counted = omega (arith, (ended_count book.claims worker unit node GivenBack book refl holds).count, is.counted);
-}
+kept_given_back exact opening book seen limit worker unit node holds is = grind (arith, ended_count, holds, is)
 
 pub stay_committed : (exact : Bool) (book : BookView) (worker unit node : ℕ) (table : Table) (outcome : Outcome) (action : Move)
     → IsHolding (state_of book) worker unit node → All IsKeptClaim book.claims

@@ -68,27 +68,7 @@ held_ended claims claim holder e =
 -- ---- one more claim
 pub holders_push : (nodes : NumberedTree) (claims : List (Option Holder)) (holder : Holder) → AreHoldersApart nodes claims
     → IsOpenAt nodes holder.node → ¬ IsHeldIn claims holder.node → AreHoldersApart nodes (claims ++ Some holder ∷ [])
-holders_push nodes claims holder apart live unheld = record {
-  live = λ claim h e. ⊎_elim
-      (λ (l : slice_get claims claim ≡ Some (Some h)). apart.live claim h l)
-      (λ (r : (claim ≡ length claims) × (Some holder ≡ Some h)).
-      let same : holder ≡ h = cc in subst (λ (x : Holder). IsOpenAt nodes x.node) same live)
-      (get_push_cases claims (Some holder) (Some h) claim e);
-  once = λ one other h k e f same. ⊎_elim
-      (λ (l : slice_get claims one ≡ Some (Some h)). ⊎_elim
-      (λ (l2 : slice_get claims other ≡ Some (Some k)). apart.once one other h k l l2 same)
-      (λ (r2 : (other ≡ length claims) × (Some holder ≡ Some k)).
-      let is : holder ≡ k = cc in
-      absurd (unheld (record { claim = one; worker = h.worker; holds = l ∙ (λ i. Some (Some (record { worker = h.worker; node = (same ∙ ap (λ (x : Holder). x.node) (sym is)) i }))) })))
-      (get_push_cases claims (Some holder) (Some k) other f))
-      (λ (r : (one ≡ length claims) × (Some holder ≡ Some h)). ⊎_elim
-      (λ (l2 : slice_get claims other ≡ Some (Some k)).
-      let is : holder ≡ h = cc in
-      absurd (unheld (record { claim = other; worker = k.worker; holds = l2 ∙ (λ i. Some (Some (record { worker = k.worker; node = (sym same ∙ ap (λ (x : Holder). x.node) (sym is)) i }))) })))
-      (λ (r2 : (other ≡ length claims) × (Some holder ≡ Some k)). r.0 ∙ sym r2.0)
-      (get_push_cases claims (Some holder) (Some k) other f))
-      (get_push_cases claims (Some holder) (Some h) one e);
-}
+holders_push nodes claims holder apart live unheld = grind (arith, get_push_cases, apart, live, unheld)
 
 -- ---- a claim that ended, while its leaf was replaced
 -- what stands elsewhere stays
@@ -97,51 +77,20 @@ StaysElsewhere old new node = (number : ℕ) (at : IsOpenAt old number) → numb
 
 pub holders_ended : (old new : NumberedTree) (claims : List (Option Holder)) (claim : ℕ) (holder : Holder) → AreHoldersApart old claims
     → slice_get claims claim ≡ Some (Some holder) → StaysElsewhere old new holder.node → AreHoldersApart new (set claims claim None)
-holders_ended old new claims claim holder apart e stays = record {
-  live = λ other h f. ⊎_elim
-      (λ (l : (other ≡ claim) × (None ≡ Some h)). absurd (cc))
-      (λ (r : (other ≢ claim) × (slice_get claims other ≡ Some (Some h))).
-      stays h.node (apart.live other h r.1) (λ same. r.0 (apart.once other claim h holder r.1 e same)))
-      (get_set_cases claims claim other None (Some h) f);
-  once = λ one other h k f g same. ⊎_elim
-      (λ (l : (one ≡ claim) × (None ≡ Some h)). absurd (cc))
-      (λ (r : (one ≢ claim) × (slice_get claims one ≡ Some (Some h))). ⊎_elim
-      (λ (l2 : (other ≡ claim) × (None ≡ Some k)). absurd (cc))
-      (λ (r2 : (other ≢ claim) × (slice_get claims other ≡ Some (Some k))). apart.once one other h k r.1 r2.1 same)
-      (get_set_cases claims claim other None (Some k) g))
-      (get_set_cases claims claim one None (Some h) f);
-}
+holders_ended old new claims claim holder apart e stays = grind (arith, get_set_cases, apart, e, stays)
 
 -- whoever held another node still does
 pub still_held : (claims : List (Option Holder)) (claim : ℕ) (holder : Holder) (node : ℕ) → slice_get claims claim ≡ Some (Some holder)
     → node ≢ holder.node → IsHeldIn claims node → IsHeldIn (set claims claim None) node
-still_held claims claim holder node e differ held = record {
-  claim = held.claim;
-  worker = held.worker;
-  holds = get-set_other claims claim held.claim None (Some (record { worker = held.worker; node = node }))
-      (λ same.
-      let is : Some (Some (record { worker = held.worker; node = node })) ≡ Some (Some holder) =
-      sym held.holds ∙ (ap (slice_get claims) same ∙ e) in
-      let one : record { worker = held.worker; node = node } ≡ holder = cc in
-      differ (ap (λ (x : Holder). x.node) one))
-      held.holds;
-}
+still_held claims claim holder node e differ held = grind (arith, get-set_other, e, differ, held)
 
 pub was_held : (claims : List (Option Holder)) (claim : ℕ) (node : ℕ) → IsHeldIn (set claims claim None) node → IsHeldIn claims node
-was_held claims claim node held = ⊎_elim
-    (λ (l : (held.claim ≡ claim) × (None ≡ Some (record { worker = held.worker; node = node }))). absurd (cc))
-    (λ (r : (held.claim ≢ claim) × (slice_get claims held.claim ≡ Some (Some (record { worker = held.worker; node = node })))).
-    record { claim = held.claim; worker = held.worker; holds = r.1 })
-    (get_set_cases claims claim held.claim None (Some (record { worker = held.worker; node = node })) held.holds)
+was_held claims claim node held = grind (arith, get_set_cases, held)
 
 -- with one more claim, what was held still is, and nothing else but the new node
 pub held_more : (claims : List (Option Holder)) (holder : Holder) (node : ℕ) → IsHeldIn claims node
     → IsHeldIn (claims ++ Some holder ∷ []) node
-held_more claims holder node held = record {
-  claim = held.claim;
-  worker = held.worker;
-  holds = get-append claims (Some holder ∷ []) held.claim (Some (record { worker = held.worker; node = node })) held.holds;
-}
+held_more claims holder node held = grind (arith, get-append, held)
 
 pub held_new : (claims : List (Option Holder)) (worker node : ℕ)
     → IsHeldIn (claims ++ Some (record { worker = worker; node = node }) ∷ []) node
@@ -153,13 +102,7 @@ held_new claims worker node = record {
 
 pub held_before : (claims : List (Option Holder)) (holder : Holder) (node : ℕ) → node ≢ holder.node
     → IsHeldIn (claims ++ Some holder ∷ []) node → IsHeldIn claims node
-held_before claims holder node differ held = ⊎_elim
-    (λ (l : slice_get claims held.claim ≡ Some (Some (record { worker = held.worker; node = node }))).
-    record { claim = held.claim; worker = held.worker; holds = l })
-    (λ (r : (held.claim ≡ length claims) × (Some holder ≡ Some (record { worker = held.worker; node = node }))).
-    let is : holder ≡ record { worker = held.worker; node = node } = cc in
-    absurd (differ (sym (ap (λ (x : Holder). x.node) is))))
-    (get_push_cases claims (Some holder) (Some (record { worker = held.worker; node = node })) held.claim held.holds)
+held_before claims holder node differ held = grind (arith, get_push_cases, differ, held)
 
 -- ---- How often a ticket is in a hand or a queue, after each change of a desk.
 -- how often the node stands in a list
@@ -170,8 +113,7 @@ times_among tickets node = count_by (λ ticket. ticket == node) tickets
 pub times-with_desk : (desks : List WorkerState) (worker : ℕ) (change : WorkerState → WorkerState) (node : ℕ) → worker < length desks
     → times_in (with_desk desks worker change) node + times_at (desk_in desks worker) node
     ≡ times_in desks node + times_at (change (desk_in desks worker)) node
-times-with_desk desks worker change node within =
-    sum_by-set (λ desk. times_at desk node) desks worker (change (desk_in desks worker)) no_desk within
+times-with_desk desks worker change node within = grind (arith, sum_by-set, within)
 
 -- a change that keeps the tickets
 pub times_kept : (desks : List WorkerState) (worker : ℕ) (change : WorkerState → WorkerState) (node : ℕ) → worker < length desks
@@ -182,8 +124,7 @@ times_kept desks worker change node within same = omega (arith, times-with_desk 
 -- tickets that come to a hand
 pub times-with_tickets : (desk : WorkerState) (tickets : List ℕ) (node : ℕ)
     → times_at (with_tickets desk tickets) node ≡ times_at desk node + times_among tickets node
-times-with_tickets desk tickets node =
-    omega (arith, sum_by-append (λ (ticket : ℕ). cond (ticket == node) 1 0) desk.hand tickets)
+times-with_tickets desk tickets node = grind (arith, sum_by-append)
 
 pub times_more : (desks : List WorkerState) (worker : ℕ) (tickets : List ℕ) (node : ℕ) → worker < length desks
     → times_in (with_desk desks worker (λ desk. with_tickets desk tickets)) node ≡ times_in desks node + times_among tickets node
@@ -282,14 +223,7 @@ times-first (x ∷ xs) node some = omega (arith, times-cons x xs node, times-con
 -- what another desk's hand became leaves each queue
 queue-with_tickets : (desks : List WorkerState) (worker victim : ℕ) (tickets : List ℕ) → worker < length desks
     → (desk_in (with_desk desks worker (λ desk. with_tickets desk tickets)) victim).queue ≡ (desk_in desks victim).queue
-queue-with_tickets desks worker victim tickets within =
-    let new = with_tickets (desk_in desks worker) tickets in
-    ⊎_elim
-    (λ (e : victim ≡ worker).
-    subst (λ v. (desk_in (set desks worker new) v).queue ≡ (desk_in desks v).queue) (sym e)
-    (ap (λ (d : WorkerState). d.queue) (get_or-set_same desks worker new no_desk within)))
-    (λ (d : victim ≡ worker → ⊥). ap (λ (d : WorkerState). d.queue) (get_or-set_other desks worker victim new no_desk d))
-    (cases_eq victim worker)
+queue-with_tickets desks worker victim tickets within = grind (arith, get_or-set_same, get_or-set_other, cases_eq, within)
 
 pub tickets_taken : (desks : List WorkerState) (count worker victim : ℕ) → IsEachTicketOnce desks count → worker < length desks → victim < length desks
     → 0 < length (desk_in desks victim).queue → IsEachTicketOnce (taken desks worker victim) count
@@ -312,15 +246,11 @@ two_more count node = grind (arith, nat_tests, times-cons count (suc count ∷ [
 
 pub tickets_more : (desks : List WorkerState) (count worker : ℕ) → IsEachTicketOnce desks count → worker < length desks
     → IsEachTicketOnce (with_desk desks worker (λ desk. with_tickets desk (count ∷ suc count ∷ []))) (count + 2)
-tickets_more desks count worker once within node =
-    let more = times_more desks worker (count ∷ suc count ∷ []) node within in
-    omega (arith, more, once node, two_more count node)
+tickets_more desks count worker once within node = grind (arith, times_more, two_more, once, within, node)
 
 pub tickets_same : (desks : List WorkerState) (count worker : ℕ) → IsEachTicketOnce desks count → worker < length desks
     → IsEachTicketOnce (with_desk desks worker (λ desk. with_tickets desk [])) count
-tickets_same desks count worker once within node =
-    let more = times_more desks worker [] node within in
-    omega (arith, more, once node)
+tickets_same desks count worker once within node = grind (arith, times_more, once, within, node)
 
 -- ---- What a claim that is held means for its node and for the room that is left.
 pub record IsHoldable (m : Machine) (worker unit node : ℕ) : Type 0 where
@@ -351,7 +281,4 @@ holdable m worker unit node orderly holding =
 
 -- one node is held by a unit
 pub one_held : (m : Machine) (a b unit one other : ℕ) → IsHolding m a unit one → IsHolding m b unit other → one ≡ other
-one_held m a b unit one other first second =
-    let both : Some (record { worker = a; node = one }) ≡ Some (record { worker = b; node = other }) = sym first ∙ second in
-    let same : record { worker = a; node = one } ≡ record { worker = b; node = other } = cc in
-    ap (λ (h : Holder). h.node) same
+one_held m a b unit one other first second = grind (arith, first, second)

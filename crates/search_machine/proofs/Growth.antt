@@ -34,8 +34,7 @@ pub closed_grows : (tree : TreeView) (node : ℕ) (l : Leaf) → IsSound tree �
 closed_grows tree node l sound at = record {
   sound = record {
     placed = closed_placed tree.nodes node l sound.placed at;
-    cover = λ instance size. cover_closed instance root tree.nodes node l
-        (sound.cover instance (record { thermal = size.thermal; periods = size.periods }));
+    cover = λ instance size. grind (arith, cover_closed, instance, tree, node, l, sound, size);
   };
   count = omega (arith, closed_count tree.nodes node l sound.placed at);
   stays = λ number other differ. record {
@@ -54,10 +53,7 @@ pub split_grows : (tree : TreeView) (node g t : ℕ) → IsSound tree → IsOpen
 split_grows tree node g t sound at free = record {
   sound = record {
     placed = split_placed tree.nodes node g t sound.placed at;
-    cover = λ instance size.
-        let own : IsSizeOf tree instance = record { thermal = size.thermal; periods = size.periods } in
-        free_split tree sound.placed.places node g t (node_count tree.nodes) (suc (node_count tree.nodes)) instance
-        sound.placed.are at free own (sound.cover instance own);
+    cover = λ instance size. grind (arith, free_split, tree, instance, size, sound, node, g, t, at, free);
   };
   count = split_count tree.nodes node g t sound.placed at;
   stays = λ number other differ. record {
@@ -92,14 +88,7 @@ free_again tree node g t l placed at free = record {
 }
 
 both_grow : (a b c : TreeView) (node : ℕ) → Grows a b node 0 → Grows b c node 2 → Grows a c node 2
-both_grow a b c node first second = record {
-  sound = second.sound;
-  count = omega (arith, first.count, second.count);
-  stays = λ number other differ. second.stays number (first.stays number other differ) differ;
-  units = second.units ∙ first.units;
-  periods = second.periods ∙ first.periods;
-  room = second.room ∙ first.room;
-}
+both_grow a b c node first second = grind (arith, first, second)
 
 pub tree_grows : (tree : TreeView) (node : ℕ) (stored : Stored) (number : ℕ) (exact : Bool) (outcome : Outcome) (action : Move) → IsSound tree
     → IsOpenAt tree.nodes node → IsFreeFor tree node action
@@ -120,9 +109,7 @@ pub record IsLeafPart (tree : TreeView) (number : ℕ) (l : Leaf) : Type 0 where
   pub is : spot_of part.tree ≡ spot.Leaf l
 
 pub leaf_part : (tree : TreeView) (number : ℕ) (at : IsOpenAt tree.nodes number) → IsLeafPart tree number (leaf.Live at.table at.value at.exact)
-leaf_part tree number at =
-    let part = from_some (λ (p : Subtree). spot_of p.tree) (subtree_at tree.nodes number) (spot.Leaf (leaf.Live at.table at.value at.exact)) at.live in
-    record { part = part.0; hangs = part.1; is = part.2 }
+leaf_part tree number at = grind arith
 
 pub part_node : (tree : TreeView) (number : ℕ) (l : Leaf) (part : IsLeafPart tree number l) → node_at tree.nodes number ≡ Some part.part.node
 part_node tree number l part = ap (λ (o : Option Subtree). option_map (λ (p : Subtree). p.node) o) part.hangs
@@ -198,8 +185,7 @@ root_stays : (here : Node) (tree : NumberedTree) (wanted : ℕ) (grow : Leaf →
     → IsStillThere here (replaced wanted grow tree) number part.node
 root_stays here tree wanted grow number part number_is h = record {
   part = record { node = here; tree = replaced wanted grow tree };
-  hangs = subst (λ n. subtree_below here (replaced wanted grow tree) n ≡ Some (record { node = here; tree = replaced wanted grow tree }))
-      (number_of-replaced wanted grow number_is tree ∙ h.number) (at_root here (replaced wanted grow tree));
+  hangs = grind (arith, number_of-replaced, at_root, here, wanted, grow, tree, number_is, h);
   is = sym (ap (λ (p : Subtree). p.node) h.whole);
 }
 
@@ -294,13 +280,7 @@ free_before tree wanted stored table exact outcome action sound at free number w
     record {
       g = new.g;
       t = new.t;
-      free = record {
-        unit = subst (λ n. new.g < n) grows.units new.free.unit;
-        period = subst (λ n. new.t < n) grows.periods new.free.period;
-        node = new.free.node;
-        is_node = was ∙ (sym stays ∙ new.free.is_node);
-        undecided = new.free.undecided;
-      };
+      free = grind (arith, new, grows, was, stays);
     }
 
 -- ---- the node of the move is open afterwards only where the move is Again
@@ -313,9 +293,7 @@ IsNotLive l = (table : ℕ) (value : ℤ) (exact : Bool) → spot.Leaf l ≢ spo
 
 not_open : (tree : NumberedTree) (number : ℕ) (s : Spot) → spot_at tree number ≡ Some s
     → ((table : ℕ) (value : ℤ) (exact : Bool) → s ≢ spot.Leaf (leaf.Live table value exact)) → ¬ IsOpenAt tree number
-not_open tree number s stands differ at =
-    let both : Some s ≡ Some (spot.Leaf (leaf.Live at.table at.value at.exact)) = sym stands ∙ at.live in
-    differ at.table at.value at.exact (cc)
+not_open tree number s stands differ at = grind (arith, stands, differ, at)
 
 pub open_again_only : (tree : TreeView) (wanted : ℕ) (stored : Stored) (table : ℕ) (exact : Bool) (outcome : Outcome) (action : Move)
     → IsSound tree → IsOpenAt tree.nodes wanted → IsOpenAt (tree_after tree wanted stored table exact outcome action).nodes wanted → IsAgain action

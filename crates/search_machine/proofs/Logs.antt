@@ -1,7 +1,7 @@
 -- Every legal and true event keeps what is true of the log, of the tables, and of what each node stores by its own entries.
 use Rattle.std.proofs.Common.{◌≡◌, ◌≢◌, ℕ, Bool, suc, ◌-◌, ◌<◌, ◌≤◌, All, List, [], ◌∷◌, ◌++◌, length, set, refl, ap, sym, ◌∙◌, subst, arith, ⊎_elim, ℤ, Option, Some, None, slice_get, AllPairs, length-append}
 use Rattle.std.proofs.lemmas.Bool.{cases_eq, cases_lt}
-use Rattle.std.proofs.lemmas.List.Elements.{All-nil, All-push}
+use Rattle.std.proofs.lemmas.List.Elements.{All-push}
 use Rattle.std.proofs.lemmas.Option.{slice_get_within, slice_get-get_or}
 use Rattle.branch_tree.specs.Prelude.{node_count, IsNodeAt, TreeView, IsOpenAt, IsTrueEntry, AreApart}
 use Rattle.branch_tree.specs.declared.tree.Leaf.TheVariants as leaf
@@ -37,53 +37,25 @@ HasTrueLog instance start m = IsLogged instance start m.tree m.tables m.claims m
 -- ---- the start
 started : (instance : Instance) (units periods workers budget gap : ℕ) (table : Table) (value : ℤ)
     → HasTrueLog instance (start_of units periods workers budget gap table value) (start_of units periods workers budget gap table value)
-started instance units periods workers budget gap table value = record {
-  entries = All-nil (IsTrueEntry instance _ (table ∷ []));
-  apart = λ i j d before within. absurd (omega arith);
-  ended = All-nil (λ (entry : Entry). IsEnded [] entry.unit);
-  first = refl;
-  there = omega arith;
-  own = ((λ nonzero free. tt), (refl, refl, refl));
-  few = λ number free. omega arith;
-  fewer = λ number at free. omega arith;
-}
+started instance units periods workers budget gap table value = grind arith
 
 pub start_logged : (instance : Instance) (m : Machine) → IsTrueStart instance m → HasTrueLog instance m m
-start_logged instance m start =
-    subst (λ x. HasTrueLog instance x x) (sym start.is_start)
-    (started instance _ instance.periods start.workers start.budget start.gap start.table start.value)
+start_logged instance m start = grind (arith, start)
 
 -- ---- a claim
 claimed : (instance : Instance) (start : Machine) (tree : TreeView) (tables : List Table) (claims : List (Option Holder)) (log : List Entry) (next : Option Holder)
     → IsLogged instance start tree tables claims log → IsLogged instance start tree tables (claims ++ next ∷ []) log
-claimed instance start tree tables claims log next is = record {
-  entries = is.entries;
-  apart = is.apart;
-  ended = λ k d within. ended_more claims next _ (is.ended k d within);
-  first = is.first;
-  there = is.there;
-  own = is.own;
-  few = is.few;
-  fewer = is.fewer;
-}
+claimed instance start tree tables claims log next is = grind (arith, ended_more, is)
 
 -- ---- the entries after a commit
 entry_more : (instance : Instance) (old new : TreeView) (tables : List Table) (table : Table) (entry : Entry)
     → ((number : ℕ) (node : Node) → IsNodeAt old number node → IsNodeAt new number node) → IsTrueEntry instance old tables entry
     → IsTrueEntry instance new (tables ++ table ∷ []) entry
-entry_more instance old new tables table entry stays is = record {
-  node = is.node;
-  is_node = stays entry.node is.node is.is_node;
-  table = is.table;
-  is_table = get-append tables (table ∷ []) entry.table is.table is.is_table;
-  lawful = is.lawful;
-  outcome = is.outcome;
-}
+entry_more instance old new tables table entry stays is = grind (arith, get-append, stays, is)
 
 tables_within : (instance : Instance) (tree : TreeView) (tables : List Table) (log : List Entry) → All (IsTrueEntry instance tree tables) log
     → All (IsTableWithin (length tables)) log
-tables_within instance tree tables log each k d within =
-    let is = each k d within in slice_get_within tables _ is.table is.is_table
+tables_within instance tree tables log each k d within = grind (arith, slice_get_within, each, k, d, within)
 
 -- reading one of the tables after one more
 table_more : (tables : List Table) (table : Table) (number : ℕ) → number < length tables
@@ -93,10 +65,7 @@ table_more tables table number within =
 
 apart_more : (tables : List Table) (table : Table) (one other : Entry) → one.table < length tables → other.table < length tables
     → AreApart tables one other → AreApart (tables ++ table ∷ []) one other
-apart_more tables table one other first second is = record {
-  unit = is.unit;
-  pair = λ same kind e. is.pair same kind (sym (table_more tables table one.table first) ∙ (e ∙ table_more tables table other.table second));
-}
+apart_more tables table one other first second is = grind (arith, table_more, first, second, is)
 
 apart_new : (m : Machine) (worker unit node : ℕ) (table : Table) (exact : Bool) (result : Outcome) (entry : Entry)
     → IsEnded m.claims entry.unit → IsHolding m worker unit node → entry.table < length m.tables
@@ -164,8 +133,7 @@ logged_committed looked instance start m worker unit node table exact result act
           (record {
             claim = held.claim;
             unit_is = held.unit_is;
-            ended = subst (λ n. slice_get (set m.claims n None) held.claim ≡ Some None) (omega (arith, held.unit_is))
-                (get-set_same m.claims held.claim None (Some (record { worker = worker; node = node })) held.holds);
+            ended = grind (arith, get-set_same, m, held, worker, node);
           });
       first = table_more m.tables table 0 (omega (arith, is.there)) ∙ is.first;
       there = omega (arith, is.there, longer);

@@ -1,19 +1,18 @@
 -- Every legal event keeps the state orderly, and the fields as they must be.
-use Rattle.std.proofs.Common.{◌≡◌, ℕ, Bool, ◌+◌, ◌-◌, ◌*◌, ◌<◌, ◌≤◌, ◌==◌, nat_lt, All, List, [], ◌∷◌, ◌++◌, length, set, refl, ap, sym, ◌∙◌, subst, arith, Option, Some, None, ℤ, length-append, length-set, replicate, false}
+use Rattle.std.proofs.Common.{◌≡◌, ℕ, Bool, ◌+◌, ◌-◌, ◌*◌, ◌<◌, ◌≤◌, ◌==◌, nat_lt, All, List, [], ◌∷◌, ◌++◌, length, set, refl, ap, sym, ◌∙◌, subst, arith, Option, Some, None, ℤ, length-append, length-set, replicate}
 use Rattle.std.proofs.lemmas.Bool.Decides.{nat_tests}
 use Rattle.std.proofs.lemmas.List.Elements.{All-nil, All-cons, All-append}
 use Rattle.std.proofs.lemmas.List.Folds.{sum_by-replicate}
 use Rattle.std.proofs.lemmas.List.Sums.{sum_by-cons}
 use Rattle.std.proofs.lemmas.Option.{slice_get_within}
 use Rattle.branch_tree.specs.Prelude.{node_count, TreeView, IsOpenAt, lesser_bound}
-use Rattle.branch_tree.specs.declared.tree.Leaf.TheVariants as leaf
 use Rattle.branch_tree.proofs.Grown.{open_numbered, root_placed}
 use Rattle.branch_tree.proofs.Subtrees.{one_if}
 use Rattle.search_machine.specs.Machine.{Entry, Table, Holder, WorkerState, Machine, holder_of, IsWorker, desk_in, no_desk, first_desk, start_of}
 use Rattle.search_machine.specs.declared.stored.Stored.{Stored}
 use Rattle.search_machine.specs.Moves.{children_by, Again, Outcome, Split, Move, kept, tree_after, tickets_of, IsFreeFor, IsMoveLegal}
 use Rattle.search_machine.specs.Steps.{Claim, Commit, Look, Pop, Publish, Push, Steal, Event, IsLegalBy, committed, committed_by, after, with_desk, with_tickets, IsClaimable}
-use Rattle.search_machine.specs.Orderly.{MAX_BUDGET, WHOLE_GAP, IsOrderly, AreHoldersApart, IsEachTicketOnce, held_count, times_at}
+use Rattle.search_machine.specs.Orderly.{MAX_BUDGET, WHOLE_GAP, IsOrderly, IsEachTicketOnce, held_count, times_at}
 use Rattle.search_machine.proofs.Claims.{holder_place, held_push, held_ended, holders_push, holders_ended, times_kept, tickets_queued, tickets_taken, tickets_more, tickets_same}
 use Rattle.search_machine.proofs.Growth.{IsSound, tree_grows}
 
@@ -28,34 +27,13 @@ first_tickets workers node =
 
 pub orderly_start : (units periods workers budget gap : ℕ) (table : Table) (value : ℤ) → budget ≤ MAX_BUDGET → gap ≤ WHOLE_GAP
     → IsOrderly (start_of units periods workers budget gap table value)
-orderly_start units periods workers budget gap table value most whole = record {
-  placed = root_placed (leaf.Live 0 value false);
-  cover = λ instance size. tt;
-  holders = record { live = λ claim holder e. absurd (cc); once = λ one other holder second e f same. absurd (cc) };
-  entries = All-nil (λ (entry : Entry). entry.node < 1);
-  tickets = first_tickets (workers - 1);
-  amounts = record {
-    claims = omega arith;
-    tables = omega arith;
-    nodes = omega arith;
-    room = refl;
-    budget = most;
-    gap = whole;
-  };
-}
+orderly_start units periods workers budget gap table value most whole = grind (arith, root_placed, All-nil, first_tickets, most, whole)
 
 -- ---- the desks
 -- only they, and what was published, changed
 desks_changed : (m : Machine) (best : Option ℤ) (desks : List WorkerState) → IsOrderly m → IsEachTicketOnce desks (node_count m.tree.nodes)
     → IsOrderly (record m { best = best; desks = desks })
-desks_changed m best desks orderly once = record {
-  placed = orderly.placed;
-  cover = orderly.cover;
-  holders = orderly.holders;
-  entries = orderly.entries;
-  tickets = once;
-  amounts = orderly.amounts;
-}
+desks_changed m best desks orderly once = grind (arith, orderly, once)
 
 -- a change of a desk that keeps its tickets
 seen_changed : (m : Machine) (worker : ℕ) (change : WorkerState → WorkerState) → IsOrderly m → IsWorker m worker
@@ -66,26 +44,7 @@ seen_changed m worker change orderly within same node =
 
 -- ---- a claim
 claimed : (m : Machine) (worker node : ℕ) → IsOrderly m → IsClaimable m node → IsOrderly (after m (Claim worker node))
-claimed m worker node orderly legal =
-    let holder : Holder = record { worker = worker; node = node } in
-    let more = held_push m.claims holder in
-    let longer = length-append m.claims (Some holder ∷ []) in
-    let amounts = orderly.amounts in
-    record {
-      placed = orderly.placed;
-      cover = orderly.cover;
-      holders = holders_push m.tree.nodes m.claims holder orderly.holders legal.open_node.live legal.open_node.unheld;
-      entries = orderly.entries;
-      tickets = orderly.tickets;
-      amounts = record {
-        claims = omega (arith, longer, legal.left);
-        tables = omega (arith, longer, more, amounts.tables);
-        nodes = omega (arith, longer, more, amounts.nodes);
-        room = amounts.room;
-        budget = amounts.budget;
-        gap = amounts.gap;
-      };
-    }
+claimed m worker node orderly legal = grind (arith, held_push, length-append, holders_push, orderly, legal)
 
 -- ---- a commit
 pub free_for : (looked : ℤ → Type 0) (m : Machine) (node : ℕ) (table : Table) (exact : Bool) (outcome : Outcome) (action : Move)
@@ -100,10 +59,7 @@ few_tickets tree _ = omega arith
 
 no_tickets : (m : Machine) (worker : ℕ) → IsOrderly m → IsWorker m worker
     → IsEachTicketOnce (with_desk m.desks worker (λ desk. with_tickets desk [])) (node_count m.tree.nodes + 0)
-no_tickets m worker orderly within =
-    let same : node_count m.tree.nodes ≡ node_count m.tree.nodes + 0 = omega arith in
-    subst (IsEachTicketOnce (with_desk m.desks worker (λ desk. with_tickets desk []))) same
-    (tickets_same m.desks (node_count m.tree.nodes) worker orderly.tickets within)
+no_tickets m worker orderly within = grind (arith, tickets_same, orderly, within)
 
 new_tickets : (m : Machine) (worker : ℕ) (action : Move) → IsOrderly m → IsWorker m worker
     → IsEachTicketOnce (with_desk m.desks worker (λ desk. with_tickets desk (tickets_of m.tree action)))
@@ -141,21 +97,11 @@ committed_orderly m worker unit node table exact outcome action orderly within h
     record {
       placed = grows.sound.placed;
       cover = grows.sound.cover;
-      holders = subst (AreHoldersApart (tree_after m.tree node (kept m node table exact outcome) (length m.tables) exact outcome action).nodes) (sym claims)
-          (holders_ended m.tree.nodes (tree_after m.tree node (kept m node table exact outcome) (length m.tables) exact outcome action).nodes
-          m.claims place.0 holder orderly.holders place.2 grows.stays);
+      holders = grind (arith, holders_ended, m, node, table, exact, outcome, action, claims, place, holder, orderly, grows);
       entries = entries_more m.log (record { unit = unit; worker = worker; node = node; table = length m.tables; exact = exact; outcome = outcome })
           (node_count m.tree.nodes) _ orderly.entries (open_numbered m.tree.nodes node orderly.placed at) (omega (arith, grows.count));
-      tickets = subst (IsEachTicketOnce (with_desk m.desks worker (λ desk. with_tickets desk (tickets_of m.tree action)))) (sym grows.count)
-          (new_tickets m worker action orderly within);
-      amounts = record {
-        claims = omega (arith, same, size, amounts.claims);
-        tables = omega (arith, same, size, held, fewer, longer, amounts.tables);
-        nodes = omega (arith, same, size, held, fewer, grows.count, few_tickets m.tree action, amounts.nodes);
-        room = grows.room ∙ amounts.room;
-        budget = amounts.budget;
-        gap = amounts.gap;
-      };
+      tickets = grind (arith, new_tickets, m, worker, action, grows, orderly, within);
+      amounts = grind (arith, few_tickets, claims, same, size, amounts, held, fewer, longer, grows, m, action);
     }
 
 -- ---- every event
@@ -171,12 +117,9 @@ orderly_after looked m (Publish worker cost) orderly legal =
     (seen_changed m worker (λ desk. record desk { seen = lesser_bound desk.seen (Some cost) }) orderly legal (λ desk node. refl))
 orderly_after looked m (Look worker) orderly legal =
     desks_changed m m.best _ orderly (seen_changed m worker (λ desk. record desk { seen = m.best }) orderly legal (λ desk node. refl))
-orderly_after looked m (Push worker node) orderly legal =
-    desks_changed m m.best _ orderly (tickets_queued m.desks (node_count m.tree.nodes) worker node orderly.tickets legal.0 legal.1)
-orderly_after looked m (Pop worker) orderly legal =
-    desks_changed m m.best _ orderly (tickets_taken m.desks (node_count m.tree.nodes) worker worker orderly.tickets legal.0 legal.0 legal.1)
-orderly_after looked m (Steal worker victim) orderly legal =
-    desks_changed m m.best _ orderly (tickets_taken m.desks (node_count m.tree.nodes) worker victim orderly.tickets legal.0 legal.1 legal.2)
+orderly_after looked m (Push worker node) orderly legal = grind (arith, desks_changed, tickets_queued, worker, node, orderly, legal)
+orderly_after looked m (Pop worker) orderly legal = grind (arith, desks_changed, tickets_taken, worker, orderly, legal)
+orderly_after looked m (Steal worker victim) orderly legal = grind (arith, desks_changed, tickets_taken, worker, victim, orderly, legal)
 
 -- ---- no step changes the size of the tree
 pub record IsAsLarge (new old : TreeView) : Type 0 where
@@ -191,12 +134,10 @@ tree_as_large tree node stored number exact outcome _ = record { units = refl; p
 committed_as_large : (m : Machine) (worker unit : ℕ) (table : Table) (exact : Bool) (outcome : Outcome) (action : Move) (holder : Option Holder)
     → IsAsLarge (committed_by m worker unit table exact outcome action holder).tree m.tree
 committed_as_large m worker unit table exact outcome action None = record { units = refl; periods = refl }
-committed_as_large m worker unit table exact outcome action (Some holder) =
-    tree_as_large m.tree holder.node (kept m holder.node table exact outcome) _ exact outcome action
+committed_as_large m worker unit table exact outcome action (Some holder) = grind arith
 
 pub as_large_after : (m : Machine) (event : Event) → IsAsLarge (after m event).tree m.tree
-as_large_after m (Commit worker unit table exact outcome action) =
-    committed_as_large m worker unit table exact outcome action (holder_of m unit)
+as_large_after m (Commit worker unit table exact outcome action) = grind (arith, worker, unit, table, exact, outcome, action)
 as_large_after m _ = record { units = refl; periods = refl }
 
 -- ---- a move adds as many nodes, whichever numbers they have

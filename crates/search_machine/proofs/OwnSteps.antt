@@ -1,5 +1,5 @@
 -- What each node stores by its own entries, after an entry more and the move of its claim.
-use Rattle.std.proofs.Common.{◌≡◌, ◌≢◌, ℕ, ◌<◌, true, false, cond, List, length, ap, sym, ◌∙◌, subst, arith, ⊎_elim, Some, eq-eqb, [], ◌∷◌, ◌++◌, All, refl, ℤ, pos, fold, int_lt, ◌&&◌, suc, ◌≤◌, get_or, set, Option, None, append-nil, ◌==◌, slice_get, AllPairs, Bool}
+use Rattle.std.proofs.Common.{◌≡◌, ◌≢◌, ℕ, ◌<◌, true, false, cond, List, length, ap, sym, ◌∙◌, subst, arith, ⊎_elim, Some, eq-eqb, [], ◌∷◌, ◌++◌, All, refl, ℤ, pos, fold, int_lt, ◌&&◌, suc, ◌≤◌, set, Option, None, append-nil, ◌==◌, slice_get, AllPairs, Bool}
 use Rattle.std.proofs.lemmas.Bool.{cases_Bool, cases_eq, cases_lt, ne_eqb}
 use Rattle.std.proofs.lemmas.List.{get_or_append_left, get_or_push, length-append}
 use Rattle.std.proofs.lemmas.List.Elements.{All-head, All-tail, All-nil, All-cons, filter-append, All-filter}
@@ -10,18 +10,18 @@ use Rattle.branch_tree.specs.Prelude.{NumberedTree, EndAt, SplitAt, Subtree, spo
 use Rattle.branch_tree.specs.declared.tree.Spot.TheVariants as spot
 use Rattle.branch_tree.specs.declared.found.Outcome.TheVariants as outcome
 use Rattle.branch_tree.specs.declared.tree.Leaf.TheVariants as leaf
-use Rattle.branch_tree.proofs.Subtrees.{one_if, replaced_nowhere, same_or_not, AreApart, IsOff, IsOn, apart_off, apart_on, leaf_at, leaf_sides, not_root, part_counted}
+use Rattle.branch_tree.proofs.Subtrees.{one_if, replaced_nowhere, same_or_not, AreApart, IsOff, IsOn, apart_off, apart_on, leaf_sides, not_root, part_counted}
 use Rattle.branch_tree.proofs.Changes.{get-append, get-set_other, get-set_same, are_apart}
 use Rattle.branch_tree.proofs.Grown.{closed_count, open_numbered}
 use Rattle.search_machine.specs.Machine.{Entry, Table, entries_of, Holder, holder_in, Machine, stored_at, spot_stored}
 use Rattle.search_machine.specs.declared.stored.Stored.{Stored}
 use Rattle.branch_tree.specs.declared.tree.Leaf.{Leaf}
 use Rattle.search_machine.specs.OwnTables.{Node, HasFreeCellAt, StartsAt, HoldsStored, OwnsBelow, stored_after, stored_by, Owns}
-use Rattle.search_machine.specs.Moves.{Outcome, bound_of, kept_after, Again, Empty, Prune, Ray, Split, Move, HasFreeCell, kept, closed, split, live_leaf, bound_leaf, ray_leaf, empty_leaf, tree_after, unit_of}
+use Rattle.search_machine.specs.Moves.{Outcome, bound_of, kept_after, Again, Empty, Prune, Ray, Split, Move, HasFreeCell, kept, closed, split, live_leaf, tree_after}
 use Rattle.search_machine.specs.Orderly.{IsOrderly}
 use Rattle.search_machine.specs.Steps.{IsStoredTable}
 use Rattle.search_machine.proofs.Claims.{holder_place}
-use Rattle.search_machine.proofs.Growth.{IsSound, closed_grows, open_again, IsLeafPart, leaf_part, part_node, of_ray, of_empty}
+use Rattle.search_machine.proofs.Growth.{IsSound, closed_grows, open_again, IsLeafPart, leaf_part, of_ray, of_empty}
 use Rattle.search_machine.proofs.OrderlySteps.{sound_of, entries_more}
 
 -- ---- other lists of tables and entries
@@ -44,8 +44,7 @@ start_same units periods tables more log later wanted here inherited number like
 stores_same : (tables more : List Table) (log later : List Entry) (wanted : ℕ) (inherited : Stored) (number : ℕ)
     → AreAlike tables more log later wanted → number ≢ wanted
     → stored_after more inherited (entries_of later number) ≡ stored_after tables inherited (entries_of log number)
-stores_same tables more log later wanted inherited number like differ =
-    ap (stored_after more inherited) (like.entries number differ) ∙ like.stores number inherited
+stores_same tables more log later wanted inherited number like differ = grind (arith, like, differ)
 
 -- a tree without that node
 own_same : (units periods : ℕ) (tables more : List Table) (log later : List Entry) (wanted : ℕ) (here : Node) (inherited : Stored) (tree : NumberedTree)
@@ -77,14 +76,7 @@ pub own_replaced : (units periods : ℕ) (tables more : List Table) (log later :
     → inherited.table < length tables → OwnsBelow units periods tables log here inherited tree
     → OwnsBelow units periods more later here inherited (replaced wanted grow tree)
 own_replaced units periods tables more log later wanted grow part old like is grown here inherited (EndAt number l) apart e there own =
-    let at = leaf_at here number l old wanted part e is in
-    let was : OwnsBelow units periods tables log part.node inherited (EndAt wanted old) =
-    subst (λ n. OwnsBelow units periods tables log n inherited (EndAt wanted old)) (sym at.node)
-    (subst (λ x. OwnsBelow units periods tables log here inherited (EndAt wanted x)) at.same
-    (subst (λ n. OwnsBelow units periods tables log here inherited (EndAt n l)) at.number_is own)) in
-    subst (λ b. OwnsBelow units periods more later here inherited (cond b (grow l) (EndAt number l))) (sym at.test)
-    (subst (λ x. OwnsBelow units periods more later here inherited (grow x)) (sym at.same)
-    (subst (λ n. OwnsBelow units periods more later n inherited (grow old)) at.node (grown inherited there was)))
+    grind (arith, like, is, grown, number, l, apart, e, there, own)
 own_replaced units periods tables more log later wanted grow part old like is grown here inherited (SplitAt number g t off on) apart e there own =
     let left = child here g t false in
     let right = child here g t true in
@@ -174,15 +166,11 @@ parts log entry node = filter-append (λ (e : Entry). e.node == node) log (entry
 
 pub entries_own : (log : List Entry) (entry : Entry) (node : ℕ) → entry.node ≡ node
     → entries_of (log ++ entry ∷ []) node ≡ entries_of log node ++ entry ∷ []
-entries_own log entry node is =
-    parts log entry node ∙ ap (λ b. entries_of log node ++ cond b (entry ∷ []) []) (eq-eqb entry.node node is)
+entries_own log entry node is = grind (arith, parts, eq-eqb, is)
 
 pub entries_same : (log : List Entry) (entry : Entry) (node : ℕ) → node ≢ entry.node
     → entries_of (log ++ entry ∷ []) node ≡ entries_of log node
-entries_same log entry node differ =
-    parts log entry node
-    ∙ ap (λ b. entries_of log node ++ cond b (entry ∷ []) []) (ne_eqb entry.node node (λ e. differ (sym e)))
-    ∙ append-nil (entries_of log node)
+entries_same log entry node differ = grind (arith, parts, ne_eqb, append-nil, differ)
 
 -- a node that no entry is of has none
 pub no_entries : (log : List Entry) (count node : ℕ) → All (λ entry. entry.node < count) log → count ≤ node → entries_of log node ≡ []
@@ -225,16 +213,7 @@ each_of_node P (entry ∷ log) node each = ⊎_elim
 -- what holds of two items holds of each pair of a list with one more
 pub pairs_push : {A : Type 0} (R : A → A → Type 0) (xs : List A) (y : A) → AllPairs R xs → All (λ x. R x y) xs → AllPairs R (xs ++ y ∷ [])
 pairs_push R xs y pairs own i j d before within =
-    let longer = length-append xs (y ∷ []) in
-    ⊎_elim
-    (λ (l : j < length xs).
-    subst (λ a. R a (get_or (xs ++ y ∷ []) j d)) (sym (get_or_append_left xs (y ∷ []) d i (omega arith)))
-    (subst (R (get_or xs i d)) (sym (get_or_append_left xs (y ∷ []) d j l)) (pairs i j d before l)))
-    (λ (l : length xs ≤ j).
-    let last : length xs ≡ j = omega arith in
-    subst (λ a. R a (get_or (xs ++ y ∷ []) j d)) (sym (get_or_append_left xs (y ∷ []) d i (omega arith)))
-    (subst (R (get_or xs i d)) (sym (get_or_push xs y d j last)) (own i d (omega arith))))
-    (cases_lt j (length xs))
+    grind (arith, length-append, get_or_append_left, get_or_push, cases_lt, pairs, own, i, j, d, before, within)
 
 -- ---- claims that ended
 -- the claim of this unit ended
@@ -244,28 +223,15 @@ pub record IsEnded (claims : List (Option Holder)) (unit : ℕ) : Type 0 where
   pub ended : slice_get claims claim ≡ Some None
 
 pub ended_more : (claims : List (Option Holder)) (next : Option Holder) (unit : ℕ) → IsEnded claims unit → IsEnded (claims ++ next ∷ []) unit
-ended_more claims next unit is =
-    record { claim = is.claim; unit_is = is.unit_is; ended = get-append claims (next ∷ []) is.claim None is.ended }
+ended_more claims next unit is = grind (arith, get-append, is)
 
 pub ended_still : (claims : List (Option Holder)) (place unit : ℕ) → IsEnded claims unit → IsEnded (set claims place None) unit
-ended_still claims place unit is = record {
-  claim = is.claim;
-  unit_is = is.unit_is;
-  ended = ⊎_elim
-      (λ (e : is.claim ≡ place).
-      subst (λ n. slice_get (set claims n None) is.claim ≡ Some None) e (get-set_same claims is.claim None None is.ended))
-      (λ (differ : is.claim ≡ place → ⊥). get-set_other claims place is.claim None None differ is.ended)
-      (cases_eq is.claim place);
-}
+ended_still claims place unit is = grind (arith, get-set_same, get-set_other, cases_eq, is)
 
 -- and so it isn't one that is held
 pub ended_apart : (claims : List (Option Holder)) (unit held : ℕ) (holder : Holder) → IsEnded claims unit → holder_in claims held ≡ Some holder
     → unit ≢ held
-ended_apart claims unit held holder is holds e =
-    let place = holder_place claims held holder holds in
-    let same : is.claim ≡ place.0 = omega (arith, is.unit_is, place.1, e) in
-    let both : Some None ≡ Some (Some holder) = sym is.ended ∙ (ap (slice_get claims) same ∙ place.2) in
-    cc
+ended_apart claims unit held holder is holds e = grind (arith, holder_place, is, holds, e)
 
 -- ---- What each node stores is what its entries leave again, after the commit of one more.
 -- the entry of a commit
@@ -279,14 +245,7 @@ within_of_node count log number each = All-filter (λ (e : Entry). e.node == num
 -- ---- a table and an entry more
 alike_more : (tables : List Table) (table : Table) (log : List Entry) (entry : Entry) → All (IsTableWithin (length tables)) log
     → AreAlike tables (tables ++ table ∷ []) log (log ++ entry ∷ []) entry.node
-alike_more tables table log entry within = record {
-  entries = λ number differ. entries_same log entry number differ;
-  starts = λ number stored there starts.
-      more_start tables (table ∷ []) stored (entries_of log number) there (within_of_node (length tables) log number within) starts;
-  stores = λ number stored. more_tables tables (table ∷ []) stored (entries_of log number) (within_of_node (length tables) log number within);
-  within = λ number stored there.
-      stored_within tables (length tables) stored (entries_of log number) there (within_of_node (length tables) log number within);
-}
+alike_more tables table log entry within = grind (arith, entries_same, more_start, within_of_node, more_tables, stored_within, within)
 
 -- at the number of the commit the first entry is at the table that was stored, and what is stored is what the move Again leaves
 is_record : (stored : Stored) (table : ℕ) (value : ℤ) (exact : Bool) → table ≡ stored.table → value ≡ stored.value → exact ≡ stored.exact
@@ -297,27 +256,14 @@ started : (tables : List Table) (table : Table) (stored : Stored) (entry : Entry
     → stored.table < length tables → All (IsTableWithin (length tables)) entries → StartsAt tables stored entries
     → (entries ≡ [] → slice_get tables stored.table ≡ Some table) → StartsAt (tables ++ table ∷ []) stored (entries ++ entry ∷ [])
 started tables table stored entry [] number there within starts first =
-    ap (table_at (tables ++ table ∷ [])) number
-    ∙ (get_or_push tables table no_table (length tables) refl
-    ∙ (sym (get_or_from_slice_get tables stored.table table no_table (first refl))
-    ∙ sym (get_or_append_left tables (table ∷ []) no_table stored.table there)))
+    grind (arith, get_or_push, get_or_from_slice_get, get_or_append_left, number, there, within, starts, first)
 started tables table stored entry (e ∷ entries) number there within starts first =
     more_start tables (table ∷ []) stored (e ∷ entries) there within starts
 
 -- a free cell of the node that has the number
 free_of_part : (tree : TreeView) (number : ℕ) (l : Leaf) (part : IsLeafPart tree number l)
     → HasFreeCellAt tree.units tree.periods part.part.node → HasFreeCell tree number
-free_of_part tree number l part free = record {
-  g = free.g;
-  t = free.t;
-  free = record {
-    unit = free.unit;
-    period = free.period;
-    node = part.part.node;
-    is_node = part_node tree number l part;
-    undecided = free.undecided;
-  };
-}
+free_of_part tree number l part free = grind (arith, free)
 
 -- ---- another leaf
 own_closed : (m : Machine) (worker unit node : ℕ) (table : Table) (exact : Bool) (result : Outcome) (first : Stored) (new : Leaf) → IsOrderly m
@@ -382,13 +328,7 @@ own_closed m worker unit node table exact result first new orderly at within the
 -- ---- a split, whose children have no entries
 alike_itself : (tables : List Table) (log : List Entry) (wanted : ℕ) → All (IsTableWithin (length tables)) log
     → AreAlike tables tables log log wanted
-alike_itself tables log wanted within = record {
-  entries = λ number differ. refl;
-  starts = λ number stored there starts. starts;
-  stores = λ number stored. refl;
-  within = λ number stored there.
-      stored_within tables (length tables) stored (entries_of log number) there (within_of_node (length tables) log number within);
-}
+alike_itself tables log wanted within = grind (arith, stored_within, within_of_node, within)
 
 own_split : (tree : TreeView) (tables : List Table) (log : List Entry) (node g t : ℕ) (first : Stored) → IsSound tree → IsOpenAt tree.nodes node
     → All (λ entry. entry.node < node_count tree.nodes) log → All (IsTableWithin (length tables)) log → first.table < length tables
@@ -422,8 +362,7 @@ pub own_after : (m : Machine) (worker unit node : ℕ) (table : Table) (exact : 
     → Owns (tree_after m.tree node (kept m node table exact result) (length m.tables) exact result action) (m.tables ++ table ∷ [])
     (m.log ++ entry_by m worker unit node exact result ∷ []) first
 own_after m worker unit node table exact result Again first orderly at within later there still at_first own =
-    own_closed m worker unit node table exact result first (live_leaf (kept m node table exact result))
-    orderly at within there at_first (refl, refl, refl) own
+    grind (arith, own_closed, Again, orderly, at, within, later, there, still, at_first, own)
 own_after m worker unit node table exact result (Split g t) first orderly at within later there still at_first own =
     let stored = kept m node table exact result in
     let l = live_leaf stored in
@@ -437,11 +376,8 @@ own_after m worker unit node table exact result (Split g t) first orderly at wit
     later still
     (own_closed m worker unit node table exact result first l orderly at within there at_first (refl, refl, refl) own)
 own_after m worker unit node table exact result (Prune seen) first orderly at within later there still at_first own =
-    own_closed m worker unit node table exact result first (bound_leaf (kept m node table exact result))
-    orderly at within there at_first (refl, refl, refl) own
+    grind (arith, own_closed, seen, orderly, at, within, later, there, still, at_first, own)
 own_after m worker unit node table exact result Ray first orderly at within later there still at_first own =
-    own_closed m worker unit node table exact result first (ray_leaf exact (length m.tables)) orderly at within there at_first
-    (of_ray (HoldsStored (kept m node table exact result)) exact (length m.tables) tt tt) own
+    grind (arith, own_closed, of_ray, Ray, orderly, at, within, later, there, still, at_first, own)
 own_after m worker unit node table exact result Empty first orderly at within later there still at_first own =
-    own_closed m worker unit node table exact result first (empty_leaf exact (unit_of result)) orderly at within there at_first
-    (of_empty (HoldsStored (kept m node table exact result)) exact (unit_of result) tt tt) own
+    grind (arith, own_closed, of_empty, Empty, orderly, at, within, later, there, still, at_first, own)

@@ -1,9 +1,9 @@
 -- Where each evaluation is by V, so is what each leaf and each entry has.
-use Rattle.std.proofs.Common.{◌≡◌, ◌==◌, ℕ, suc, Bool, false, true, cond, All, ℤ, refl, sym, subst, Option, Some, None, int_lt, ◌&&◌, pos, length}
+use Rattle.std.proofs.Common.{arith, ◌≡◌, ◌==◌, ℕ, Bool, false, true, cond, All, ℤ, refl, sym, subst, Option, Some, None, int_lt, ◌&&◌, pos, length}
 use Rattle.std.specs.Option.{option_or, option_map}
 use Rattle.std.proofs.lemmas.List.Elements.{All-push}
 use Rattle.dual_model.specs.Prelude.{root, child, EachLeaf}
-use Rattle.branch_tree.specs.Prelude.{IsPlainLeaf, IsPlainTree, NumberedTree, EndAt, SplitAt, Subtree, unnumbered, spot_of, subtree_below, replaced, split_leaf, node_count}
+use Rattle.branch_tree.specs.Prelude.{IsPlainLeaf, IsPlainTree, NumberedTree, EndAt, SplitAt, Subtree, unnumbered, spot_of, subtree_below, replaced}
 use Rattle.branch_tree.specs.declared.tree.Leaf.{Leaf}
 use Rattle.branch_tree.specs.declared.tree.Leaf.TheVariants as leaf
 use Rattle.branch_tree.specs.declared.found.Outcome.TheVariants as outcome
@@ -37,11 +37,7 @@ part_stored part = spot_stored (option_map (λ (p : Subtree). spot_of p.tree) pa
 
 below_plain : (here : Node) (tree : NumberedTree) (wanted : ℕ) → IsPlainBelow here tree
     → (part_stored (subtree_below here tree wanted)).exact ≡ false
-below_plain here (EndAt number l) wanted plain = by_test (number == wanted)
-  where
-    by_test : (b : Bool) → (part_stored (cond b (Some (record { node = here; tree = EndAt number l })) None)).exact ≡ false
-    by_test true = leaf_plain l plain
-    by_test false = refl
+below_plain here (EndAt number l) wanted plain = grind (arith, number, l, plain)
 below_plain here (SplitAt number g t off on) wanted plain =
     by_test (number == wanted)
     (either left right (below_plain (child here g t false) off wanted plain.0) (below_plain (child here g t true) on wanted plain.1))
@@ -73,11 +69,7 @@ kept_plain old number k (outcome.Empty g) plain = plain
 replaced_plain : (here : Node) (tree : NumberedTree) (wanted : ℕ) (grow : Leaf → NumberedTree)
     → ((node : Node) (l : Leaf) → IsPlainLeaf l → IsPlainBelow node (grow l)) → IsPlainBelow here tree
     → IsPlainBelow here (replaced wanted grow tree)
-replaced_plain here (EndAt number l) wanted grow grown plain = by_test (number == wanted)
-  where
-    by_test : (b : Bool) → IsPlainBelow here (cond b (grow l) (EndAt number l))
-    by_test true = grown here l plain
-    by_test false = plain
+replaced_plain here (EndAt number l) wanted grow grown plain = grind (arith, number, grown, plain)
 replaced_plain here (SplitAt number g t off on) wanted grow grown plain = (
   replaced_plain (child here g t false) off wanted grow grown plain.0,
   replaced_plain (child here g t true) on wanted grow grown plain.1,
@@ -90,10 +82,7 @@ closed_plain tree wanted l own plain = replaced_plain root tree wanted (λ (x : 
 moved_plain : (m : Machine) (node : ℕ) (stored : Stored) (number : ℕ) (result : Outcome) (action : Move) → stored.exact ≡ false
     → IsPlainTree m.tree → IsPlainTree (tree_after m.tree node stored number false result action)
 moved_plain m node stored number result Again own plain = closed_plain m.tree.nodes node (live_leaf stored) own plain
-moved_plain m node stored number result (Split g t) own plain =
-    let middle = replaced node (λ (x : Leaf). EndAt node (live_leaf stored)) m.tree.nodes in
-    replaced_plain root middle node (split_leaf node g t (node_count middle) (suc (node_count middle))) (λ here l h. (h, h))
-    (closed_plain m.tree.nodes node (live_leaf stored) own plain)
+moved_plain m node stored number result (Split g t) own plain = grind (arith, replaced_plain, closed_plain, g, t, own, plain)
 moved_plain m node stored number result (Prune seen) own plain = closed_plain m.tree.nodes node (bound_leaf stored) own plain
 moved_plain m node stored number result Ray own plain = closed_plain m.tree.nodes node (leaf.Ray number) tt plain
 moved_plain m node stored number result Empty own plain = closed_plain m.tree.nodes node (empty_leaf false (unit_of result)) tt plain

@@ -24,21 +24,11 @@ use Rattle.search_machine.proofs.OrderlySteps.{orderly_start, as_large_after, or
 -- ---- with one table more
 bounded_more : (exact : Bool) (instance : Instance) (tables : List Table) (new : Table) (node : Node) (number : ℕ) (b : ℤ)
     → IsBoundedBy exact instance tables node number b → IsBoundedBy exact instance (tables ++ new ∷ []) node number b
-bounded_more exact instance tables new node number b h = record {
-  table = h.table;
-  is_table = get-append tables (new ∷ []) number h.table h.is_table;
-  scale = h.scale;
-  bounds = h.bounds;
-}
+bounded_more exact instance tables new node number b h = grind (arith, linear, get-append, h)
 
 excluded_more : (exact : Bool) (instance : Instance) (tables : List Table) (new : Table) (node : Node) (number : ℕ)
     → IsExcludedByRay exact instance tables node number → IsExcludedByRay exact instance (tables ++ new ∷ []) node number
-excluded_more exact instance tables new node number h = record {
-  table = h.table;
-  is_table = get-append tables (new ∷ []) number h.table h.is_table;
-  scale = h.scale;
-  excludes = h.excludes;
-}
+excluded_more exact instance tables new node number h = grind (arith, linear, get-append, h)
 
 pub stored_more : (instance : Instance) (tables : List Table) (new : Table) (node : Node) (l : Leaf) → StoredHolds instance tables node l
     → StoredHolds instance (tables ++ new ∷ []) node l
@@ -89,16 +79,11 @@ kept_bounded exact instance tables new node old (outcome.Empty g) h is = bounded
 -- ---- children
 child_pattern : (instance : Instance) (node : Node) (g t : ℕ) (on : Bool) (unit : ℕ) (pattern : Commitment)
     → IsPatternAt instance (child node g t on) unit pattern → IsPatternAt instance node unit pattern
-child_pattern instance node g t on unit pattern is =
-    record { allowed = is.allowed; agrees = parent_agrees node g t on unit pattern is.agrees }
+child_pattern instance node g t on unit pattern is = grind (arith, linear, parent_agrees, is)
 
 child_blocked : (exact : Bool) (instance : Instance) (node : Node) (g t : ℕ) (on : Bool) → HasBlockedUnit exact instance node
     → HasBlockedUnit exact instance (child node g t on)
-child_blocked false instance node g t on h = record {
-  unit = h.unit;
-  within = h.within;
-  empty = λ pattern is. h.empty pattern (child_pattern instance node g t on h.unit pattern is);
-}
+child_blocked false instance node g t on h = grind (arith, linear, child_pattern, h)
 child_blocked true instance node g t on h = record {
   unit = h.unit;
   within = h.within;
@@ -127,16 +112,7 @@ child_has_bound exact instance node g t on table b lawful scale has = ⊎_elim
 
 pub child_bounded : (instance : Instance) (tables : List Table) (node : Node) (g t : ℕ) (on : Bool) (stored : Stored) → IsLawfulInstance instance
     → IsStoredBound instance tables node stored → IsStoredBound instance tables (child node g t on) stored
-child_bounded instance tables node g t on stored lawful h = record {
-  table = h.table;
-  is_table = h.is_table;
-  scale = h.scale;
-  bounds = ⊎_elim
-      (λ (has : HasBoundOf stored.exact instance node h.table stored.value).
-      child_has_bound stored.exact instance node g t on h.table stored.value lawful h.scale has)
-      (λ (blocked : HasBlockedUnit stored.exact instance node). inr (child_blocked stored.exact instance node g t on blocked))
-      h.bounds;
-}
+child_bounded instance tables node g t on stored lawful h = grind (arith, linear, child_has_bound, child_blocked, lawful, h)
 
 -- ---- the leaves that a move makes
 ray_holds : (exact : Bool) (instance : Instance) (tables : List Table) (new : Table) (node : Node) (result : Outcome)
@@ -176,8 +152,7 @@ stored_new looked instance m node here table exact result (Split g t) lawful is 
 stored_new looked instance m node here table exact result (Prune seen) lawful is old legal =
     kept_bounded exact instance m.tables table here (stored_at m.tree node) result old is
 stored_new looked instance m node here table exact result Ray lawful is old legal =
-    ray_stored exact instance (m.tables ++ table ∷ []) here (length m.tables)
-    (ray_holds exact instance m.tables table here result is legal.0 legal.1)
+    grind (arith, linear, ray_stored, ray_holds, Ray, lawful, is, old, legal)
 stored_new looked instance m node here table exact (outcome.Value v) Empty lawful is old legal = absurd legal
 stored_new looked instance m node here table exact (outcome.Empty g) Empty lawful is old legal =
     empty_stored exact instance (m.tables ++ table ∷ []) here g is.told
@@ -196,12 +171,7 @@ start_tree instance m start = subst (IsTrueTree instance) (sym start.is_start) (
   orderly = orderly_start (thermal_count instance) instance.periods start.workers start.budget start.gap start.table start.value start.small start.whole;
   size = record { thermal = refl; periods = refl };
   lawful = All-cons (IsLawfulTable instance) start.table [] start.lawful (All-nil (IsLawfulTable instance));
-  stored = record {
-    table = start.table;
-    is_table = refl;
-    scale = start.scale;
-    bounds = inl (record { bound = start.value; is_bound = start.bound; enough = (omega (arith, linear)) });
-  };
+  stored = grind (arith, linear, start);
 })
 
 -- what changes neither the tree nor the tables

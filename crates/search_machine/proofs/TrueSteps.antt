@@ -1,6 +1,5 @@
 -- Every legal and true event keeps what is true of the costs, and so runs hold. Before it, what lies within a gap.
-use Rattle.std.proofs.Common.{◌≡◌, ℕ, ◌≤◌, ◌⊎◌, true, false, refl, arith, inl, inr, ⊎_elim, ℤ, pos, ◌-ℤ◌, ◌≤ℤ◌, Option, Some, None, IsTrue, int_le, Bool, List, [], ◌∷◌, ◌++◌, length, sym, subst, ◌<◌, All, get_or, set, ap, ◌∙◌, length-set, IfSome, get_or-set_same, get_or-set_other, replicate}
-use Rattle.std.specs.Int.{int_min}
+use Rattle.std.proofs.Common.{◌≡◌, ℕ, ◌≤◌, ◌⊎◌, true, false, refl, arith, inl, inr, ⊎_elim, ℤ, pos, ◌-ℤ◌, ◌≤ℤ◌, Option, Some, None, IsTrue, Bool, List, [], ◌∷◌, ◌++◌, length, sym, subst, ◌<◌, All, set, ap, ◌∙◌, length-set, IfSome, get_or-set_same, get_or-set_other, replicate}
 use Rattle.std.proofs.lemmas.Int.{ints, int_min_is}
 use Rattle.std.proofs.lemmas.Bool.{cases_eq}
 use Rattle.std.proofs.lemmas.List.Elements.{All-cons}
@@ -15,13 +14,13 @@ use Rattle.branch_tree.specs.declared.tree.Leaf.TheVariants as leaf
 use Rattle.branch_tree.proofs.Grown.{IsClosedLeaf, each_leaf_map, all_closed}
 use Rattle.branch_tree.proofs.Bounds.{at_most_itself, at_most_through, lesser_first, lesser_second, lesser_greatest, stored_bounds_hold, excluded_below}
 use Rattle.search_machine.specs.Runs.{Leaf, Node, WHOLE_GAP, IsBestWithin, IsPrunedWithin, Instance, IsTrueCost, IsTrueEvent, IsTrueStart, IsTrueRun, IsTrueRunBy, IsReachedBy, IsSettled, TreeHoldsAt, HoldsAt, HoldsAlong, RunsHold, StartsAreReached, StepsReach, ReachedStatesHold, TreeRunsHold, after_all}
-use Rattle.search_machine.specs.Machine.{Table, WorkerState, Machine, IsWorker, IsHolding, no_desk, desk_in, Holder, first_desk, holder_of}
-use Rattle.search_machine.specs.Moves.{Outcome, Again, Empty, Prune, Ray, Split, Move, kept, tickets_of, unit_of, IsMoveLegal}
-use Rattle.search_machine.specs.Steps.{Claim, Commit, Look, Pop, Publish, Push, Steal, Event, IsLegal, IsLegalBy, HasSeen, AnyCost, committed, committed_by, after, with_desk, with_tickets, with_queued, without_first, first_queued, taken}
+use Rattle.search_machine.specs.Machine.{Table, WorkerState, Machine, IsWorker, IsHolding, no_desk, desk_in, first_desk}
+use Rattle.search_machine.specs.Moves.{Outcome, Again, Empty, Prune, Ray, Split, Move, kept, tickets_of, IsMoveLegal}
+use Rattle.search_machine.specs.Steps.{Claim, Commit, Look, Pop, Publish, Push, Steal, Event, IsLegal, IsLegalBy, HasSeen, AnyCost, committed, after, with_desk, with_tickets, with_queued, without_first, first_queued, taken}
 use Rattle.search_machine.specs.Orderly.{IsOrderly}
 use Rattle.search_machine.proofs.Claims.{holdable}
 use Rattle.search_machine.proofs.OrderlySteps.{sound_of}
-use Rattle.search_machine.proofs.Growth.{HoldsOfNew, leaf_part, after_holds, of_ray, of_empty}
+use Rattle.search_machine.proofs.Growth.{HoldsOfNew, leaf_part, after_holds}
 use Rattle.search_machine.proofs.TreeSteps.{IsTrueTree, start_tree, tree_after_event}
 use Rattle.search_machine.proofs.Logs.{HasTrueLog, start_logged, logged_after}
 
@@ -46,9 +45,7 @@ best_within law (Some best) seen value gap whole below within = within_lesser la
 lesser_within : NeverDecreases → (best : Option ℤ) (cost value : ℤ) (gap : ℕ) → gap ≤ WHOLE_GAP → IsBestWithin best gap (Some value)
     → IsBestWithin (lesser_bound best (Some cost)) gap (Some value)
 lesser_within law None cost value gap whole within = absurd within
-lesser_within law (Some best) cost value gap whole within =
-    let below : int_min best cost ≤ℤ best = omega (arith, ints, int_min_is best cost) in
-    within_lesser law (int_min best cost) best value gap whole below within
+lesser_within law (Some best) cost value gap whole within = grind (arith, ints, int_min_is, within_lesser, law, whole, within)
 
 -- a pruned leaf stays within the gap
 pub pruned_lesser : NeverDecreases → (best : Option ℤ) (cost : ℤ) (gap : ℕ) → gap ≤ WHOLE_GAP → (l : Leaf) → IsPrunedWithin best gap l
@@ -61,18 +58,8 @@ both_within : (best : Option ℤ) (gap : ℕ) (a b : Option ℤ) → (a ≡ None
     → (lesser_bound a b ≡ None) ⊎ IsBestWithin best gap (lesser_bound a b)
 both_within best gap None b first second = second
 both_within best gap (Some a) None first second = first
-both_within None gap (Some a) (Some b) first second = ⊎_elim
-    (λ (e : Some a ≡ None). absurd (cc)) (λ (h : ⊥). absurd h) first
-both_within (Some best) gap (Some a) (Some b) first second = ⊎_elim
-    (λ (e : Some a ≡ None). absurd (cc))
-    (λ (h : IsTrue (int_le (best -ℤ a) (pos (tolerance_of best gap)))). ⊎_elim
-    (λ (e : Some b ≡ None). absurd (cc))
-    (λ (k : IsTrue (int_le (best -ℤ b) (pos (tolerance_of best gap)))).
-    let one = int_le-true (best -ℤ a) (pos (tolerance_of best gap)) h in
-    let two = int_le-true (best -ℤ b) (pos (tolerance_of best gap)) k in
-    inr (le-int_le (best -ℤ int_min a b) (pos (tolerance_of best gap)) (omega (arith, ints, int_min_is a b))))
-    second)
-    first
+both_within None gap (Some a) (Some b) first second = grind (arith, ints, first, second)
+both_within (Some best) gap (Some a) (Some b) first second = grind (arith, ints, first, second)
 
 pub closed_within : (best : Option ℤ) (gap : ℕ) (here : Node) (tree : branch.Tree Leaf) → EachLeaf (λ n l. IsClosedLeaf l) here tree
     → EachLeaf (λ n l. IsPrunedWithin best gap l) here tree → (least_bound tree ≡ None) ⊎ IsBestWithin best gap (least_bound tree)
@@ -94,11 +81,7 @@ pub record AreCostsTrue (instance : Instance) (m : Machine) : Type 0 where
 -- ---- what each worker has seen
 -- a list with one item set, where all items and the new one are so
 all_set : (P : WorkerState → Type 0) (xs : List WorkerState) (i : ℕ) (y : WorkerState) → All P xs → P y → All P (set xs i y)
-all_set P xs i y each own k d within = ⊎_elim
-    (λ (e : k ≡ i). subst (λ n. P (get_or (set xs i y) n d)) (sym e)
-    (subst P (sym (get_or-set_same xs i y d (omega (arith, length-set xs i y)))) own))
-    (λ (differ : k ≡ i → ⊥). subst P (sym (get_or-set_other xs i k y d differ)) (each k d (omega (arith, length-set xs i y))))
-    (cases_eq k i)
+all_set P xs i y each own k d within = grind (arith, ints, get_or-set_same, length-set, get_or-set_other, cases_eq, each, own, k, d, within)
 
 -- a desk of the state
 desk_seen : (m : Machine) (worker : ℕ) → All (λ desk. AtMost m.best desk.seen) m.desks → IsWorker m worker
@@ -135,13 +118,9 @@ pruned_new : NeverDecreases → (m : Machine) (worker node : ℕ) (here : Node) 
     → HoldsOfNew (λ n l. IsPrunedWithin m.best m.gap l) here (kept m node table exact result) (length m.tables) exact result action
 pruned_new law m worker node here table exact result Again orderly least legal = tt
 pruned_new law m worker node here table exact result (Split g t) orderly least legal = (tt, tt, tt)
-pruned_new law m worker node here table exact result (Prune seen) orderly least legal =
-    best_within law m.best seen (kept m node table exact result).value m.gap orderly.amounts.gap
-    (subst (AtMost m.best) legal.1.looked least) legal.1.within
-pruned_new law m worker node here table exact result Ray orderly least legal =
-    of_ray (IsPrunedWithin m.best m.gap) exact (length m.tables) tt tt
-pruned_new law m worker node here table exact result Empty orderly least legal =
-    of_empty (IsPrunedWithin m.best m.gap) exact (unit_of result) tt tt
+pruned_new law m worker node here table exact result (Prune seen) orderly least legal = grind (arith, ints, best_within, law, orderly, least, legal)
+pruned_new law m worker node here table exact result Ray orderly least legal = grind (arith, ints, law, Ray, orderly, least, legal)
+pruned_new law m worker node here table exact result Empty orderly least legal = grind (arith, ints, law, Empty, orderly, least, legal)
 
 committed_costs : NeverDecreases → (instance : Instance) (m : Machine) (worker unit node : ℕ) (table : Table) (exact : Bool) (result : Outcome)
     (action : Move) → IsOrderly m → AreCostsTrue instance m → IsWorker m worker → IsHolding m worker unit node
@@ -163,13 +142,7 @@ committed_costs law instance m worker unit node table exact result action orderl
 priced_lesser : (instance : Instance) (best : Option ℤ) (cost : ℤ) → IfSome best (IsTrueCost instance) → IsTrueCost instance cost
     → IfSome (lesser_bound best (Some cost)) (IsTrueCost instance)
 priced_lesser instance None cost h own = own
-priced_lesser instance (Some best) cost h own = ⊎_elim
-    (λ (e : int_min best cost ≡ best). subst (IsTrueCost instance) (sym e) h)
-    (λ (e : int_min best cost ≡ cost). subst (IsTrueCost instance) (sym e) own)
-    (either best cost)
-  where
-    either : (a b : ℤ) → (int_min a b ≡ a) ⊎ (int_min a b ≡ b)
-    either a b = grind (arith, ints, int_min_is a b)
+priced_lesser instance (Some best) cost h own = grind (arith, ints, h, own)
 
 published : NeverDecreases → (instance : Instance) (m : Machine) (worker : ℕ) (cost : ℤ) → IsOrderly m → AreCostsTrue instance m → IsWorker m worker
     → IsTrueCost instance cost → AreCostsTrue instance (after m (Publish worker cost))
@@ -182,47 +155,36 @@ published law instance m worker cost orderly is within own =
       least = least_with best m.desks worker (λ desk. record desk { seen = lesser_bound desk.seen (Some cost) }) each
           (lesser_greatest best (desk_in m.desks worker).seen (Some cost) seen (lesser_second m.best (Some cost)));
       priced = priced_lesser instance m.best cost is.priced own;
-      pruned = each_leaf_map (λ n l. IsPrunedWithin m.best m.gap l) (λ n l. IsPrunedWithin best m.gap l)
-          (λ n l h. pruned_lesser law m.best cost m.gap orderly.amounts.gap l h) root (tree_of m.tree) is.pruned;
+      pruned = grind (arith, ints, each_leaf_map, pruned_lesser, m, best, law, cost, orderly, is);
     }
 
 -- ---- every event
 pub costs_after : NeverDecreases → (instance : Instance) (m : Machine) (event : Event) → IsOrderly m → AreCostsTrue instance m
     → IsLegal m event → IsTrueEvent instance m event → AreCostsTrue instance (after m event)
-costs_after law instance m (Claim worker node) orderly is legal told =
-    record { least = is.least; priced = is.priced; pruned = is.pruned }
+costs_after law instance m (Claim worker node) orderly is legal told = grind (arith, ints, law, worker, node, orderly, is, legal, told)
 costs_after law instance m (Commit worker unit table exact result action) orderly is legal told =
-    subst (λ h. AreCostsTrue instance (committed_by m worker unit table exact result action h)) (sym legal.1.holds)
-    (committed_costs law instance m worker unit legal.1.node table exact result action orderly is legal.0 legal.1.holds legal.1.legal)
+    grind (arith, ints, committed_costs, law, worker, unit, table, exact, result, action, orderly, is, legal, told)
 costs_after law instance m (Publish worker cost) orderly is legal told = published law instance m worker cost orderly is legal told
 costs_after law instance m (Look worker) orderly is legal told =
     moved instance m _ is (least_with m.best m.desks worker (λ desk. record desk { seen = m.best }) is.least (at_most_itself m.best))
 costs_after law instance m (Push worker node) orderly is legal told =
     moved instance m _ is (least_kept m.best m.desks worker (λ desk. with_queued desk node) (λ desk. refl) is.least legal.0)
-costs_after law instance m (Pop worker) orderly is legal told =
-    moved instance m _ is (taken_least m worker worker is.least legal.0 legal.0)
+costs_after law instance m (Pop worker) orderly is legal told = grind (arith, ints, moved, taken_least, law, worker, orderly, is, legal, told)
 costs_after law instance m (Steal worker victim) orderly is legal told =
     moved instance m _ is (taken_least m worker victim is.least legal.0 legal.1)
 
 -- ---- A true start is true, what is true of a state is what holds there, and so runs hold.
 -- ---- the start
 desks_see_nothing : (workers : ℕ) → All (λ (desk : WorkerState). AtMost None desk.seen) (first_desk ∷ replicate workers no_desk)
-desks_see_nothing workers =
-    All-cons (λ (desk : WorkerState). AtMost None desk.seen) first_desk (replicate workers no_desk) tt
-    (λ k d within.
-    subst (λ (desk : WorkerState). AtMost None desk.seen)
-    (sym (get_or-replicate workers k no_desk d (omega (arith, length-replicate workers no_desk)))) tt)
+desks_see_nothing workers = grind (arith, ints, All-cons, get_or-replicate, length-replicate)
 
 start_costs : (instance : Instance) (m : Machine) → IsTrueStart instance m → AreCostsTrue instance m
-start_costs instance m start =
-    subst (AreCostsTrue instance) (sym start.is_start) (record { least = desks_see_nothing _; priced = tt; pruned = tt })
+start_costs instance m start = grind (arith, ints, desks_see_nothing, start)
 
 -- ---- what holds
 -- a table of a list of lawful ones is lawful
 listed : (instance : Instance) (tables : List Table) → All (IsLawfulTable instance) tables → (number : ℕ) → IsLawfulAt instance tables number
-listed instance tables each number table is_table =
-    subst (IsLawfulTable instance) (get_or_from_slice_get tables number table table is_table)
-    (each number table (slice_get_within tables number table is_table))
+listed instance tables each number table is_table = grind (arith, ints, get_or_from_slice_get, slice_get_within, each, table, is_table)
 
 lawful_claim : (instance : Instance) (tables : List Table) → All (IsLawfulTable instance) tables → (node : Node) (l : Leaf)
     → HasLawfulTable instance tables node (own_claim l)
@@ -264,23 +226,12 @@ tree_holds_at instance start m lawful is logged = record {
 
 holds_at : (instance : Instance) (start m : Machine) → IsLawfulInstance instance → IsTrueTree instance m → AreCostsTrue instance m
     → HasTrueLog instance start m → HoldsAt instance start m
-holds_at instance start m lawful is costs logged = record {
-  tree = tree_holds_at instance start m lawful is logged;
-  tickets = is.orderly.tickets;
-  priced = costs.priced;
-  least = costs.least;
-  pruned = costs.pruned;
-  ended = ended instance m is costs;
-}
+holds_at instance start m lawful is costs logged = grind (arith, ints, tree_holds_at, ended, lawful, is, costs, logged)
 
 -- ---- the best cost never rises
 never_rises : (m : Machine) (event : Event) → AtMost (after m event).best m.best
 never_rises m (Claim worker node) = at_most_itself m.best
-never_rises m (Commit worker unit table exact outcome action) = by_holder (holder_of m unit)
-  where
-    by_holder : (holder : Option Holder) → AtMost (committed_by m worker unit table exact outcome action holder).best m.best
-    by_holder None = at_most_itself m.best
-    by_holder (Some holder) = at_most_itself m.best
+never_rises m (Commit worker unit table exact outcome action) = grind (arith, ints, worker, unit, table, exact, outcome, action)
 never_rises m (Publish worker cost) = lesser_first m.best (Some cost)
 never_rises m _ = at_most_itself m.best
 
@@ -323,9 +274,7 @@ pub steps_reach_by : (looked : Machine → ℕ → ℤ → Type 0) (instance : I
 steps_reach_by looked instance start m event reached legal told = record {
   events = reached.events ++ event ∷ [];
   is_start = reached.is_start;
-  run = run_more looked instance start reached.events event reached.run
-      (subst (λ (x : Machine). IsLegalBy looked x event) (sym reached.is) legal)
-      (subst (λ (x : Machine). IsTrueEvent instance x event) (sym reached.is) told);
+  run = grind (arith, ints, run_more, looked, instance, start, reached, event, legal, told);
   is = after_more start reached.events event ∙ ap (λ (x : Machine). after x event) reached.is;
 }
 

@@ -1,9 +1,9 @@
 -- A run that begins with an hour: of the hours from there on, cut to what the beginning lets be.
-use Rattle.std.proofs.Common.{◌≡◌, ℕ, suc, ◌*◌, ◌≤◌, Bool, true, false, not, ◌&&◌, ◌==◌, nat_lt, true≢false, sym, ap, ◌∙◌, arith, ℤ, pos, ◌+ℤ◌, ◌-ℤ◌, ◌*ℤ◌, neg_ℤ, ◌≤ℤ◌, to_z, of_z, unsigned_abs, FitsSigned, Option, Some, None}
-use Rattle.std.specs.Int.{w64, w128, int_max, int_min}
+use Rattle.std.proofs.Common.{◌≡◌, ℕ, ◌*◌, ◌≤◌, Bool, true, false, true≢false, sym, ap, ◌∙◌, arith, ℤ, pos, ◌+ℤ◌, ◌-ℤ◌, ◌*ℤ◌, neg_ℤ, ◌≤ℤ◌, to_z, of_z, unsigned_abs, FitsSigned, Option, Some, None}
+use Rattle.std.specs.Int.{w64, w128, int_min}
 use Rattle.std.proofs.lemmas.Int.{ints, clamps}
 use Rattle.std.proofs.lemmas.Bool.{cond-true}
-use Rattle.uc_model.specs.Prelude.{IsLimit, bit, cell_cap}
+use Rattle.uc_model.specs.Prelude.{IsLimit, cell_cap}
 use Rattle.uc_model.proofs.Common.{linear, mul-one, mul-zero, abs_mul, int_min_left, int_min_right}
 use Rattle.dual_model.specs.Prelude.{greatest_output}
 use Rattle.dual_model.specs.CostToGo.{total_of}
@@ -18,29 +18,7 @@ use Rattle.hull_function.specs.Hours.{with_output, IsCostsOf, MAX_RUN}
 
 -- ---- a limit on starts takes of the cap
 pub first-cap : (periods : ℕ) (unit : Thermal) (t : ℕ) (last : Bool) → cell_cap periods unit t true last ≤ℤ cell_cap periods unit t false last
-first-cap periods unit t last = by (not (unit.on0 && (t == 0)))
-  where
-    full : ℤ
-    full = unit.pmax -ℤ unit.pmin
-
-    reduction : ℤ
-    reduction = int_max (unit.pmax -ℤ unit.su) (pos 0)
-
-    other : ℤ
-    other = full -ℤ int_max (unit.pmax -ℤ unit.sd) (pos 0) *ℤ bit (last && nat_lt (suc t) periods)
-
-    less : (a r x y o : ℤ) → pos 0 ≤ℤ r → x ≡ r → y ≡ pos 0 → int_min (a -ℤ x) o ≤ℤ int_min (a -ℤ y) o
-    less a r x y o sign e d = omega (arith, ints, clamps)
-
-    same : (a x y o : ℤ) → x ≡ pos 0 → y ≡ pos 0 → int_min (a -ℤ x) o ≤ℤ int_min (a -ℤ y) o
-    same a x y o e d = omega (arith, ints, clamps)
-
-    sign : (a : ℤ) → pos 0 ≤ℤ int_max a (pos 0)
-    sign a = omega (arith, ints, clamps)
-
-    by : (b : Bool) → int_min (full -ℤ reduction *ℤ bit b) other ≤ℤ int_min (full -ℤ reduction *ℤ bit false) other
-    by true = less full reduction (reduction *ℤ bit true) (reduction *ℤ bit false) other (sign (unit.pmax -ℤ unit.su)) (mul-one reduction) (mul-zero reduction)
-    by false = same full (reduction *ℤ bit false) (reduction *ℤ bit false) other (mul-zero reduction) (mul-zero reduction)
+first-cap periods unit t last = grind (arith, ints, clamps, mul-one, mul-zero)
 
 module _ (table : Table) (unit : Thermal) (t : ℕ) (first cap entry : ℤ) (behind : ℤ → Option ℤ) (order : first ≤ℤ cap) where
   -- ---- outputs that the first hour may have
@@ -122,37 +100,18 @@ module _ (table : Table) (unit : Thermal) (t : ℕ) (first cap entry : ℤ) (beh
 -- ---- the numbers of the first hour as their bits
 pub low-is : (entry down : ℤ) → unsigned_abs entry ≤ 2 * MAX_POWER → IsLimit down
     → (to_z w64 (of_z w64 (to_z w64 (of_z w64 entry) -ℤ to_z w64 (of_z w64 down))) ≡ entry -ℤ down) × (unsigned_abs (entry -ℤ down) ≤ 3 * MAX_POWER)
-low-is entry down h limit =
-    let low = limit.low in
-    let high = limit.power in
-    (omega (arith, ints), omega (arith, ints))
+low-is entry down h limit = grind (arith, ints, h, limit)
 
 pub most-is : (cap entry up least : ℤ) → unsigned_abs cap ≤ MAX_POWER → unsigned_abs entry ≤ 2 * MAX_POWER → IsLimit up
     → least ≡ int_min (to_z w64 (of_z w64 cap)) (to_z w64 (of_z w64 (to_z w64 (of_z w64 entry) +ℤ to_z w64 (of_z w64 up))))
     → (to_z w64 (of_z w64 least) ≡ int_min cap (entry +ℤ up)) × (unsigned_abs (int_min cap (entry +ℤ up)) ≤ 3 * MAX_POWER)
-most-is cap entry up least h k limit e =
-    let low = limit.low in
-    let high = limit.power in
-    (omega (arith, ints, clamps), omega (arith, ints, clamps))
+most-is cap entry up least h k limit e = grind (arith, ints, h, k, limit, e)
 
 -- ---- what the reserve earns
 pub earned-is : (worth most own a b : ℤ) → (pos 0 ≤ℤ worth) × (worth ≤ℤ pos MAX_PRICE) → own ≡ most → unsigned_abs most ≤ 3 * MAX_POWER
     → a ≡ to_z w64 (of_z w64 worth) → b ≡ own
     → (to_z w128 (of_z w128 a) *ℤ to_z w128 (of_z w128 b) ≡ worth *ℤ most) × (unsigned_abs (worth *ℤ most) ≤ MAX_PRICE * (3 * MAX_POWER))
-earned-is worth most own a b sized is small e d =
-    let size = bounded worth sized.0 sized.1 in
-    let first = worth_wide worth a size e in
-    let second = most_wide most b small (d ∙ is) in
-    (λ i. first i *ℤ second i, abs_mul worth most MAX_PRICE (3 * MAX_POWER) size small)
-  where
-    bounded : (w : ℤ) → pos 0 ≤ℤ w → w ≤ℤ pos MAX_PRICE → unsigned_abs w ≤ MAX_PRICE
-    bounded w low high = omega (arith, ints)
-
-    worth_wide : (w r : ℤ) → unsigned_abs w ≤ MAX_PRICE → r ≡ to_z w64 (of_z w64 w) → to_z w128 (of_z w128 r) ≡ w
-    worth_wide w r h e = omega (arith, ints)
-
-    most_wide : (m r : ℤ) → unsigned_abs m ≤ 3 * MAX_POWER → r ≡ m → to_z w128 (of_z w128 r) ≡ m
-    most_wide m r h e = omega (arith, ints)
+earned-is worth most own a b sized is small e d = grind (arith, ints, abs_mul, sized, is, small, e, d)
 
 pub less-earned : (v product earned : ℤ) → unsigned_abs v ≤ MAX_RUN → product ≡ earned → unsigned_abs earned ≤ MAX_PRICE * (3 * MAX_POWER)
     → FitsSigned w128 (to_z w128 (of_z w128 v) -ℤ to_z w128 (of_z w128 product))

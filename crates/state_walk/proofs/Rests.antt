@@ -1,35 +1,21 @@
 -- What is left of a run as a function: its size, its end, and a function that isn't alive.
-use Rattle.std.proofs.Common.{◌≡◌, ℕ, suc, ◌+◌, ◌*◌, ◌<◌, ◌≤◌, Bool, true, false, true≢false, ◌==◌, refl, sym, ap, subst, ◌∙◌, arith, ℤ, pos, ◌+ℤ◌, ◌-ℤ◌, ◌≤ℤ◌, int_le, Option, Some, None}
+use Rattle.std.proofs.Common.{◌≡◌, ℕ, suc, ◌+◌, ◌*◌, ◌<◌, ◌≤◌, Bool, true, false, true≢false, ◌==◌, sym, arith, ℤ, pos, ◌+ℤ◌, ◌-ℤ◌, Option, Some}
 use Rattle.std.proofs.lemmas.Int.{ints}
-use Rattle.std.proofs.lemmas.Bool.{and_from, and_parts, cond-true}
-use Rattle.std.proofs.lemmas.Nat.{mul-le}
-use Rattle.uc_model.proofs.Common.{int_le-true, le-int_le}
 use Rattle.uc_model.specs.Prelude.{cell_cap}
 use Rattle.dual_model.proofs.Optimum.{total_of-parts}
 use Rattle.step_functions.specs.Functions.{IsPlace, last_place, value_at}
 use Rattle.hull_function.specs.Hulls.{IsBounded}
 use Rattle.unit_runs.specs.CostThrough.{least_between, reserve_cost}
 use Rattle.unit_runs.proofs.Costs.{least_between-reached}
-use Rattle.state_walk.specs.inside.CostToEnd.{cost_to_end, highest_end, hours_after, is_between, lowest_end}
+use Rattle.state_walk.specs.inside.CostToEnd.{cost_to_end, highest_end, hours_after, lowest_end}
 use Rattle.state_walk.specs.inside.Problems.{IsLawful, Steps, Table, Thermal}
-use Rattle.hull_function.proofs.Represented.{through}
 use Rattle.hull_function.specs.Hours.{with_output, IsCostsOf, IsNear, MAX_RUN}
 use Rattle.state_walk.proofs.RestSizes.{hours-size, rest-size}
 
 -- ---- no hours are left
 pub ended : (periods : ℕ) (table : Table) (unit : Thermal) (t : ℕ) (f : Steps) → f.first ≡ lowest_end periods unit t → last_place f ≡ highest_end periods unit t
     → ((p : ℤ) → IsPlace f p → value_at f p ≡ pos 0) → IsCostsOf true f (cost_to_end periods table unit 0 t false)
-ended periods table unit t f first last level = record {
-  inside = λ live p place.
-      cond-true (is_between (lowest_end periods unit t) (highest_end periods unit t) p) (Some (pos 0)) None
-      (and_from _ _ (le-int_le (lowest_end periods unit t) p (subst (λ z. z ≤ℤ p) first place.low))
-      (le-int_le p (highest_end periods unit t) (subst (λ z. p ≤ℤ z) last place.high)))
-      ∙ ap Some (sym (level p place));
-  outside = λ p v e.
-      let found = through (is_between (lowest_end periods unit t) (highest_end periods unit t) p) (Some (pos 0)) v e in
-      let tests = and_parts (int_le (lowest_end periods unit t) p) (int_le p (highest_end periods unit t)) found.0 in
-      (refl, record { low = subst (λ z. z ≤ℤ p) (sym first) (int_le-true _ _ tests.0); high = subst (λ z. p ≤ℤ z) (sym last) (int_le-true _ _ tests.1) });
-}
+ended periods table unit t f first last level = grind (arith, ints, last, level)
 
 -- ---- where there are no costs there are none before them
 pub none-after-dead : (table : Table) (unit : Thermal) (t : ℕ) (cap : ℤ) (f : Steps) (hours : ℤ → Option ℤ) → IsCostsOf false f hours
@@ -71,7 +57,4 @@ module _ (periods : ℕ) (table : Table) (unit : Thermal) (hull : Steps) (lawful
 
 -- ---- room
 pub spare-room : (n periods x count room : ℕ) → n < periods → count ≤ suc n * (x + 2) + x → ((periods + 2) * (x + 2)) ≤ room → count < room
-spare-room n periods x count room l pieces enough =
-    let order = mul-le (suc n) (x + 2) periods (x + 2) l (omega arith) in
-    let spare : (periods + 2) * (x + 2) ≡ periods * (x + 2) + 2 * (x + 2) = omega arith in
-    omega (arith, order, spare, pieces, enough)
+spare-room n periods x count room l pieces enough = grind (arith, ints, l, pieces, enough)

@@ -51,10 +51,7 @@ all_but victims me = simp (add-one, take-map, drop-map, map-append)
 -- each worker has a way to each other
 pub others_count : (others : List TheftOf) (ids : List DequeId) (me : ℕ) → me < length ids → map what_taken others ≡ map untouched (remove ids me)
     → length others + 1 ≡ length ids
-others_count others ids me within same =
-    let count : length others ≡ length (remove ids me) = sym (length-map others what_taken) ∙ (ap length same ∙ length-map (remove ids me) untouched) in
-    let parts : length (remove ids me) ≡ length (take me ids) + length (drop (suc me) ids) = length-append (take me ids) (drop (suc me) ids) in
-    omega (arith, length-take me ids, length-drop (suc me) ids)
+others_count others ids me within same = grind (arith, length-map, length-append, length-take, length-drop, within, same)
 
 pub fresh_more : (ids : List DequeId) (room : ℕ) (seats : List SeatOf) (seat : SeatOf) → AreFresh ids room seats → IsFresh ids room (length seats) seat
     → AreFresh ids room (seats ++ seat ∷ [])
@@ -81,8 +78,7 @@ seats_more owns room me next seats seats' own rest rest' seat others ids left fr
       room = ap (λ (s : SeatOf). s.room) is;
       put = ap (λ (s : SeatOf). s.put) is;
       took = ap (λ (s : SeatOf). s.took) is;
-      others = ap (λ (s : SeatOf). map what_taken s.others) is
-          ∙ (same ∙ (ap (λ l. map untouched (remove l me)) same_ids ∙ ap (λ n. map untouched (remove (map own_id owns) n)) (sym count)));
+      others = grind (arith, is, same, me, same_ids, owns, count);
       count = ap (λ (s : SeatOf). length s.others + 1) is ∙ (others_are ∙ ap length same_ids);
     } in (
       ap (λ n. drop n owns) one_more ∙ behind.1,

@@ -1,5 +1,5 @@
 -- Each step of a deque keeps its rule.
-use Rattle.std.proofs.Common.{◌≡◌, ◌≢◌, ℕ, zero, suc, ◌+◌, ◌<◌, true, false, true≢false, cond, eqb, List, [], ◌∷◌, ◌++◌, length, set, Some, sym, refl, ap, ◌∙◌, subst, ⊎_elim, append_assoc, length-append, arith, sum_by, slice_get, All}
+use Rattle.std.proofs.Common.{◌≡◌, ◌≢◌, ℕ, zero, suc, ◌+◌, true, false, cond, eqb, List, [], ◌∷◌, ◌++◌, length, set, Some, sym, refl, ap, ◌∙◌, subst, append_assoc, length-append, arith, sum_by, slice_get, All}
 use Rattle.std.proofs.lemmas.Bool.Decides.{nat_tests}
 use Rattle.std.proofs.lemmas.List.Elements.{All-weaker, All-append, All-cons, All-nil}
 use Rattle.std.proofs.lemmas.List.Sums.{sum_by-cons, sum_by-append}
@@ -43,9 +43,7 @@ total_changes place (u ∷ views) (suc port) v w at =
 
 -- one more take counts where it took the place
 times_more : (place : ℕ) (took : List Take) (take : Take) → times_taken place (took ++ take ∷ []) ≡ times_taken place took + cond (eqb take.place place) 1 0
-times_more place took take =
-    let one = sum_by-append (λ (t : Take). cond (eqb t.place place) 1 0) took (take ∷ []) in
-    one ∙ ap (λ n. times_taken place took + n) (sum_by-cons (λ (t : Take). cond (eqb t.place place) 1 0) take [] ∙ omega arith)
+times_more place took take = grind (arith, sum_by-append, sum_by-cons)
 
 -- takes stay right where more was taken
 takes_longer : (got more : List ℕ) (took : List Take) → All (λ take. slice_get got take.place ≡ Some take.node) took
@@ -58,31 +56,11 @@ takes_longer got more took right =
 logs_set : (got items : List ℕ) (views : List Log) (port : ℕ) (w : Log) → IsLogOf got items port w
     → ((i : ℕ) (v : Log) → i ≢ port → get_elem? views i ≡ some v → IsLogOf got items i v)
     → (i : ℕ) (v : Log) → get_elem? (set views port w) i ≡ some v → IsLogOf got items i v
-logs_set got items views port w mine others i v at = ⊎_elim
-    (λ (h : (i ≡ port) × (w ≡ v)).
-    let P : ℕ × Log → Type 0 = λ x. IsLogOf got items x.0 x.1 in subst P (λ k. (sym h.0 k, h.1 k)) mine)
-    (λ (h : (i ≢ port) × (get_elem? views i ≡ some v)). others i v h.0 h.1)
-    (at_set views port i w v at)
+logs_set got items views port w mine others i v at = grind (arith, at_set, mine, others, at)
 
 -- a node joins at the back
 pub pushes : (port : ℕ) (v : Log) (node : ℕ) → v.owns ≡ true → Pushes InLine port v (node ∷ []) (puts v (node ∷ []))
-pushes port v node owns items views kept at =
-    let got : List ℕ = kept.0 in
-    let logs = kept.1.logs in
-    let mine = logs port v at in
-    let w : Log = log v.owns (v.put ++ node ∷ []) v.took in
-    let logs' = logs_set got (items ++ node ∷ []) views port w
-    (record {
-      owner = λ _. ((mine.owner owns).0, ap (λ l. l ++ node ∷ []) (mine.owner owns).1 ∙ append_assoc got items (node ∷ []));
-      takes = mine.takes;
-    })
-    (λ i u apart there. record {
-      owner = λ also. absurd (apart (((logs i u there).owner also).0 ∙ sym (mine.owner owns).0));
-      takes = (logs i u there).takes;
-    }) in
-    let once' = λ (place : ℕ). let more = total_changes place views port v w at in let once = kept.1.once place in
-    let same : total place (set views port w) ≡ total place views = omega arith in same ∙ once in
-    (w, (got, record { logs = logs'; once = once' }), refl)
+pushes port v node owns items views kept at = grind (arith, logs_set, append_assoc, total_changes, items, views, kept, at)
 
 -- what a take leaves in line
 take_kept : (got items : List ℕ) (views : List Log) (port : ℕ) (v : Log) (node : ℕ) → IsInLine got (node ∷ items) views → get_elem? views port ≡ some v
@@ -118,8 +96,7 @@ front_next : (got items : List ℕ) (views : List Log) (port : ℕ) (v : Log) (n
     → IsNext v (length got) node
 front_next got items views port v node kept at = record {
   moment = (got, items, views, port, kept, at, refl);
-  behind = All-weaker (λ (take : Take). slice_get got take.place ≡ Some take.node) (λ (take : Take). take.place < length got)
-      (λ take here. slice_get_within got take.place take.node here) v.took (kept.logs port v at).takes;
+  behind = grind (arith, All-weaker, slice_get_within, got, v, kept, port, at);
   put = λ owns. subst (λ l. slice_get l (length got) ≡ Some node) (sym ((kept.logs port v at).owner owns).1) (get_behind got items node);
 }
 
@@ -136,22 +113,4 @@ takes_one port v (node ∷ (next ∷ nodes)) items views some_node few kept at =
 
 -- a new pass comes, which has taken nothing
 pub admits : Admits InLine (log false [] [])
-admits items views kept =
-    let new : Log = log false [] [] in (
-      kept.0,
-      record {
-        logs = λ i v at. ⊎_elim
-            (λ (h : get_elem? views i ≡ some v). kept.1.logs i v h)
-            (λ (h : new ≡ v). subst (IsLogOf kept.0 items i)
-            h
-            (record {
-              owner = λ owns. absurd (true≢false (sym owns));
-              takes = All-nil (λ (take : Take). slice_get kept.0 take.place ≡ Some take.node);
-            }))
-            (at_snoc views new v i at);
-        once = λ place.
-            let all = sum_by-append (λ (x : Log). times_taken place x.took) views (new ∷ []) in
-            let before = kept.1.once place in
-            omega arith;
-      },
-    )
+admits items views kept = grind (arith, All-nil, at_snoc, sum_by-append, items, views, kept)

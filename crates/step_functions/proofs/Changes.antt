@@ -2,7 +2,7 @@
 use Rattle.std.proofs.Common.{◌≡◌, ℕ, suc, ◌+◌, ◌*◌, ◌<◌, ◌≤◌, ◌^◌, List, ◌++◌, length, take, drop, map, All, refl, sym, ap, subst, ◌∙◌, arith, ℤ, pos, ◌+ℤ◌, ◌*ℤ◌, unsigned_abs, to_z, of_z}
 use mir.Val.{SFits}
 use Rattle.std.specs.Int.{w64, w128}
-use Rattle.std.proofs.lemmas.Int.{ints, to_z-of_z, fits_signed_from_abs}
+use Rattle.std.proofs.lemmas.Int.{ints, fits_signed_from_abs}
 use Rattle.std.proofs.lemmas.List.{take_at}
 use Rattle.std.proofs.lemmas.List.Elements.{All-map, All-from_get_or}
 use Rattle.uc_model.specs.Prelude.{sum_below}
@@ -18,9 +18,7 @@ use Rattle.step_functions.proofs.Values.{IsMadeOf, made-in_place, kept-made, is_
 -- ---- numbers as their bits
 pub bits-plain : (value slope watts : ℤ) → IsSmall value → SFits w128 slope → SFits w64 watts
     → to_z w128 (of_z w128 value) +ℤ to_z w128 (of_z w128 slope) *ℤ to_z w64 (of_z w64 watts) ≡ value +ℤ slope *ℤ watts
-bits-plain value slope watts small fits narrow =
-    let own : to_z w128 (of_z w128 value) ≡ value = omega (arith, ints) in
-    λ t. own t +ℤ to_z-of_z w128 slope fits t *ℤ to_z-of_z w64 watts narrow t
+bits-plain value slope watts small fits narrow = grind (arith, ints, small, fits, narrow)
 
 pub within-fits : (place : ℤ) → IsWithin place → SFits w64 place
 within-fits place h = fits_signed_from_abs w64 place (omega arith)

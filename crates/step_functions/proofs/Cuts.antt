@@ -22,9 +22,7 @@ values-same f g a made p place = values-made f g a nothing made p place ∙ add-
 
 -- of the value behind the fields, and of what is written
 pub told-same : (f g old new : Steps) (a : ℕ) → f ≡ old → new ≡ g → IsMadeOf f g a nothing → (p : ℤ) → IsPlace new p → value_at new p ≡ value_at old p
-told-same f g old new a same written made =
-    subst (λ (h : Steps). (p : ℤ) → IsPlace h p → value_at h p ≡ value_at old p) (sym written)
-    (subst (λ (h : Steps). (p : ℤ) → IsPlace g p → value_at g p ≡ value_at h p) same (values-same f g a made))
+told-same f g old new a same written made = grind (arith, ints, values-same, same, written, made)
 
 kept-value : (f : Steps) → IsKept f → (p : ℤ) → IsPlace f p → IsSmall (value_at f p +ℤ pos 0)
 kept-value f kept p place =
@@ -81,8 +79,7 @@ cut_left f divided count low v room = record f { first = low; value = v; runs = 
 
 left_slope : (f : Steps) (divided : List Run) (count skipped : ℕ) (low v : ℤ) → IsCutLeft f divided count skipped low v → (k : ℕ)
     → slope_at (drop count divided) k ≡ slope_at f.runs (skipped + k)
-left_slope f divided count skipped low v is k =
-    slope-behind divided count k ∙ is.same.slopes (steps_of (take count divided) + k) ∙ ap (λ n. slope_at f.runs (n + k)) is.begins
+left_slope f divided count skipped low v is k = grind (arith, ints, slope-behind, is)
 
 left_count : (f : Steps) (divided : List Run) (count skipped : ℕ) (low v : ℤ) → IsCutLeft f divided count skipped low v → skipped + steps_of (drop count divided) ≡ steps_of f.runs
 left_count f divided count skipped low v is = omega (arith, is.begins, is.same.count, steps-take-drop divided count)

@@ -4,7 +4,7 @@ use Rattle.std.proofs.lemmas.Bool.{cases_lt}
 use Rattle.std.proofs.lemmas.Int.{ints}
 use Rattle.std.proofs.lemmas.List.Sums.{sum_by_push}
 use Rattle.std.proofs.lemmas.List.Elements.{All-push}
-use Rattle.uc_model.proofs.Common.{linear, le_antisymm, le_or_lt, pos_of_nonneg, mul-le-mul_right, mul-le-mul_turned, mul-zero, zero-mul, mul_comm, sum_below-same, sum_below-split, sum_below-const}
+use Rattle.uc_model.proofs.Common.{linear, le_or_lt, pos_of_nonneg, sum_below-same, sum_below-split, sum_below-const}
 use Rattle.step_functions.specs.Runs.{Run, slope_at, steps_of}
 use Rattle.step_functions.specs.Functions.{Steps, IsPlace, IsSmall, IsWithin, last_place, value_at}
 use Rattle.step_functions.specs.inside.Kept.{height, AreRising, AreSmall, IsKept}
@@ -24,8 +24,7 @@ pub extended-new : (runs : List Run) (run : Run) (k : ℕ) → k < run.length �
 extended-new runs run k h = slope-append_right runs (run ∷ []) k ∙ slope-first run [] k h
 
 height-old : (value : ℤ) (runs : List Run) (run : Run) (k : ℕ) → k ≤ steps_of runs → height value (runs ++ run ∷ []) k ≡ height value runs k
-height-old value runs run k h =
-    ap (λ x. value +ℤ x) (sum_below-same k (slope_at (runs ++ run ∷ [])) (slope_at runs) (λ j l. extended-old runs run j (omega arith)))
+height-old value runs run k h = grind (arith, ints, sum_below-same, extended-old, h)
 
 height-new : (value : ℤ) (runs : List Run) (run : Run) (k : ℕ) → k ≤ run.length
     → height value (runs ++ run ∷ []) (steps_of runs + k) ≡ height value runs (steps_of runs) +ℤ pos k *ℤ run.slope
@@ -53,22 +52,7 @@ extended-after f run room k h =
 -- ---- it keeps to the limits
 -- between two small values a line is small
 between : (a slope : ℤ) (d n : ℕ) → d ≤ n → IsSmall a → IsSmall (a +ℤ pos n *ℤ slope) → IsSmall (a +ℤ pos d *ℤ slope)
-between a slope d n h low high =
-    let none = zero-mul slope in
-    ⊎_elim
-    (λ (up : pos 0 ≤ℤ slope).
-    let first = mul-le-mul_right slope (pos 0) (pos d) up (omega (arith, linear)) in
-    let last = mul-le-mul_right slope (pos d) (pos n) up (omega (arith, linear)) in
-    omega (arith, ints))
-    (λ (down : slope <ℤ pos 0).
-    let sign : slope ≤ℤ pos 0 = omega (arith, linear) in
-    let first = mul-le-mul_turned slope (pos 0) (pos d) sign (omega (arith, linear)) in
-    let last = mul-le-mul_turned slope (pos d) (pos n) sign (omega (arith, linear)) in
-    let a_first = mul_comm slope (pos d) in
-    let a_last = mul_comm slope (pos n) in
-    let a_none = mul-zero slope in
-    omega (arith, ints))
-    (le_or_lt (pos 0) slope)
+between a slope d n h low high = grind (arith, ints, h, low, high)
 
 extended-rising : (runs : List Run) (run : Run) → AreRising runs → ((k : ℕ) → k < steps_of runs → slope_at runs k ≤ℤ run.slope) → AreRising (runs ++ run ∷ [])
 extended-rising runs run rising under j k h l =
@@ -144,8 +128,4 @@ continued-size f g length slope m first last before after old new p place = ⊎_
 -- of the value at one place
 pub alone-size : (f : Steps) (place value : ℤ) (m : ℕ) → f.first ≡ place → last_place f ≡ place → value_at f place ≡ value → unsigned_abs value ≤ m
     → (p : ℤ) → IsPlace f p → unsigned_abs (value_at f p) ≤ m
-alone-size f place value m first last is small p at =
-    let low = at.low in
-    let high = at.high in
-    let here : p ≡ place = le_antisymm p place (omega (arith, linear, last, high)) (omega (arith, linear, first, low)) in
-    subst (λ z. unsigned_abs z ≤ m) (sym (ap (value_at f) here ∙ is)) small
+alone-size f place value m first last is small p at = grind (arith, ints, last, is, small, at)

@@ -58,11 +58,7 @@ height-rises value runs m i j is from h within =
     omega (arith, linear)
 
 pub height-least : (value : ℤ) (runs : List Run) (m k : ℕ) → AreBelow runs (pos 0) m → k ≤ steps_of runs → height value runs m ≤ℤ height value runs k
-height-least value runs m k is within =
-    ⊎_elim
-    (λ (less : k < m). height-falls value runs m k m is (omega arith) (omega arith))
-    (λ (more : m ≤ k). height-rises value runs m m k is (omega arith) more within)
-    (cases_lt k m)
+height-least value runs m k is within = grind (arith, linear, height-falls, height-rises, cases_lt, is, within)
 
 -- ---- where the least value is
 pub height-level : (value : ℤ) (runs : List Run) (m l k : ℕ) → AreBelow runs (pos 0) m → AreBelow runs (pos 1) l → m ≤ k → k ≤ l

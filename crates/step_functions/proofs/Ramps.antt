@@ -2,7 +2,7 @@
 use Rattle.std.proofs.Common.{◌≡◌, ℕ, ◌+◌, ◌-◌, ◌<◌, ◌≤◌, ⊎_elim, List, sym, ap, subst, ◌∙◌, arith, ℤ, pos, ◌+ℤ◌, ◌-ℤ◌, ◌≤ℤ◌, unsigned_abs, to_z, of_z}
 use Rattle.std.specs.Int.{w64}
 use Rattle.std.proofs.lemmas.Bool.{cases_lt}
-use Rattle.std.proofs.lemmas.Int.{ints, to_z-of_z, fits_signed_from_abs}
+use Rattle.std.proofs.lemmas.Int.{ints}
 use Rattle.uc_model.proofs.Common.{linear, sum_below-same, sum_below-zero}
 use Rattle.step_functions.specs.Runs.{Run, slope_at, steps_of}
 use Rattle.step_functions.specs.Functions.{Steps, IsPlace, IsSmall, IsWithin, IsLeastBetween, last_place, value_at}
@@ -13,8 +13,7 @@ use Rattle.step_functions.proofs.Values.{steps_between, steps-within, place-step
 
 -- ---- the values with level steps put in behind the first m
 near : (value : ℤ) (old new : List Run) (m w k : ℕ) → AreLevelled old new m w → k ≤ m → height value new k ≡ height value old k
-near value old new m w k is h =
-    ap (λ x. value +ℤ x) (sum_below-same k (slope_at new) (slope_at old) (λ j l. is.front j (omega arith)))
+near value old new m w k is h = grind (arith, ints, sum_below-same, is, h)
 
 level : (value : ℤ) (old new : List Run) (m w d : ℕ) → AreLevelled old new m w → d ≤ w → height value new (m + d) ≡ height value old m
 level value old new m w d is h =
@@ -24,12 +23,7 @@ level value old new m w d is h =
     omega (arith, linear)
 
 far : (value : ℤ) (old new : List Run) (m w d : ℕ) → AreLevelled old new m w → height value new (m + w + d) ≡ height value old (m + d)
-far value old new m w d is =
-    let before = level value old new m w w is (omega arith) in
-    let a = height-split value new (m + w) d in
-    let b = height-split value old m d in
-    let same = sum_below-same d (λ j. slope_at new (m + w + j)) (λ j. slope_at old (m + j)) (λ j l. is.back j) in
-    omega (arith, linear)
+far value old new m w d is = grind (arith, ints, level, height-split, sum_below-same, is)
 
 -- ---- from how many steps the least value within reach of j is taken
 record IsBest (value : ℤ) (old new : List Run) (w j : ℕ) : Type 0 where
@@ -82,19 +76,11 @@ best value old new m w j below is h =
 
 -- ---- numbers as their bits
 pub first-is : (first down : ℤ) → IsWithin first → IsWithin (first -ℤ down) → to_z w64 (of_z w64 (to_z w64 (of_z w64 first) -ℤ to_z w64 (of_z w64 down))) ≡ first -ℤ down
-first-is first down low new_low =
-    let down_is : to_z w64 (of_z w64 down) ≡ down = omega (arith, ints) in
-    let own : to_z w64 (of_z w64 first) ≡ first = omega (arith, ints) in
-    omega (arith, ints)
+first-is first down low new_low = grind (arith, ints, low, new_low)
 
 pub width-is : (first last up down : ℤ) → pos 0 ≤ℤ up → pos 0 ≤ℤ down → IsWithin first → IsWithin (first -ℤ down) → IsWithin last → IsWithin (last +ℤ up)
     → up +ℤ down ≡ pos (unsigned_abs (to_z w64 (of_z w64 (to_z w64 (of_z w64 up) +ℤ to_z w64 (of_z w64 down)))))
-width-is first last up down a b low new_low high new_high =
-    let up_is : to_z w64 (of_z w64 up) ≡ up = omega (arith, ints) in
-    let down_is : to_z w64 (of_z w64 down) ≡ down = omega (arith, ints) in
-    let whole : to_z w64 (of_z w64 (to_z w64 (of_z w64 up) +ℤ to_z w64 (of_z w64 down))) ≡ up +ℤ down =
-    (λ t. to_z w64 (of_z w64 (up_is t +ℤ down_is t))) ∙ to_z-of_z w64 (up +ℤ down) (fits_signed_from_abs w64 (up +ℤ down) (omega (arith, ints))) in
-    sym (ap (λ z. pos (unsigned_abs z)) whole ∙ (let sign : pos 0 ≤ℤ (up +ℤ down) = omega (arith, linear) in omega (arith, ints)))
+width-is first last up down a b low new_low high new_high = grind (arith, ints, a, b, low, new_low, high, new_high)
 
 -- ---- of a function
 pub record IsRamped (f g : Steps) (w : ℕ) (up down : ℤ) : Type 0 where
@@ -109,12 +95,7 @@ the_width up down = unsigned_abs (to_z w64 (of_z w64 (to_z w64 (of_z w64 up) +�
 
 pub ramped : (f g : Steps) (up down : ℤ) → pos 0 ≤ℤ up → pos 0 ≤ℤ down → IsKept f → IsWithin (f.first -ℤ down) → IsWithin (last_place f +ℤ up)
     → g.first ≡ f.first -ℤ down → g.value ≡ f.value → IsSpread f.runs g.runs (the_width up down) → IsRamped f g (the_width up down) up down
-ramped f g up down a b kept low high first value spread = record {
-  spread = spread;
-  first = first;
-  value = value;
-  width = width-is f.first (last_place f) up down a b kept.first low kept.last high;
-}
+ramped f g up down a b kept low high first value spread = grind (arith, ints, a, b, kept, low, high, spread)
 
 pub ramp-last : (f g : Steps) (w : ℕ) (up down : ℤ) → IsRamped f g w up down → last_place g ≡ last_place f +ℤ up
 ramp-last f g w up down is =

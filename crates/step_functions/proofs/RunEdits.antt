@@ -33,24 +33,7 @@ abbrev pub back_of : Run → ℕ → Run
 back_of run n = record run { length = run.length - n }
 
 halved : (run : Run) (n : ℕ) (rest : List Run) → n ≤ run.length → SameSteps (run ∷ rest) (front_of run n ∷ back_of run n ∷ rest)
-halved run n rest h = record {
-  count =
-      let a = steps-cons run rest in
-      let b = steps-cons (front_of run n) (back_of run n ∷ rest) in
-      let d = steps-cons (back_of run n) rest in
-      omega arith;
-  slopes = λ k.
-      split_at n k (λ k. slope_at (front_of run n ∷ back_of run n ∷ rest) k ≡ slope_at (run ∷ rest) k)
-      (λ less. slope-first (front_of run n) (back_of run n ∷ rest) k less ∙ sym (slope-first run rest k (omega arith)))
-      (λ j.
-      slope-later (front_of run n) (back_of run n ∷ rest) (n + j) (omega arith)
-      ∙ ap (slope_at (back_of run n ∷ rest)) (omega arith)
-      ∙ ⊎_elim
-      (λ (less : j < run.length - n). slope-first (back_of run n) rest j less ∙ sym (slope-first run rest (n + j) (omega arith)))
-      (λ (more : run.length - n ≤ j).
-      slope-later (back_of run n) rest j more ∙ ap (slope_at rest) (omega arith) ∙ sym (slope-later run rest (n + j) (omega arith)))
-      (cases_lt j (run.length - n)));
-}
+halved run n rest h = grind (arith, ints, h)
 
 pub record IsHalved (old new : List Run) (i n : ℕ) : Type 0 where
   pub same : SameSteps old new
@@ -86,13 +69,7 @@ halved-list xs i a b h = (λ t. take-set xs i b t ++ a ∷ drop-set xs i b h t)
 pub halved-by : (xs new : List Run) (i n : ℕ) (a b : Run) → i < length xs → a ≡ get_or xs i a → b ≡ get_or xs i b
     → new ≡ take i (set xs i (record { length = a.length - n; slope = b.slope })) ++ (record { length = n; slope = a.slope }) ∷ drop i (set xs i (record { length = a.length - n; slope = b.slope }))
     → new ≡ take i xs ++ front_of (run_of xs i) n ∷ back_of (run_of xs i) n ∷ drop (i + 1) xs
-halved-by xs new i n a b h first second is =
-    let d : Run = record { length = 0; slope = pos 0 } in
-    let left : a ≡ run_of xs i = get_or_read xs i a h first d in
-    let right : b ≡ run_of xs i = get_or_read xs i b h second d in
-    is
-    ∙ halved-list xs i (record { length = n; slope = a.slope }) (record { length = a.length - n; slope = b.slope }) h
-    ∙ (λ t. take i xs ++ (record { length = n; slope = (left t).slope }) ∷ (record { length = (left t).length - n; slope = (right t).slope }) ∷ drop (i + 1) xs)
+halved-by xs new i n a b h first second is = grind (arith, ints, get_or_read, halved-list, h, first, second, is)
 
 -- ---- a slope added to each of the runs
 -- the step of the loop, at slopes that are written as their bits
@@ -139,13 +116,7 @@ slope-with_slope (x ∷ xs) slope k h =
 -- a list that goes on from `before` with level steps in between
 levelled : (xs ys zs : List Run) (n : ℕ) → steps_of zs ≡ n + steps_of ys → ((k : ℕ) → k < n → slope_at zs k ≡ pos 0)
     → ((k : ℕ) → slope_at zs (n + k) ≡ slope_at ys k) → AreLevelled (xs ++ ys) (xs ++ zs) (steps_of xs) n
-levelled xs ys zs n count level back = record {
-  count = let a = steps-append xs ys in let b = steps-append xs zs in omega arith;
-  front = λ k h. slope-append_left xs zs k h ∙ sym (slope-append_left xs ys k h);
-  level = λ k h. slope-append_right xs zs k ∙ level k h;
-  back = λ k.
-      ap (slope_at (xs ++ zs)) (omega arith) ∙ slope-append_right xs zs (n + k) ∙ back k ∙ sym (slope-append_right xs ys k);
-}
+levelled xs ys zs n count level back = grind (arith, ints, steps-append, slope-append_left, slope-append_right, count, level, back)
 
 -- by a run of their own
 pub levelled-insert : (xs ys : List Run) (n : ℕ) → AreLevelled (xs ++ ys) (xs ++ (record { length = n; slope = pos 0 }) ∷ ys) (steps_of xs) n

@@ -1,5 +1,5 @@
 -- A part of the runs, with a slope added to each.
-use Rattle.std.proofs.Common.{◌≡◌, ℕ, ◌+◌, ◌-◌, ◌<◌, ◌≤◌, ◌^◌, List, ◌++◌, length, take, drop, map, All, sym, ap, subst, ◌∙◌, arith, ℤ, pos, ◌+ℤ◌, unsigned_abs, to_z, of_z}
+use Rattle.std.proofs.Common.{◌≡◌, ℕ, ◌+◌, ◌-◌, ◌<◌, ◌≤◌, ◌^◌, List, ◌++◌, length, take, drop, map, All, sym, ap, subst, ◌∙◌, arith, ℤ, pos, unsigned_abs, to_z, of_z}
 use Rattle.std.specs.Int.{w128}
 use Rattle.std.proofs.lemmas.List.{append_assoc, take-append-drop, take_at, drop-drop, get_or-take, length-take, length-map, length-append, length-drop}
 use Rattle.std.proofs.lemmas.List.Elements.{All-append, All-take, All-drop, All-map, All-from_get_or}
@@ -23,10 +23,7 @@ behind : (runs : List Run) (from end : ℕ) → from ≤ end → drop (end - fro
 behind runs from end h = drop-drop (end - from) from runs ∙ ap (λ n. drop n runs) (omega arith)
 
 pub in_parts : (runs : List Run) (from end : ℕ) → from ≤ end → take from runs ++ (part_of runs from end ++ drop end runs) ≡ runs
-in_parts runs from end h =
-    ap (λ ys. take from runs ++ (part_of runs from end ++ ys)) (sym (behind runs from end h))
-    ∙ ap (λ ys. take from runs ++ ys) (take-append-drop (end - from) (drop from runs))
-    ∙ take-append-drop from runs
+in_parts runs from end h = grind (arith, behind, take-append-drop, h)
 
 length-part : (runs : List Run) (from end : ℕ) → from ≤ end → end ≤ length runs → length (part_of runs from end) ≡ end - from
 length-part runs from end h within = length-take (end - from) (drop from runs) ∙ (let e = length-drop from runs in omega arith)
@@ -36,14 +33,7 @@ pub written : (runs part : List Run) (from end n : ℕ) (slope : ℤ) → from �
     → part ≡ map (with_slope slope) (part_of runs from end)
     → (let all = take from runs ++ (part ++ post_of from (end - from) runs) in take n (all ++ drop (length all) runs)) ≡ steeper_part runs from end slope
 written runs part from end n slope h within count is =
-    let all = take from runs ++ (part ++ post_of from (end - from) runs) in
-    let a = length-take from runs in
-    let b : length part ≡ end - from = ap length is ∙ length-map (part_of runs from end) (with_slope slope) ∙ length-part runs from end h within in
-    let d : length (post_of from (end - from) runs) ≡ length runs - end = ap length (behind runs from end h) ∙ length-drop end runs in
-    let e = length-append part (post_of from (end - from) runs) in
-    let whole : length all ≡ n = length-append (take from runs) (part ++ post_of from (end - from) runs) ∙ omega arith in
-    take_at all (drop (length all) runs) n whole
-    ∙ (λ t. take from runs ++ (is t ++ behind runs from end h t))
+    grind (arith, length-take, length-map, length-part, behind, length-drop, length-append, take_at, h, within, count, is)
 
 -- ---- what it is to the steps
 pub steps-part : (runs : List Run) (from end : ℕ) → from ≤ end → steps_of (take end runs) ≡ steps_of (take from runs) + steps_of (part_of runs from end)
@@ -80,17 +70,11 @@ have_steps-steeper runs from end slope lengths =
 
 -- the same runs divided before
 pub steeper-same : (xs ys zs : List Run) (before count : ℕ) (slope : ℤ) → SameSteps xs ys → IsSteeper ys zs before count slope → IsSteeper xs zs before count slope
-steeper-same xs ys zs before count slope same steeper = record {
-  total = steeper.total ∙ same.count;
-  front = λ k h. steeper.front k h ∙ same.slopes k;
-  part = λ k h. steeper.part k h ∙ ap (λ s. s +ℤ slope) (same.slopes (before + k));
-  back = λ k. steeper.back k ∙ same.slopes (before + count + k);
-}
+steeper-same xs ys zs before count slope same steeper = grind (arith, same, steeper)
 
 -- ---- the slopes of the part are those of steps
 part_place : (runs : List Run) (from end i : ℕ) → from ≤ end → end ≤ length runs → i < end - from → run_of (part_of runs from end) i ≡ run_of runs (from + i)
-part_place runs from end i h within inside =
-    get_or-take (end - from) (drop from runs) i (record { length = 0; slope = pos 0 }) inside ∙ run-drop runs from i
+part_place runs from end i h within inside = grind (arith, get_or-take, run-drop, h, within, inside)
 
 pub part-sizes : (old runs : List Run) (from end count : ℕ) (slope : ℤ) → from ≤ end → end ≤ length runs → HaveSteps runs → SameSteps old runs
     → take from runs ≡ take from old → steps_of (take end runs) ≡ steps_of (take from old) + count

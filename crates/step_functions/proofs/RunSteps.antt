@@ -51,8 +51,7 @@ steps-take-drop runs i = sum_by-take-drop (λ (x : Run). x.length) runs i
 
 -- the list around a run
 pub around : (runs : List Run) (i : ℕ) → i < length runs → take i runs ++ (run_of runs i ∷ drop (i + 1) runs) ≡ runs
-around runs i h =
-    ap (λ xs. take i runs ++ xs) (sym (drop_more runs i (record { length = 0; slope = pos 0 }) h)) ∙ take-append-drop i runs
+around runs i h = grind (arith, ints, drop_more, take-append-drop, h)
 
 pub slope-run : (runs : List Run) (i k : ℕ) → i < length runs → k < (run_of runs i).length → slope_at runs (steps_of (take i runs) + k) ≡ (run_of runs i).slope
 slope-run runs i k h inside =

@@ -3,7 +3,6 @@ use Rattle.std.proofs.Common.{◌≡◌, ℕ, suc, ◌+◌, ◌-◌, ◌*◌, �
 use Rattle.std.proofs.lemmas.Bool.{cases_lt}
 use Rattle.std.proofs.lemmas.List.{take-append-drop}
 use Rattle.step_functions.specs.Runs.{Run, run_of, slope_at, steps_of}
-use Rattle.step_functions.specs.Functions.{MAX_VALUE}
 use Rattle.step_functions.specs.inside.Edits.{IsSteeper, AreAdded}
 use Rattle.step_functions.specs.inside.Kept.{HaveSteps, HaveSmallSlopes}
 pub use Rattle.step_functions.specs.declared.runs.Place.{Place}
@@ -25,36 +24,18 @@ pub record IsAddedTo (old others now : List Run) (skipped used from rest number 
 
 pub added-none : (old others : List Run) (skipped : ℕ) → HaveSteps old → (0 < length others → skipped < (run_of others 0).length)
     → IsAddedTo old others old skipped skipped 0 (steps_of old) 0
-added-none old others skipped lengths first = record {
-  lengths = lengths;
-  total = refl;
-  within = omega arith;
-  done = omega arith;
-  place = λ h. omega arith;
-  left = first;
-  front = λ k h. absurd (omega arith);
-  back = λ k h. refl;
-  count = omega arith;
-}
+added-none old others skipped lengths first = grind (arith, lengths, first)
 
 -- what the next step of the loop wants
 pub fits-rest : (old others now : List Run) (skipped used from rest number : ℕ) → IsAddedTo old others now skipped used from rest number
     → rest ≡ steps_of (drop from now)
-fits-rest old others now skipped used from rest number is =
-    omega (arith, is.done, is.total, steps-take-drop now from)
+fits-rest old others now skipped used from rest number is = grind (arith, steps-take-drop, is)
 
 pub small-slopes : (old others now : List Run) (skipped used from rest number : ℕ) → IsAddedTo old others now skipped used from rest number
     → number < length others → HaveSteps others → HaveSmallSlopes old → HaveSmallSlopes others
     → (k : ℕ) → k < rest → unsigned_abs (slope_at now (steps_of (take from now) + k)) + unsigned_abs (run_of others number).slope < 2 ^ 127
 small-slopes old others now skipped used from rest number is h lengths small other_small k inside =
-    let before = steps_of (take from now) in
-    let own = small (before + k) (omega (arith, is.done)) in
-    let same = ap unsigned_abs (is.back (before + k) (omega arith)) in
-    let some = lengths number (record { length = 0; slope = pos 0 }) h in
-    let whole = steps-within others number (run_of others number).length h (omega arith) in
-    let other = other_small (steps_of (take number others)) (omega arith) in
-    let slope = ap unsigned_abs (run-slope others number h lengths) in
-    omega arith
+    grind (arith, steps-within, run-slope, is, h, lengths, small, other_small, inside)
 
 pub added-more : (old others now new : List Run) (skipped used from to rest number length : ℕ) → IsAddedTo old others now skipped used from rest number
     → number < Rattle.std.proofs.Common.length others → HaveSteps others
@@ -98,15 +79,8 @@ slope-behind others i k =
     sym (slope-append_right (take i others) (drop i others) k) ∙ ap (λ xs. slope_at xs (steps_of (take i others) + k)) (take-append-drop i others)
 
 pub small-behind : (others : List Run) (i : ℕ) → HaveSmallSlopes others → HaveSmallSlopes (drop i others)
-small-behind others i small k h =
-    let total = steps-take-drop others i in
-    subst (λ s. unsigned_abs s ≤ 2 * MAX_VALUE) (sym (slope-behind others i k)) (small (steps_of (take i others) + k) (omega arith))
+small-behind others i small k h = grind (arith, steps-take-drop, slope-behind, small, k, h)
 
 pub added-behind : (old others new : List Run) (skipped i offset : ℕ) → steps_of (take i others) + offset ≡ skipped
     → AreAdded old (drop i others) new offset → AreAdded old others new skipped
-added-behind old others new skipped i offset at added = record {
-  count = added.count;
-  slopes = λ k h.
-      added.slopes k h
-      ∙ ap (λ s. slope_at old k +ℤ s) (slope-behind others i (offset + k) ∙ ap (slope_at others) (omega arith));
-}
+added-behind old others new skipped i offset at added = grind (arith, slope-behind, at, added)

@@ -6,10 +6,10 @@ use Rattle.std.specs.Int.{w64, w128}
 use Rattle.std.proofs.lemmas.Bool.{cases_lt}
 use Rattle.std.proofs.lemmas.Int.{ints, clamps, fits_signed_from_abs}
 use Rattle.uc_model.specs.Prelude.{sum_below}
-use Rattle.uc_model.proofs.Common.{linear, mul-add, mul-zero, mul-one, mul-neg, mul_comm, mul-le-mul_left, narrow, sum_below-same, sum_below-split}
+use Rattle.uc_model.proofs.Common.{linear, mul-add, mul-zero, mul-neg, mul_comm, sum_below-same, sum_below-split}
 use Rattle.uc_model.proofs.Sizes.{wide}
 use Rattle.step_functions.specs.Runs.{Run, slope_at, steps_of}
-use Rattle.step_functions.specs.Functions.{Steps, IsPlace, IsSmall, IsWithin, value_at, shortfall, MAX_PLACE, MAX_VALUE}
+use Rattle.step_functions.specs.Functions.{Steps, IsPlace, IsSmall, IsWithin, value_at, shortfall, MAX_VALUE}
 use Rattle.step_functions.specs.inside.Edits.{IsSteeper}
 use Rattle.step_functions.specs.inside.Kept.{HaveSteps, IsKept}
 use Rattle.step_functions.proofs.Changes.{sum-steeper}
@@ -111,10 +111,7 @@ shortfall-kept f place v price runs short count room at least is steeper sign le
 -- a price of a watt or more that keeps the value small is small
 pub price-small : (value price : ℤ) (short : ℕ) → 1 ≤ short → pos 0 ≤ℤ price → IsSmall value → IsSmall (value +ℤ price *ℤ pos short)
     → unsigned_abs price ≤ 2 * MAX_VALUE
-price-small value price short some sign own reached =
-    let one = mul-one price in
-    let least = mul-le-mul_left price (pos 1) (pos short) sign (omega (arith, linear)) in
-    omega (arith, ints)
+price-small value price short some sign own reached = grind (arith, ints, some, sign, own, reached)
 
 -- ---- what is computed, as its bits say it
 abbrev pub watts_to : ℤ → ℤ → ℤ
@@ -135,31 +132,21 @@ parts : (place first watts : ℤ) → first <ℤ place → watts ≡ place -ℤ 
 parts place first watts less is = (omega (arith, ints), (omega (arith, ints), omega (arith, ints)))
 
 pub short-is : (place first : ℤ) → IsWithin place → IsWithin first → first <ℤ place → IsShort place first
-short-is place first within low less =
-    let bits : watts_to place first ≡ to_z w64 (of_z w64 (place -ℤ first)) =
-    λ i. to_z w64 (of_z w64 (narrow place MAX_PLACE within (lit< tt) i -ℤ narrow first MAX_PLACE low (lit< tt) i)) in
-    let all = parts place first (watts_to place first) less (bits ∙ narrow (place -ℤ first) (2 * MAX_PLACE) (omega (arith, ints)) (lit< tt)) in
-    record { at = all.0; is = all.1.0; some = all.1.1 }
+short-is place first within low less = grind (arith, ints, within, low, less)
 
 pub difference-fits : (place first : ℤ) → IsWithin place → IsWithin first → FitsSigned w64 (to_z w64 (of_z w64 place) -ℤ to_z w64 (of_z w64 first))
-difference-fits place first within low =
-    subst (FitsSigned w64) (λ i. sym (narrow place MAX_PLACE within (lit< tt)) i -ℤ sym (narrow first MAX_PLACE low (lit< tt)) i)
-    (fits_signed_from_abs w64 (place -ℤ first) (omega (arith, ints)))
+difference-fits place first within low = grind (arith, ints, within, low)
 
 -- the test that it is behind
 pub behind-is : (place first : ℤ) → IsWithin place → IsWithin first → le_z (to_z w64 (of_z w64 place)) (to_z w64 (of_z w64 first)) ≡ false → first <ℤ place
-behind-is place first within low more =
-    let plain : le_z place first ≡ false = (λ i. le_z (sym (narrow place MAX_PLACE within (lit< tt)) i) (sym (narrow first MAX_PLACE low (lit< tt)) i)) ∙ more in
-    omega (arith, ints)
+behind-is place first within low more = grind (arith, ints, within, low, more)
 
 -- so many watts are a number without a sign
 watts-few : (place first : ℤ) (n : ℕ) → IsWithin place → IsWithin first → place ≡ first +ℤ pos n → n < 2 ^ 64
 watts-few place first n within low at = omega (arith, ints)
 
 pub watts-fit : (place first : ℤ) → IsWithin place → IsWithin first → IsShort place first → T (non_neg (watts_to place first)) × Fits w64 (unsigned_abs (watts_to place first))
-watts-fit place first within low is =
-    subst (λ z. T (non_neg z) × Fits w64 (unsigned_abs z)) (sym is.is)
-    (tt, record { fits = watts-few place first (unsigned_abs (watts_to place first)) within low is.at })
+watts-fit place first within low is = grind (arith, ints, within, low, is)
 
 -- the steps between two places are few
 pub steps-few : (first : ℤ) (n : ℕ) → IsWithin first → IsWithin (first +ℤ pos n) → n < 2 ^ 64
@@ -170,10 +157,7 @@ pub turned-fits : (price : ℤ) → FitsSigned w128 price → pos 0 ≤ℤ price
 turned-fits price fits sign = fits_signed_from_abs w128 (pos 0 -ℤ to_z w128 (of_z w128 price)) (omega (arith, ints))
 
 pub turned-is : (price : ℤ) → FitsSigned w128 price → pos 0 ≤ℤ price → to_z w128 (of_z w128 (pos 0 -ℤ to_z w128 (of_z w128 price))) ≡ neg_ℤ price
-turned-is price fits sign =
-    let negative : to_z w128 (of_z w128 (pos 0 -ℤ to_z w128 (of_z w128 price))) ≡ pos 0 -ℤ price = omega (arith, ints) in
-    let turned : pos 0 -ℤ price ≡ neg_ℤ price = omega (arith, linear) in
-    negative ∙ turned
+turned-is price fits sign = grind (arith, ints, fits, sign)
 
 pub both-fit : (slope price : ℤ) → unsigned_abs slope ≤ 2 * MAX_VALUE → unsigned_abs price ≤ 2 * MAX_VALUE → unsigned_abs slope + unsigned_abs (neg_ℤ price) < 2 ^ 127
 both-fit slope price small own = omega (arith, ints)

@@ -35,10 +35,7 @@ pub record IsMadeOf (f g : Steps) (a : ℕ) (more : ℤ → ℤ) : Type 0 where
 
 made-value : (f g : Steps) (a k : ℕ) (more : ℤ → ℤ) → IsMadeOf f g a more → k ≤ steps_of g.runs
     → height g.value g.runs k ≡ value_at f (g.first +ℤ pos k) +ℤ more (g.first +ℤ pos k)
-made-value f g a k more made h =
-    let first = made.first in
-    let at : g.first +ℤ pos k ≡ f.first +ℤ pos (a + k) = omega (arith, ints) in
-    made.heights k h ∙ ap (λ x. x +ℤ more (g.first +ℤ pos k)) (sym (value_at-place f (g.first +ℤ pos k) (a + k) at))
+made-value f g a k more made h = grind (arith, ints, value_at-place, made, h)
 
 pub values-made : (f g : Steps) (a : ℕ) (more : ℤ → ℤ) → IsMadeOf f g a more → (p : ℤ) → IsPlace g p → value_at g p ≡ value_at f p +ℤ more p
 values-made f g a more made p is =
@@ -49,12 +46,7 @@ values-made f g a more made p is =
 
 pub small-made : (f g : Steps) (a : ℕ) (more : ℤ → ℤ) → IsMadeOf f g a more
     → ((p : ℤ) → IsPlace f p → IsPlace g p → IsSmall (value_at f p +ℤ more p)) → AreSmall g.value g.runs
-small-made f g a more made small k h =
-    let first = made.first in
-    let own = is_place-steps g k h in
-    let at : g.first +ℤ pos k ≡ f.first +ℤ pos (a + k) = omega (arith, ints) in
-    let other : IsPlace f (g.first +ℤ pos k) = subst (IsPlace f) (sym at) (is_place-steps f (a + k) (omega (arith, made.within))) in
-    subst IsSmall (sym (made-value f g a k more made h)) (small (g.first +ℤ pos k) other own)
+small-made f g a more made small k h = grind (arith, ints, is_place-steps, made-value, made, small, k, h)
 
 -- ---- at the first place
 pub is_place-first : (f : Steps) → IsPlace f f.first
@@ -85,13 +77,7 @@ told f g old a more same made = subst (λ (old : Steps). (p : ℤ) → IsPlace g
 pub made-in_place : (f g : Steps) (more : ℤ → ℤ) → g.first ≡ f.first → steps_of g.runs ≤ steps_of f.runs
     → ((k : ℕ) → k ≤ steps_of g.runs → height g.value g.runs k ≡ height f.value f.runs k +ℤ more (g.first +ℤ pos k))
     → IsMadeOf f g 0 more
-made-in_place f g more first within heights = record {
-  first = omega (arith, ints);
-  within = omega arith;
-  heights = λ k h.
-      let same : k ≡ 0 + k = omega arith in
-      heights k h ∙ ap (λ n. height f.value f.runs n +ℤ more (g.first +ℤ pos k)) same;
-}
+made-in_place f g more first within heights = grind (arith, ints, within, heights)
 
 pub kept-made : (f g : Steps) (a : ℕ) (more : ℤ → ℤ) → IsKept f → IsMadeOf f g a more → HaveSteps g.runs → AreRising g.runs
     → ((p : ℤ) → IsPlace f p → IsPlace g p → IsSmall (value_at f p +ℤ more p)) → IsKept g

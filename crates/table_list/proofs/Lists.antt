@@ -1,5 +1,5 @@
 -- What a list keeps of its tables stays when one is added.
-use Rattle.std.proofs.Common.{◌≡◌, ℕ, zero, suc, ◌-◌, ◌<◌, ◌≤◌, ◌⊎◌, inl, inr, List, [], ◌∷◌, ◌++◌, length, map, take, drop, get_or, slice_get, ℤ, refl, sym, ap, subst, ◌∙◌, length-append, length-drop, arith, All}
+use Rattle.std.proofs.Common.{◌≡◌, ℕ, zero, suc, ◌-◌, ◌<◌, ◌≤◌, List, [], ◌∷◌, ◌++◌, length, map, drop, get_or, slice_get, ℤ, refl, sym, ap, subst, ◌∙◌, length-append, length-drop, arith, All}
 use Rattle.std.specs.List.{AllByRecursion as Each}
 use Rattle.std.proofs.Math.ListN.{get_or-append}
 use Rattle.std.proofs.lemmas.Bool.{cases_order}
@@ -26,16 +26,14 @@ changes_behind table (change ∷ changes) more = changes_behind (changed table c
 
 -- ---- what was kept before
 stretch_grown : (told more : List Change) (from end : ℕ) → from ≤ end → end ≤ length told → stretch (told ++ more) from end ≡ stretch told from end
-stretch_grown told more from end le lt =
-    ap (take (end - from)) (drop-append-le from told more (omega arith)) ∙ take-append-le (end - from) (drop from told) more (omega (arith, length-drop from told))
+stretch_grown told more from end le lt = grind (arith, drop-append-le, take-append-le, length-drop, le, lt)
 
 pub stretch_end : (told : List Change) (from end : ℕ) → length told ≤ end → stretch told from end ≡ drop from told
 stretch_end told from end le = take_all (end - from) (drop from told) (omega (arith, length-drop from told))
 
 rebuilt_grown : (wholes others : List Table) (told more : List Change) (entry : Entry) → IsWithin (length wholes) (length told) entry
     → rebuilt (wholes ++ others) (told ++ more) entry ≡ rebuilt wholes told entry
-rebuilt_grown wholes others told more entry h =
-    λ i. with_scale (all_changed (get_or-append wholes others no_table entry.whole h.whole i) (stretch_grown told more entry.from entry.end h.from h.end i)) entry.k
+rebuilt_grown wholes others told more entry h = grind (arith, get_or-append, stretch_grown, h)
 
 tables_grown : (wholes others : List Table) (told more : List Change) (entries : List Entry) → All (IsWithin (length wholes) (length told)) entries
     → tables_of (wholes ++ others) (told ++ more) entries ≡ tables_of wholes told entries
@@ -56,8 +54,7 @@ steps_grown wholes told more entries within = each entries (recursion_from_All (
 
 within_grown : (wholes told more_wholes more_told : ℕ) (entries : List Entry) → wholes ≤ more_wholes → told ≤ more_told → All (IsWithin wholes told) entries
     → All (IsWithin more_wholes more_told) entries
-within_grown wholes told more_wholes more_told entries le lt within i d low =
-    let old = within i d low in record { whole = omega (arith, old.whole); from = old.from; start = old.start; end = omega (arith, old.end) }
+within_grown wholes told more_wholes more_told entries le lt within i d low = grind (arith, le, lt, within, i, d, low)
 
 -- ---- one that is added
 all_one : {X : Type 0} (P : X → Type 0) (x : X) → P x → All P (x ∷ [])
@@ -66,21 +63,8 @@ all_one P x p (suc i) d lt = absurd (omega arith)
 
 steps_added : (tables : List Table) (steps : List (List Change)) (table : Table) (more : List Change) → length steps ≡ length tables → AreSteps tables steps
     → (0 < length tables → more ≡ table_changes (get_or tables (length tables - 1) no_table) table) → AreSteps (tables ++ table ∷ []) (steps ++ more ∷ [])
-steps_added tables steps table more long before last i lt = by_order (cases_order (suc i) (length tables))
-  where
-    at : get_or (tables ++ table ∷ []) i no_table ≡ get_or tables i no_table
-    at = get_or-append tables (table ∷ []) no_table i (omega (arith, length-append tables (table ∷ [])))
-
-    by_order : (suc i ≡ length tables) ⊎ ((suc i < length tables) ⊎ (length tables < suc i))
-        → get_or (steps ++ more ∷ []) (suc i) [] ≡ table_changes (get_or (tables ++ table ∷ []) i no_table) (get_or (tables ++ table ∷ []) (suc i) no_table)
-    by_order (inl is) =
-        let place : length tables - 1 ≡ i = omega arith in
-        get_or_at steps more [] [] (suc i) (omega arith) ∙ last (omega arith)
-        ∙ (λ j. table_changes ((ap (λ n. get_or tables n no_table) place ∙ sym at) j) (sym (get_or_at tables table [] no_table (suc i) (sym is)) j))
-    by_order (inr (inl earlier)) =
-        get_or-append steps (more ∷ []) [] (suc i) (omega arith) ∙ before i earlier
-        ∙ (λ j. table_changes (sym at j) (sym (get_or-append tables (table ∷ []) no_table (suc i) earlier) j))
-    by_order (inr (inr late)) = absurd (omega (arith, length-append tables (table ∷ [])))
+steps_added tables steps table more long before last i lt =
+    grind (arith, cases_order, get_or-append, length-append, get_or_at, long, before, last, i, lt)
 
 pub record IsAdded (wholes others : List Table) (told more : List Change) (entries : List Entry) (entry : Entry) (table : Table) : Type 0 where
   pub within : IsWithin (length (wholes ++ others)) (length (told ++ more)) entry
@@ -93,9 +77,7 @@ pub record IsAdded (wholes others : List Table) (told more : List Change) (entri
 pub tables_added : (wholes others : List Table) (told more : List Change) (entries : List Entry) (entry : Entry) (table : Table) → AreKept wholes told entries
     → IsAdded wholes others told more entries entry table
     → tables_of (wholes ++ others) (told ++ more) (entries ++ entry ∷ []) ≡ tables_of wholes told entries ++ table ∷ []
-tables_added wholes others told more entries entry table kept h =
-    map-append (rebuilt (wholes ++ others) (told ++ more)) entries (entry ∷ [])
-    ∙ (λ i. tables_grown wholes others told more entries kept.within i ++ h.is i ∷ [])
+tables_added wholes others told more entries entry table kept h = grind (arith, map-append, tables_grown, kept, h)
 
 pub kept_added : (wholes others : List Table) (told more : List Change) (entries : List Entry) (entry : Entry) (table : Table) → AreKept wholes told entries
     → IsAdded wholes others told more entries entry table → AreKept (wholes ++ others) (told ++ more) (entries ++ entry ∷ [])
@@ -122,8 +104,4 @@ kept_added wholes others told more entries entry table kept h =
 pub last_added : (wholes others : List Table) (told more : List Change) (entries : List Entry) (entry : Entry) (table : Table) → AreKept wholes told entries
     → IsAdded wholes others told more entries entry table
     → get_or (tables_of (wholes ++ others) (told ++ more) (entries ++ entry ∷ [])) (length (entries ++ entry ∷ []) - 1) no_table ≡ table
-last_added wholes others told more entries entry table kept h =
-    let place : length (tables_of wholes told entries) ≡ length (entries ++ entry ∷ []) - 1 =
-    omega (arith, length-map entries (rebuilt wholes told), length-append entries (entry ∷ [])) in
-    ap (λ all. get_or all (length (entries ++ entry ∷ []) - 1) no_table) (tables_added wholes others told more entries entry table kept h)
-    ∙ get_or_at (tables_of wholes told entries) table [] no_table (length (entries ++ entry ∷ []) - 1) place
+last_added wholes others told more entries entry table kept h = grind (arith, length-map, length-append, tables_added, get_or_at, kept, h)

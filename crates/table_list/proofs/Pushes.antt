@@ -13,8 +13,7 @@ use Rattle.table_list.proofs.Lists.{IsAdded, tables_added, kept_added, last_adde
 
 along : (P : List Table → List Change → List Entry → Type 0) (wholes other_wholes : List Table) (told other_told : List Change) (entries other_entries : List Entry)
     → wholes ≡ other_wholes → told ≡ other_told → entries ≡ other_entries → P wholes told entries → P other_wholes other_told other_entries
-along P wholes other_wholes told other_told entries other_entries a b c p =
-    subst (λ (x : List Table). P x other_told other_entries) a (subst (λ (y : List Change). P wholes y other_entries) b (subst (λ (z : List Entry). P wholes told z) c p))
+along P wholes other_wholes told other_told entries other_entries a b c p = grind (arith, a, b, c, p)
 
 both_first : (wholes tables : List Table) (table : Table) → slice_get wholes 0 ≡ slice_get tables 0 → slice_get (wholes ++ table ∷ []) 0 ≡ slice_get (tables ++ table ∷ []) 0
 both_first [] [] table e = refl
@@ -64,16 +63,14 @@ listed_whole old mid new more table start kept formed begins w e t step a =
       is = last_added wholes (table ∷ []) told more entries entry table kept added;
       whole = omega (arith, length-append wholes (table ∷ []));
       place = omega (arith, n_is);
-      made = sym (λ i. with_scale (all_changed (get_or_at wholes table [] no_table (length (wholes ++ table ∷ []) - 1) (omega (arith, length-append wholes (table ∷ []))) i)
-          (drop_all n (told ++ more) (omega (arith, n_is)) i)) table.k);
+      made = grind (arith, get_or_at, length-append, drop_all, wholes, table, n, told, more, n_is);
     } in
     let wholes_are : wholes ++ table ∷ [] ≡ new.wholes.items = ap (λ xs. xs ++ table ∷ []) (sym w) ∙ sym a.wholes in
     let told_are : told ++ more ≡ told_in new = sym t ∙ ap changes_of (sym a.changes) in
     let entries_are : entries ++ entry ∷ [] ≡ new.entries.items = ap (λ xs. xs ++ entry ∷ []) (sym e) ∙ sym a.entries in (
       record {
         all = along AreKept _ _ _ _ _ _ wholes_are told_are entries_are (kept_added wholes (table ∷ []) told more entries entry table kept added);
-        end = along (λ x y z. IsLastOf x y z new.from table) _ _ _ _ _ _ wholes_are told_are entries_are
-            (subst (λ (from : ℕ). IsLastOf (wholes ++ table ∷ []) (told ++ more) (entries ++ entry ∷ []) from table) (sym a.from) last);
+        end = grind (arith, along, new, table, wholes_are, told_are, entries_are, wholes, told, more, entries, entry, a, last);
       },
       along (λ x y z. tables_of x y z ≡ tables_of wholes told entries ++ table ∷ []) _ _ _ _ _ _ wholes_are told_are entries_are
           (tables_added wholes (table ∷ []) told more entries entry table kept added),
@@ -84,12 +81,7 @@ listed_whole old mid new more table start kept formed begins w e t step a =
 make_next : (whole last table : Table) (changes : List Change) → IsWellFormed last → IsWellFormed table → AreAlike last table → last ≡ with_scale (all_changed whole changes) last.k
     → with_scale (all_changed whole (changes ++ table_changes last table)) table.k ≡ table
 make_next whole last table changes form formed alike made =
-    let more = table_changes last table in
-    let before = all_changed whole changes in
-    let scaled : all_changed last more ≡ with_scale (all_changed before more) last.k =
-    ap (λ (other : Table). all_changed other more) made ∙ changes_scaled before last.k more in
-    ap (λ (other : Table). with_scale other table.k) (changes_behind whole changes more)
-    ∙ sym (ap (λ (other : Table). with_scale other table.k) scaled) ∙ changes_make_table last table form formed alike
+    grind (arith, changes_scaled, changes_behind, changes_make_table, form, formed, alike, made)
 
 pub listed_told : (old mid new : Kept) (last table : Table) (k : ℤ) (start : ℕ) → k ≡ table.k
     → IsListed old (Some last) → IsWellFormed table → AreAlike last table → start ≡ length old.changes.items
@@ -142,8 +134,7 @@ listed_told old mid new last table k start scale listed formed alike begins w e 
     let entries_are : entries ++ entry ∷ [] ≡ new.entries.items = ap (λ xs. xs ++ entry ∷ []) (sym e) ∙ sym a.entries in (
       record {
         all = along AreKept _ _ _ _ _ _ wholes_are told_are entries_are (kept_added wholes [] told more entries entry table kept added);
-        end = along (λ x y z. IsLastOf x y z new.from table) _ _ _ _ _ _ wholes_are told_are entries_are
-            (subst (λ (from : ℕ). IsLastOf (wholes ++ []) (told ++ more) (entries ++ entry ∷ []) from table) (sym a.from) next);
+        end = grind (arith, along, new, table, wholes_are, told_are, entries_are, wholes, told, more, entries, entry, a, next);
       },
       along (λ x y z. tables_of x y z ≡ tables_of wholes told entries ++ table ∷ []) _ _ _ _ _ _ wholes_are told_are entries_are
           (tables_added wholes [] told more entries entry table kept added),

@@ -1,10 +1,10 @@
 -- Reading a list: a table is rebuilt of one that is kept whole, by changes.
-use Rattle.std.proofs.Common.{◌≡◌, ℕ, zero, suc, ◌+◌, ◌-◌, ◌<◌, List, [], ◌∷◌, length, take, drop, get_or, sym, ap, subst, ◌∙◌, arith}
+use Rattle.std.proofs.Common.{◌≡◌, ℕ, zero, suc, ◌+◌, ◌-◌, ◌<◌, List, ◌∷◌, length, take, drop, get_or, sym, ap, subst, ◌∙◌, arith}
 use Rattle.std.proofs.lemmas.List.{length-map, take-map, drop-map, get_or-map, get_or_read, get_or_default, drop_more}
 use Rattle.dual_model.specs.Prelude.{AreRising, IsWellFormed}
 use Rattle.table_list.specs.Changes.{Table, Change, OfDemand, OfReserve, OfRamps, changed, all_changed, table_changes, with_row}
 use Rattle.table_list.specs.TableChanges.{KeptChange, change_of, changes_of}
-use Rattle.table_list.specs.inside.Kept.{Entry, Kept, no_table, with_scale, stretch, rebuilt, own_changes, AreKept, told_in, tables_in}
+use Rattle.table_list.specs.inside.Kept.{Entry, Kept, no_table, with_scale, stretch, rebuilt, AreKept, told_in, tables_in}
 use Rattle.table_list.proofs.RowChanges.{rise_from, rising_from, rise_with}
 use Rattle.table_list.proofs.Lists.{changes_scaled}
 
@@ -50,11 +50,7 @@ pub own_are : (kept : Kept) → AreKept kept.wholes.items (told_in kept) kept.en
     → entry ≡ get_or kept.entries.items number entry
     → changes_of (take (entry.end - entry.start) (drop entry.start kept.changes.items)) ≡ table_changes (get_or (tables_in kept) (number - 1) no_table) (get_or (tables_in kept) number no_table)
 own_are kept all zero some lt entry is = absurd (omega arith)
-own_are kept all (suc i) some lt entry is =
-    part_of kept.changes.items entry.start entry.end ∙ ap (own_changes (told_in kept)) is
-    ∙ sym (get_or-map (own_changes (told_in kept)) kept.entries.items (suc i) entry [] lt)
-    ∙ all.steps i (omega (arith, length-map kept.entries.items (rebuilt kept.wholes.items (told_in kept))))
-    ∙ ap (λ n. table_changes (get_or (tables_in kept) n no_table) (get_or (tables_in kept) (suc i) no_table)) (omega arith)
+own_are kept all (suc i) some lt entry is = grind (arith, part_of, get_or-map, length-map, all, some, lt, is)
 
 -- ---- the same of the list that contracts see
 pub rebuilt_in : (kept : Kept) (tables : List Table) → tables ≡ tables_in kept → AreKept kept.wholes.items (told_in kept) kept.entries.items → (number : ℕ) → number < length tables → (entry : Entry)

@@ -1,11 +1,11 @@
 -- Ramp rows and their changes: the changes that are written make the new rows of the old ones, and of changed rows these changes are
 -- written and no others.
-use Rattle.std.proofs.Common.{◌≡◌, ℕ, zero, suc, ◌+◌, ◌*◌, ◌<◌, ◌≤◌, ◌≢◌, ◌⊎◌, inl, inr, ⊎_elim, Bool, true, false, ◌&&◌, ◌==◌, List, [], ◌∷◌, ◌++◌, length, pos, refl, sym, ap, subst, ◌∙◌, arith}
+use Rattle.std.proofs.Common.{◌≡◌, ℕ, zero, suc, ◌+◌, ◌*◌, ◌<◌, ◌≤◌, ◌≢◌, ◌⊎◌, inl, inr, ⊎_elim, Bool, false, ◌&&◌, ◌==◌, List, [], ◌∷◌, ◌++◌, length, pos, refl, sym, ap, subst, ◌∙◌, arith}
 use Rattle.std.specs.List.{AllByRecursion as Each}
 use Rattle.std.specs.Bool.{Decides}
 use Rattle.std.specs.Ordering.{int_eq}
-use Rattle.std.proofs.lemmas.Bool.{and_cases, cond-true, cond-false, cond_both, cases_order, cases_Bool, false_from_ne_true, false≢true, and_left, and_right, ne_eqb, and_from, eq-eqb}
-use Rattle.std.proofs.lemmas.Bool.Decides.{Decides-eqb, Decides-int_eq, Decides-and, Decides-or, Decides-ltb, Decides-like}
+use Rattle.std.proofs.lemmas.Bool.{cond-true, cond-false, cond_both, false_from_ne_true, and_left, and_right, ne_eqb, and_from, eq-eqb}
+use Rattle.std.proofs.lemmas.Bool.Decides.{Decides-int_eq, Decides-and}
 use Rattle.dual_model.specs.Prelude.{AreRising, IsRowBefore, row_of}
 use Rattle.table_list.specs.Changes.{RampRow, is_before, is_none, placed, with_row, no_row, new_row, rows_from, row_changes}
 
@@ -17,15 +17,7 @@ data Order (first second : RampRow) : Type 0 where
   Same : first.g ≡ second.g → first.t ≡ second.t → Order first second
 
 order : (first second : RampRow) → Order first second
-order first second = by_number (cases_order first.g second.g) (cases_order first.t second.t)
-  where
-    by_number : (first.g ≡ second.g) ⊎ ((first.g < second.g) ⊎ (second.g < first.g)) → (first.t ≡ second.t) ⊎ ((first.t < second.t) ⊎ (second.t < first.t))
-        → Order first second
-    by_number (inl g) (inl t) = Same g t
-    by_number (inl g) (inr (inl t)) = Before (record { before = inr (g, t) })
-    by_number (inl g) (inr (inr t)) = Behind (record { before = inr (sym g, t) })
-    by_number (inr (inl g)) times = Before (record { before = inl g })
-    by_number (inr (inr g)) times = Behind (record { before = inl g })
+order first second = grind arith
 
 numbers_rise : (g t h u i v : ℕ) → (g < h) ⊎ ((g ≡ h) × (t < u)) → (h < i) ⊎ ((h ≡ i) × (u < v)) → (g < i) ⊎ ((g ≡ i) × (t < v))
 numbers_rise g t h u i v a b = grind arith
@@ -37,27 +29,17 @@ pub before_trans : (first second third : RampRow) → IsRowBefore first second �
 before_trans first second third h k = record { before = numbers_rise first.g first.t second.g second.t third.g third.t h.before k.before }
 
 pub before_decides : (first second : RampRow) → Decides (is_before first second) (IsRowBefore first second)
-before_decides first second =
-    Decides-like (is_before first second) (λ h. record { before = h }) (λ h. h.before)
-    (Decides-or _ _ (Decides-ltb first.g second.g) (Decides-and _ _ (Decides-eqb first.g second.g) (Decides-ltb first.t second.t)))
+before_decides first second = grind arith
 
 is_behind : (first second : RampRow) → IsRowBefore second first → is_before first second ≡ false
 is_behind first second h = false_from_ne_true (is_before first second) (λ e. numbers_part first.g first.t second.g second.t ((before_decides first second).0 e).before h.before)
 
 -- a row is behind those before one of its unit and period, and before those behind it
 same_before : (first second row : RampRow) → first.g ≡ second.g → first.t ≡ second.t → IsRowBefore second row → IsRowBefore first row
-same_before first second row g t h = record { before = moved h.before }
-  where
-    moved : (second.g < row.g) ⊎ ((second.g ≡ row.g) × (second.t < row.t)) → (first.g < row.g) ⊎ ((first.g ≡ row.g) × (first.t < row.t))
-    moved (inl earlier) = inl (omega arith)
-    moved (inr (same, earlier)) = inr (g ∙ same, omega arith)
+same_before first second row g t h = grind (arith, h)
 
 pub is_beside : (first second : RampRow) → first.g ≡ second.g → first.t ≡ second.t → is_before first second ≡ false
-is_beside first second g t = false_from_ne_true (is_before first second) (λ e. none ((before_decides first second).0 e).before)
-  where
-    none : (first.g < second.g) ⊎ ((first.g ≡ second.g) × (first.t < second.t)) → ⊥
-    none (inl earlier) = omega arith
-    none (inr (same, earlier)) = omega arith
+is_beside first second g t = grind arith
 
 pub each_as : (P Q : RampRow → Type 0) → ((row : RampRow) → P row → Q row) → (rows : List RampRow) → Each P rows → Each Q rows
 each_as P Q f [] each = tt
@@ -123,18 +105,10 @@ alike_decides : (old new : RampRow) → Decides (are_alike old new) ((old.up ≡
 alike_decides old new = Decides-and _ _ (Decides-int_eq old.up new.up) (Decides-int_eq old.down new.down)
 
 not_alike : (old new : RampRow) → Differs old new → are_alike old new ≡ false
-not_alike old new differ = false_from_ne_true (are_alike old new) (λ e. none ((alike_decides old new).0 e) differ)
-  where
-    none : (old.up ≡ new.up) × (old.down ≡ new.down) → Differs old new → ⊥
-    none same (inl up) = up same.0
-    none same (inr down) = down same.1
+not_alike old new differ = grind (arith, differ)
 
 alike_or : (old new : RampRow) → ((old.up ≡ new.up) × (old.down ≡ new.down)) ⊎ Differs old new
-alike_or old new = ⊎_elim (λ (e : are_alike old new ≡ true). inl ((alike_decides old new).0 e)) (λ (e : are_alike old new ≡ false). inr (apart (and_cases _ _ e))) (cases_Bool (are_alike old new))
-  where
-    apart : (int_eq old.up new.up ≡ false) ⊎ (int_eq old.down new.down ≡ false) → Differs old new
-    apart (inl up) = inl (λ same. false≢true (sym up ∙ (Decides-int_eq old.up new.up).1 same))
-    apart (inr down) = inr (λ same. false≢true (sym down ∙ (Decides-int_eq old.down new.down).1 same))
+alike_or old new = grind arith
 
 differs_too : (old new : RampRow) → Differs old new → Differs new old
 differs_too old new (inl up) = inl (λ same. up (sym same))
@@ -152,11 +126,7 @@ row_of_here row rows g t same at_t = cond-true _ _ _ (and_from _ _ (eq-eqb row.g
 
 -- it is behind a row that comes before it
 row_of_behind : (row other : RampRow) (rows : List RampRow) → IsRowBefore row other → row_of (row ∷ rows) other.g other.t ≡ row_of rows other.g other.t
-row_of_behind row other rows h = cond-false _ _ _ (by_number h.before)
-  where
-    by_number : (row.g < other.g) ⊎ ((row.g ≡ other.g) × (row.t < other.t)) → ((row.g == other.g) && (row.t == other.t)) ≡ false
-    by_number (inl earlier) = and_left _ _ (ne_eqb row.g other.g (λ e. omega arith))
-    by_number (inr (same, earlier)) = and_right _ _ (ne_eqb row.t other.t (λ e. omega arith))
+row_of_behind row other rows h = grind (arith, h)
 
 -- and none where all rows are behind it
 row_of_none : (row : RampRow) (rows : List RampRow) → Each (IsRowBefore row) rows → row_of rows row.g row.t ≡ no_row row
@@ -298,9 +268,7 @@ AreFound olds = (told : List RampRow) → Rise told → AreOthers olds told → 
 -- an old row before all of them stays
 found_behind : (old : RampRow) (olds told : List RampRow) → AreFound olds → Each (IsRowBefore old) told → Rise told → AreOthers (old ∷ olds) told
     → row_changes (old ∷ olds) (with_rows (old ∷ olds) told) ≡ told
-found_behind old olds told found each rise others =
-    ap (row_changes (old ∷ olds)) (stays old olds told each) ∙ from_kept old old (row_changes olds) (with_rows olds told) refl refl refl refl
-    ∙ found told rise (others_behind old olds told each others)
+found_behind old olds told found each rise others = grind (arith, stays, from_kept, others_behind, found, each, rise, others)
 
 -- a new row comes before the old ones
 put_new : (row : RampRow) (rows : List RampRow) → Each (IsRowBefore row) rows → IsPresent row → with_row rows row ≡ row ∷ rows
@@ -327,11 +295,7 @@ found_new old olds row told each later present more =
 found_gone : (old : RampRow) (olds : List RampRow) (row : RampRow) (told : List RampRow) → AreFound olds → Each (IsRowBefore old) olds → Each (IsRowBefore old) told → Rise told
     → old.g ≡ row.g → old.t ≡ row.t → row.up ≡ pos 0 → row.down ≡ pos 0 → AreOthers (with_row (old ∷ olds) row) told → IsFoundFrom (old ∷ olds) (row ∷ told)
 found_gone old olds row told found behind later rise g t up down others =
-    let put : with_row (old ∷ olds) row ≡ olds = with_same old row olds g t ∙ placed_none row olds up down in
-    let same : no_row old ≡ row = λ i. record { g = g i; t = t i; up = sym up i; down = sym down i } in
-    let more : row_changes olds (with_rows olds told) ≡ told = found told rise (subst (λ (rows : List RampRow). AreOthers rows told) put others) in
-    let each : Each (IsRowBefore old) (with_rows olds told) = each_with_rows (IsRowBefore old) olds told behind (each_as (IsRowBefore old) (λ next. IsPresent next → IsRowBefore old next) (λ next h present. h) told later) in
-    ap (λ rows. row_changes (old ∷ olds) (with_rows rows told)) put ∙ from_gone old (row_changes olds) (with_rows olds told) each ∙ (λ i. same i ∷ more i)
+    grind (arith, with_same, placed_none, each_with_rows, each_as, from_gone, found, behind, later, rise, others)
 
 found_other : (old : RampRow) (olds : List RampRow) (row : RampRow) (told : List RampRow) → AreFound olds → Each (IsRowBefore row) told → Rise told
     → old.g ≡ row.g → old.t ≡ row.t → IsPresent row → Differs old row → AreOthers (with_row (old ∷ olds) row) told → IsFoundFrom (old ∷ olds) (row ∷ told)
@@ -383,34 +347,14 @@ pub record AreChangesTo (olds news told : List RampRow) : Type 0 where
   pub make : with_rows olds told ≡ news
 
 made_kept : (old : RampRow) (olds news told : List RampRow) → Each (IsRowBefore old) told → AreChangesTo olds news told → AreChangesTo (old ∷ olds) (old ∷ news) told
-made_kept old olds news told each h = record {
-  rise = h.rise;
-  others = others_before old olds told each h.others;
-  make = stays old olds told each ∙ ap (λ rows. old ∷ rows) h.make;
-}
+made_kept old olds news told each h = grind (arith, others_before, stays, each, h)
 
 made_new : (rows news : List RampRow) (row : RampRow) (told : List RampRow) → Each (IsRowBefore row) rows → Each (IsRowBefore row) told → IsPresent row → AreChangesTo rows news told
     → AreChangesTo rows (row ∷ news) (row ∷ told)
-made_new rows news row told each later present h = record {
-  rise = (later, h.rise);
-  others = (
-    subst (λ (found : RampRow). Differs found row) (sym (row_of_none row rows each)) (differs_too row (no_row row) present),
-    subst (λ (rows : List RampRow). AreOthers rows told) (sym (put_new row rows each present)) (others_before row rows told later h.others),
-  );
-  make = put_first row rows told each later present ∙ ap (λ rows. row ∷ rows) h.make;
-}
+made_new rows news row told each later present h = grind (arith, row_of_none, differs_too, put_new, others_before, put_first, each, later, present, h)
 
 made_gone : (old : RampRow) (olds news told : List RampRow) → Each (IsRowBefore old) told → IsPresent old → AreChangesTo olds news told → AreChangesTo (old ∷ olds) news (no_row old ∷ told)
-made_gone old olds news told later present h =
-    let put : with_row (old ∷ olds) (no_row old) ≡ olds = with_same old (no_row old) olds refl refl ∙ placed_none (no_row old) olds refl refl in
-    record {
-      rise = (each_as (IsRowBefore old) (IsRowBefore (no_row old)) (λ row k. record { before = k.before }) told later, h.rise);
-      others = (
-        subst (λ (found : RampRow). Differs found (no_row old)) (sym (row_of_here old olds old.g old.t refl refl)) present,
-        subst (λ (rows : List RampRow). AreOthers rows told) (sym put) h.others,
-      );
-      make = ap (λ rows. with_rows rows told) put ∙ h.make;
-    }
+made_gone old olds news told later present h = grind (arith, with_same, placed_none, each_as, row_of_here, later, present, h)
 
 made_other : (old : RampRow) (olds news : List RampRow) (row : RampRow) (told : List RampRow) → old.g ≡ row.g → old.t ≡ row.t → Each (IsRowBefore row) told → IsPresent row → Differs old row
     → AreChangesTo olds news told → AreChangesTo (old ∷ olds) (row ∷ news) (row ∷ told)
@@ -418,10 +362,7 @@ made_other old olds news row told g t later present differ h =
     let put : with_row (old ∷ olds) row ≡ row ∷ olds = with_same old row olds g t ∙ placed_some row olds present in
     record {
       rise = (later, h.rise);
-      others = (
-        subst (λ (found : RampRow). Differs found row) (sym (row_of_here old olds row.g row.t g t)) differ,
-        subst (λ (rows : List RampRow). AreOthers rows told) (sym put) (others_before row olds told later h.others),
-      );
+      others = grind (arith, row_of_here, others_before, row, old, olds, g, t, differ, told, put, later, h);
       make = ap (λ rows. with_rows rows told) put ∙ stays row olds told later ∙ ap (λ rows. row ∷ rows) h.make;
     }
 

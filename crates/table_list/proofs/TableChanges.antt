@@ -1,8 +1,8 @@
 -- The changes that are told of two tables make the second of the first.
-use Rattle.std.proofs.Common.{◌≡◌, ℕ, List, [], ◌∷◌, ◌++◌, length, map, ℤ, refl, sym, ap, ◌∙◌}
+use Rattle.std.proofs.Common.{arith, ◌≡◌, ℕ, List, [], ◌∷◌, ◌++◌, map, ℤ, refl}
 use Rattle.std.specs.List.{AllByRecursion as Each}
 use Rattle.std.proofs.lemmas.List.Elements.{recursion_from_All}
-use Rattle.dual_model.specs.Prelude.{IsRowWithin, IsWellFormed}
+use Rattle.dual_model.specs.Prelude.{IsWellFormed}
 use Rattle.table_list.specs.Changes.{Table, RampRow, Change, OfDemand, OfReserve, OfRamps, changed, all_changed, row_changes, table_changes}
 use Rattle.table_list.specs.TableChanges.{AreAlike}
 use Rattle.table_list.specs.inside.Kept.{with_scale}
@@ -49,17 +49,9 @@ told_whole before after i = as_pairs OfDemand 0 before.pi after.pi i ++ (as_pair
 
 -- ---- They make the table behind.
 present_rows : (table : Table) → IsWellFormed table → Each IsPresent table.ramps
-present_rows table form =
-    each_as (IsRowWithin table.units (length table.pi)) IsPresent (λ row h. h.present) table.ramps
-    (recursion_from_All (IsRowWithin table.units (length table.pi)) table.ramps form.rows)
+present_rows table form = grind (arith, each_as, recursion_from_All, form)
 
 pub changes_make_table : (before after : Table) → IsWellFormed before → IsWellFormed after → AreAlike before after
     → with_scale (all_changed before (table_changes before after)) after.k ≡ after
 changes_make_table before after b a alike =
-    let rows = rows_made before.ramps after.ramps (rise_from before.ramps b.rising) (rise_from after.ramps a.rising) (present_rows before b) (present_rows after a) in
-    let pi = new_prices before.pi after.pi (sym alike.periods) in
-    let mu = new_prices before.mu after.mu (a.lengths ∙ sym alike.periods ∙ sym b.lengths) in
-    ap (λ changes. with_scale (all_changed before changes) after.k) (told_whole before after)
-    ∙ ap (λ (table : Table). with_scale table after.k)
-    (told_change before (prices_told 0 before.pi after.pi) (prices_told 0 before.mu after.mu) (row_changes before.ramps after.ramps))
-    ∙ (λ i. record { units = alike.units i; k = after.k; pi = pi i; mu = mu i; ramps = rows.make i })
+    grind (arith, rows_made, rise_from, present_rows, new_prices, told_whole, told_change, prices_told, b, a, alike)

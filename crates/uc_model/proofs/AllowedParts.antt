@@ -6,7 +6,7 @@ use Rattle.std.proofs.lemmas.Int.{ints, clamps}
 use Rattle.std.proofs.lemmas.Bool.{and_parts, and_from, cases_Bool, true≢false, not-true, not_from_false, ltb-true, lt-ltb, cond-true, cond-false, cond_both}
 use Rattle.uc_model.specs.Sums.{bit, all_below}
 use Rattle.uc_model.specs.Commitment.{Thermal, Commitment, starts, stops, minimum_up_at, minimum_down_at, initial_stop_holds, start_cap, stop_cap, cap, is_allowed_at, is_allowed}
-use Rattle.uc_model.proofs.Ring.{linear, le_trans, mul-one, mul-zero, one-mul, zero-mul}
+use Rattle.uc_model.proofs.Ring.{linear, le_trans, mul-one, mul-zero, one-mul}
 use Rattle.uc_model.proofs.Tests.{int_le-true, le-int_le, all_below-at, all_below-from, int_min_left, int_min_right}
 use Rattle.uc_model.proofs.Obeyed.{min_nonneg}
 
@@ -19,10 +19,7 @@ room_from low high limit true true range now fits =
     let b = mul-one (int_max (high -ℤ limit) (pos 0)) in
     let room : pos 0 ≤ℤ ((high -ℤ low) -ℤ int_max (high -ℤ limit) (pos 0)) = omega (arith, ints, clamps) in
     omega (arith, linear)
-room_from low high limit true false range now fits =
-    let a = mul-one (high -ℤ low) in
-    let b = mul-zero (int_max (high -ℤ limit) (pos 0)) in
-    omega (arith, linear)
+room_from low high limit true false range now fits = grind (arith, ints, mul-one, mul-zero, false, range, fits)
 room_from low high limit false change range now fits = cc
 
 room_to : (low high limit : ℤ) (now change : Bool) → now ≡ true → change ≡ true
@@ -68,40 +65,15 @@ cap-stop periods unit on t room within =
 -- ---- M7, over plain numbers
 stop_to : (p0 low high limit : ℤ) (first now : Bool) → (first ≡ true → p0 ≤ℤ high) → (first ≡ true → now ≡ false → p0 ≤ℤ limit)
     → (bit first *ℤ (p0 -ℤ low)) ≤ℤ (bit first *ℤ (high -ℤ low) -ℤ int_max (high -ℤ limit) (pos 0) *ℤ bit (first && not now))
-stop_to p0 low high limit true true below fits =
-    let most = below refl in
-    let a = one-mul (p0 -ℤ low) in
-    let b = one-mul (high -ℤ low) in
-    let c = mul-zero (int_max (high -ℤ limit) (pos 0)) in
-    omega (arith, linear)
-stop_to p0 low high limit true false below fits =
-    let most = below refl in
-    let fit = fits refl refl in
-    let a = one-mul (p0 -ℤ low) in
-    let b = one-mul (high -ℤ low) in
-    let c = mul-one (int_max (high -ℤ limit) (pos 0)) in
-    let sum : (p0 -ℤ low) ≤ℤ ((high -ℤ low) -ℤ int_max (high -ℤ limit) (pos 0)) = omega (arith, ints, clamps) in
-    omega (arith, linear)
-stop_to p0 low high limit false now below fits =
-    let a = zero-mul (p0 -ℤ low) in
-    let b = zero-mul (high -ℤ low) in
-    let c = mul-zero (int_max (high -ℤ limit) (pos 0)) in
-    omega (arith, linear)
+stop_to p0 low high limit true true below fits = grind (arith, ints, one-mul, mul-zero, below, fits)
+stop_to p0 low high limit true false below fits = grind (arith, ints, one-mul, mul-one, clamps, below, fits)
+stop_to p0 low high limit false now below fits = grind (arith, ints, below, fits)
 
 stop_from : (p0 low high limit : ℤ) (first now : Bool) → first ≡ true
     → (bit first *ℤ (p0 -ℤ low)) ≤ℤ (bit first *ℤ (high -ℤ low) -ℤ int_max (high -ℤ limit) (pos 0) *ℤ bit (first && not now))
     → (p0 ≤ℤ high) × (now ≡ false → p0 ≤ℤ limit)
-stop_from p0 low high limit true true first holds =
-    let a = one-mul (p0 -ℤ low) in
-    let b = one-mul (high -ℤ low) in
-    let c = mul-zero (int_max (high -ℤ limit) (pos 0)) in
-    (omega (arith, linear), λ off. absurd (true≢false off))
-stop_from p0 low high limit true false first holds =
-    let a = one-mul (p0 -ℤ low) in
-    let b = one-mul (high -ℤ low) in
-    let c = mul-one (int_max (high -ℤ limit) (pos 0)) in
-    let sum : (p0 -ℤ low) ≤ℤ ((high -ℤ low) -ℤ int_max (high -ℤ limit) (pos 0)) = omega (arith, linear) in
-    (omega (arith, ints, clamps), λ off. omega (arith, ints, clamps))
+stop_from p0 low high limit true true first holds = grind (arith, ints, one-mul, mul-zero, true≢false, holds)
+stop_from p0 low high limit true false first holds = grind (arith, ints, one-mul, mul-one, clamps, holds)
 stop_from p0 low high limit false now first holds = absurd (true≢false (sym first))
 
 -- ---- what is allowed, in parts

@@ -1,5 +1,5 @@
 -- Numbers within the limit of a power are what their bits say, so a cap is the range less its reduction.
-use Rattle.std.proofs.Common.{◌≡◌, ◌∙◌, lit<, sym, subst, Bool, ℤ, ◌-ℤ◌, ◌*ℤ◌, to_z, of_z}
+use Rattle.std.proofs.Common.{arith, ◌≡◌, ◌∙◌, lit<, sym, subst, Bool, ℤ, ◌-ℤ◌, ◌*ℤ◌, to_z, of_z}
 use Rattle.std.specs.Int.{w64}
 use Rattle.uc_model.specs.Limits.{IsLimit, IsPower, MAX_POWER}
 use Rattle.uc_model.specs.Sums.{bit}
@@ -24,9 +24,4 @@ reduced_power z full reduction h k is = is (bits_limit full h) (bits_limit reduc
 pub reduced_is : (z full reduction width less : ℤ) (applies : Bool) → IsLimit full → IsLimit reduction
     → (IsLimit (bits full) → IsLimit (bits reduction) → z ≡ bits full -ℤ bits reduction *ℤ bit applies)
     → full ≡ width → reduction ≡ less → z ≡ width -ℤ less *ℤ bit applies
-reduced_is z full reduction width less applies h k is full_is reduction_is =
-    subst (λ x. z ≡ x -ℤ less *ℤ bit applies) full_is
-    (subst (λ x. z ≡ full -ℤ x *ℤ bit applies) reduction_is
-    (subst (λ x. z ≡ x -ℤ reduction *ℤ bit applies) (bits_are full h)
-    (subst (λ x. z ≡ bits full -ℤ x *ℤ bit applies) (bits_are reduction k)
-    (is (bits_limit full h) (bits_limit reduction k)))))
+reduced_is z full reduction width less applies h k is full_is reduction_is = grind (arith, h, k, is, full_is, reduction_is)

@@ -1,10 +1,10 @@
 -- The cost of a schedule that obeys is at most q * COST_MAX in size.
 -- Cite from a crate above by `use Rattle.uc_model.proofs.CostBound.{cost_fits}`.
-use Rattle.std.proofs.Common.{◌≡◌, ℕ, zero, suc, ◌*◌, ◌<◌, ◌≤◌, ⊎_elim, false, sym, ap, subst, ◌∙◌, arith, ℤ, pos, negsuc, ◌+ℤ◌, ◌*ℤ◌, neg_ℤ, ◌≤ℤ◌, IsTrue, unsigned_abs, ◌==◌, nat_lt}
-use Rattle.std.proofs.lemmas.Bool.{and_parts, or_cases, cases_Bool, eqb-true, ltb-true, true≢false, cond-true, cond-false}
+use Rattle.std.proofs.Common.{◌≡◌, ℕ, zero, suc, ◌*◌, ◌<◌, ◌≤◌, sym, ap, subst, ◌∙◌, arith, ℤ, pos, negsuc, ◌+ℤ◌, ◌*ℤ◌, neg_ℤ, ◌≤ℤ◌, IsTrue, unsigned_abs}
+use Rattle.std.proofs.lemmas.Bool.{cases_Bool, eqb-true, true≢false, cond-true, cond-false}
 use Rattle.uc_model.specs.Sums.{sum_below, bit}
-use Rattle.uc_model.specs.Commitment.{Thermal, Commitment, starts}
-use Rattle.uc_model.specs.StartCategory.{category_count, category_cost, is_category_allowed, category_holds_at}
+use Rattle.uc_model.specs.Commitment.{Thermal, Commitment}
+use Rattle.uc_model.specs.StartCategory.{category_cost, is_category_allowed, category_holds_at}
 use Rattle.uc_model.specs.Schedule.{Instance, Row, Schedule, thermal_unit, thermal_count, point, point_count}
 use Rattle.uc_model.specs.Rules.{Category, Production, Obeys}
 use Rattle.uc_model.specs.Cost.{production_cost, cell_cost, unit_cost, shortage_cost, cost}
@@ -89,23 +89,11 @@ zero_within n = record { low = omega (arith, linear); high = omega (arith, linea
 allowed_cost_fits : (unit : Thermal) (on : Commitment) (s t : ℕ) → IsLawfulThermal unit → IsTrue (is_category_allowed unit on s t)
     → IsWithin (pos MAX_COST) (category_cost unit s)
 allowed_cost_fits unit on zero t lawful h = absurd (true≢false (sym h))
-allowed_cost_fits unit on (suc s) t lawful h =
-    within_of_abs _ _ (lawful.start_costs s
-    (⊎_elim
-    (λ (last : IsTrue (suc s == category_count unit)). let e = eqb-true (suc s) (category_count unit) last in omega arith)
-    (λ rest. let l = ltb-true (suc s) (category_count unit) (and_parts (nat_lt (suc s) (category_count unit)) _ rest).0 in omega arith)
-    (or_cases (suc s == category_count unit) _ h)))
+allowed_cost_fits unit on (suc s) t lawful h = grind (arith, linear, lawful, h)
 
 pub category_cost_fits : (unit : Thermal) (row : Row) (t : ℕ) → IsLawfulThermal unit
     → IsTrue (category_holds_at unit row.on row.category t) → IsWithin (pos MAX_COST) (category_cost unit (row.category t))
-category_cost_fits unit row t lawful h =
-    ⊎_elim
-    (λ (start : IsTrue (starts unit row.on t)).
-    allowed_cost_fits unit row.on (row.category t) t lawful (sym (cond-true _ _ _ start) ∙ h))
-    (λ (none : starts unit row.on t ≡ false).
-    let zero_category : row.category t ≡ 0 = eqb-true (row.category t) 0 (sym (cond-false _ _ _ none) ∙ h) in
-    subst (λ c. IsWithin (pos MAX_COST) (category_cost unit c)) (sym zero_category) (zero_within MAX_COST))
-    (cases_Bool (starts unit row.on t))
+category_cost_fits unit row t lawful h = grind (arith, linear, allowed_cost_fits, cond-true, eqb-true, cond-false, zero_within, cases_Bool, lawful, h)
 
 cell_cost_fits : (instance : Instance) (q : ℕ) (x : Schedule) (g t : ℕ) → Obeys instance q x
     → g < thermal_count instance → t < instance.periods → IsLawfulThermal (thermal_unit instance g)

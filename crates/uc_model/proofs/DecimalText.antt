@@ -41,11 +41,7 @@ whole_text_digit (suc n) small =
 
 -- the last digit
 pub whole_text_step : (n : ℕ) → 10 ≤ n → whole_text n ≡ whole_text (n / 10) ++ digit_byte (n % 10) ∷ []
-whole_text_step n large =
-    whole_text_positive n (omega arith)
-    ∙ ap (map digit_byte) (digits_of_step 10 n (omega arith) (omega arith))
-    ∙ map-append digit_byte (digits_of 10 (n / 10)) (n % 10 ∷ [])
-    ∙ ap (λ ds. ds ++ digit_byte (n % 10) ∷ []) (sym (whole_text_positive (n / 10) (omega arith)))
+whole_text_step n large = grind (arith, whole_text_positive, digits_of_step, map-append, large)
 
 -- what holds of each single digit, and is kept by each further one, holds of each text
 pub whole_text_by_steps : (P : ℕ → List ℕ → Type 0)

@@ -2,7 +2,7 @@
 -- the other one from there to the end: the most one of a unit that is on is on throughout, and the fewest one stops as
 -- early as it may; so with starts where it is off. Every allowed pattern lies between the two, period by period.
 -- Cite from a crate above by `use Rattle.uc_model.proofs.ExtremePatterns.{most-from_highest}`.
-use Rattle.std.proofs.Common.{◌≡◌, ℕ, zero, suc, ◌-◌, ◌<◌, ◌≤◌, ◌⊎◌, inl, inr, ⊎_elim, min, max, Bool, true, false, not, refl, sym, ap, ◌∙◌, arith, ◌≤ℤ◌, ◌<ℤ◌, IsTrue}
+use Rattle.std.proofs.Common.{◌≡◌, ℕ, zero, suc, ◌-◌, ◌<◌, ◌≤◌, ◌⊎◌, ⊎_elim, min, max, Bool, true, false, not, refl, sym, ap, ◌∙◌, arith, ◌≤ℤ◌, ◌<ℤ◌, IsTrue}
 use Rattle.std.proofs.lemmas.Bool.{and_from, cases_Bool, cases_lt, true≢false, not_from_false, true_from_ne_false, false_from_ne_true}
 use Rattle.uc_model.specs.Sums.{bit}
 use Rattle.uc_model.specs.Commitment.{Thermal, Commitment, starts, stops, is_allowed}
@@ -122,10 +122,7 @@ pub record IsLowest (periods : ℕ) (unit : Thermal) (on : Commitment) : Type 0 
 
 pub highest-kept_on : (periods : ℕ) (unit : Thermal) → IsLawfulThermal unit → 1 ≤ periods → unit.on0 ≡ true → unit.p0 ≤ℤ unit.pmax
     → IsHighest periods unit (on_during 0 periods)
-highest-kept_on periods unit lawful some first low = record {
-  allowed = stop-allowed periods periods unit lawful first low (λ _. omega arith) (λ t within _. within) (λ none. absurd (omega arith)) (λ _ more. absurd (omega arith));
-  above = λ other allowed t within _. during-from 0 periods t (omega arith) within;
-}
+highest-kept_on periods unit lawful some first low = grind (arith, linear, stop-allowed, during-from, lawful, some, first, low)
 
 pub highest-started : (periods : ℕ) (unit : Thermal) → IsLawfulThermal unit → unit.on0 ≡ false
     → (unit.must_run ≡ true → unit.dt - unit.dt0 ≡ 0) → unit.pmin ≤ℤ unit.su
@@ -150,10 +147,7 @@ highest-kept_off periods unit lawful first free weak = record {
 
 pub lowest-kept_off : (periods : ℕ) (unit : Thermal) → IsLawfulThermal unit → unit.on0 ≡ false → unit.must_run ≡ false
     → IsLowest periods unit (on_during periods periods)
-lowest-kept_off periods unit lawful first free = record {
-  allowed = start-allowed periods periods unit lawful first (λ m. absurd (true≢false (sym m ∙ free))) (λ t within _. within) (λ more. absurd (omega arith));
-  below = λ other allowed t within now. absurd (let inside = during-at periods periods t now in omega (arith, inside.0));
-}
+lowest-kept_off periods unit lawful first free = grind (arith, linear, start-allowed, true≢false, during-at, lawful, first, free)
 
 -- a must-run unit's one pattern
 pub lowest-must_run : (periods : ℕ) (unit : Thermal) (on : Commitment) → unit.must_run ≡ true → IsTrue (is_allowed periods unit on)
@@ -165,11 +159,7 @@ lowest-must_run periods unit on must allowed = record {
 
 pub lowest-stopped_at_once : (periods : ℕ) (unit : Thermal) → IsLawfulThermal unit → unit.on0 ≡ true → unit.p0 ≤ℤ unit.pmax
     → unit.must_run ≡ false → unit.ut - unit.ut0 ≡ 0 → unit.p0 ≤ℤ unit.sd → IsLowest periods unit (on_during 0 0)
-lowest-stopped_at_once periods unit lawful first low free past fits = record {
-  allowed = stop-allowed periods 0 unit lawful first low (λ m. absurd (true≢false (sym m ∙ free))) (λ t within early. omega arith)
-      (λ _. fits) (λ more _. absurd (omega arith));
-  below = λ other allowed t within now. absurd (let inside = during-at 0 0 t now in omega (arith, inside.1));
-}
+lowest-stopped_at_once periods unit lawful first low free past fits = grind (arith, linear, stop-allowed, true≢false, during-at, lawful, first, low, free, past, fits)
 
 pub lowest-stopped : (periods : ℕ) (unit : Thermal) → IsLawfulThermal unit → 1 ≤ periods → unit.on0 ≡ true → unit.p0 ≤ℤ unit.pmax
     → unit.must_run ≡ false → (0 < unit.ut - unit.ut0) ⊎ (unit.sd <ℤ unit.p0) → unit.pmin ≤ℤ unit.sd
@@ -217,13 +207,7 @@ highest_of periods unit on some lawful allowed = ⊎_elim
 
 -- whether a stop is barred in the first period
 bar_or_not : (unit : Thermal) → ((0 < unit.ut - unit.ut0) ⊎ (unit.sd <ℤ unit.p0)) ⊎ ((unit.ut - unit.ut0 ≡ 0) × (unit.p0 ≤ℤ unit.sd))
-bar_or_not unit = ⊎_elim
-    (λ (held : 0 < unit.ut - unit.ut0). inl (inl held))
-    (λ (past : unit.ut - unit.ut0 ≤ 0). ⊎_elim
-    (λ (fits : unit.p0 ≤ℤ unit.sd). inr ((let e : unit.ut - unit.ut0 ≡ 0 = omega arith in e), fits))
-    (λ (high : unit.sd <ℤ unit.p0). inl (inr high))
-    (le_or_lt unit.p0 unit.sd))
-    (cases_lt 0 (unit.ut - unit.ut0))
+bar_or_not unit = grind (arith, linear)
 
 lowest_of : (periods : ℕ) (unit : Thermal) (on : Commitment) → 1 ≤ periods → IsLawfulThermal unit → IsTrue (is_allowed periods unit on)
     → (lowest : Commitment) × IsLowest periods unit lowest
@@ -274,16 +258,10 @@ contained_same (suc n) a b h le t within =
     (cases_lt t n)
 
 pub most-from_highest : (periods : ℕ) (unit : Thermal) (on : Commitment) → IsHighest periods unit on → IsMostOn periods unit on
-most-from_highest periods unit on high = record {
-  allowed = high.allowed;
-  most = λ other allowed. contained-le periods other on (high.above other allowed);
-}
+most-from_highest periods unit on high = grind (arith, linear, contained-le, high)
 
 pub fewest-from_lowest : (periods : ℕ) (unit : Thermal) (on : Commitment) → IsLowest periods unit on → IsFewestOn periods unit on
-fewest-from_lowest periods unit on low = record {
-  allowed = low.allowed;
-  fewest = λ other allowed. contained-le periods on other (low.below other allowed);
-}
+fewest-from_lowest periods unit on low = grind (arith, linear, contained-le, low)
 
 -- ---- exactly one of each
 pub one_most_on : (periods : ℕ) (unit : Thermal) (on : Commitment) → 1 ≤ periods → IsLawfulThermal unit → IsTrue (is_allowed periods unit on)

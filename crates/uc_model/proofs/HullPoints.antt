@@ -6,9 +6,9 @@ use Rattle.std.proofs.lemmas.Option.{none-some, same_Some}
 use Rattle.std.proofs.lemmas.Bool.{and_parts, or_cases, cases_Bool, cond-true, cond-false, eqb-true, eqb-false, eq-eqb, ne_eqb}
 use Rattle.uc_model.specs.Points.{Point, point_of, output_of, weighted_cost}
 use Rattle.uc_model.specs.Division.{quotient_up}
-use Rattle.uc_model.specs.Hull.{run, rise, is_hull_segment, is_hull_point, segment_holds, or_else, first_below, Segment, segment_from, first_segment, segment_at, segment_width, from_left, to_right, segment_cost}
+use Rattle.uc_model.specs.Hull.{run, rise, segment_holds, or_else, first_below, Segment, segment_from, first_segment, segment_at, segment_width, from_left, to_right, segment_cost}
 use Rattle.uc_model.specs.PrintedSchedule.{segment_weight}
-use Rattle.uc_model.proofs.Ring.{linear, spread, mul_comm, mul_assoc, mul-add, mul-sub, mul-zero, zero-mul, pos-mul, scale-le-scale, le_from_mul, sub_nonneg, pos_nonneg}
+use Rattle.uc_model.proofs.Ring.{linear, spread, mul_comm, mul_assoc, mul-add, mul-sub, mul-zero, zero-mul, pos-mul, scale-le-scale, sub_nonneg, pos_nonneg}
 use Rattle.uc_model.proofs.Sums.{sum_below-single, sum_below-pair}
 use Rattle.uc_model.proofs.Tests.{int_le-true, int_lt-true}
 use Rattle.uc_model.proofs.Quotients.{quotient_up-is}
@@ -34,9 +34,7 @@ first_below-at (suc n) test k e =
 
 segment_from-some : (i : ℕ) (o : Option ℕ) (s : Segment) → segment_from i o ≡ Some s → (i ≡ s.left) × (o ≡ Some s.right)
 segment_from-some i None s e = absurd (none-some s e)
-segment_from-some i (Some j) s e =
-    let same = same_Some _ s e in
-    (ap (λ (x : Segment). x.left) same, ap (λ (x : Segment). Some x.right) same)
+segment_from-some i (Some j) s e = grind (arith, linear, j, e)
 
 -- the segment's ends are points, and it holds p over d
 pub record Holds (points : List Point) (d : ℕ) (p : ℤ) (s : Segment) : Type 0 where
@@ -79,18 +77,7 @@ pub record LiesOn (points : List Point) (d : ℕ) (p : ℤ) (s : Segment) : Type
   pub width : s.left ≢ s.right → pos (segment_width points s) ≡ run points s.left s.right
 
 pub lies_on : (points : List Point) (d : ℕ) (p : ℤ) (s : Segment) → Holds points d p s → LiesOn points d p s
-lies_on points d p s holds =
-    let both = and_parts _ _ holds.held in
-    let first = and_parts _ _ both.0 in
-    record {
-      after = sub_nonneg _ _ (int_le-true (pos d *ℤ output_of points s.left) p first.1);
-      before = sub_nonneg _ _ (int_le-true p (pos d *ℤ output_of points s.right) both.1);
-      width = λ apart.
-          ⊎_elim
-          (λ (segment : IsTrue (is_hull_segment points s.left s.right)). width_is _ (int_lt-true _ _ (and_parts _ _ segment).0))
-          (λ point. absurd (apart (eqb-true _ _ (and_parts (s.left == s.right) (is_hull_point points s.left) point).0)))
-          (or_cases (is_hull_segment points s.left s.right) _ first.0);
-    }
+lies_on points d p s holds = grind (arith, linear, and_parts, sub_nonneg, int_le-true, width_is, int_lt-true, eqb-true, or_cases, holds)
 
 -- the parts of the width on both sides of p over d
 parts_sum : (points : List Point) (d : ℕ) (p : ℤ) (s : Segment)
@@ -133,10 +120,7 @@ ends_cost c width x y a b n parts above =
 
 -- a quotient of nought rounded up is at least 0
 up_nonneg : (a : ℤ) (b : ℕ) → 0 < b → a ≡ pos 0 → pos 0 ≤ℤ quotient_up a (pos b)
-up_nonneg a b some none =
-    let above = (quotient_up-is a (pos b) (omega (arith, linear))).above in
-    le_from_mul (pos b) (pos 0) (quotient_up a (pos b)) (omega (arith, linear))
-    (omega (arith, linear, above, none, mul-zero (pos b), mul_comm (pos b) (quotient_up a (pos b))))
+up_nonneg a b some none = grind (arith, linear, some, none)
 
 -- the quotient of the hull's value
 abbrev over_left : List Point → ℕ → ℤ → Segment → ℤ
@@ -204,9 +188,4 @@ pub cost-segment : (q c : ℕ) (points : List Point) (d : ℕ) (p : ℤ) (s : Se
     → q ≡ c * (d * segment_width points s) → q / (d * segment_width points s) ≡ c → 0 < d
     → weighted_cost points (segment_weight q points d p (Some s)) ≤ℤ (pos q *ℤ segment_cost points d p (Some s))
 cost-segment q c points d p s e factor share some =
-    let holds = segment_at-holds points d p s e in
-    ⊎_elim
-    (λ (same : IsTrue (s.left == s.right)). cost-point q points d p s some holds.left (eqb-true s.left s.right same))
-    (λ (apart : (s.left == s.right) ≡ false).
-    cost-ends q c points d p s holds (lies_on points d p s holds) factor share (eqb-false s.left s.right apart) some)
-    (cases_Bool (s.left == s.right))
+    grind (arith, linear, segment_at-holds, cost-point, eqb-true, cost-ends, lies_on, eqb-false, cases_Bool, e, factor, share, some)

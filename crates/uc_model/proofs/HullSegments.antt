@@ -114,11 +114,7 @@ at_most_trans a b c d e f hb hd hf first second =
     record { products = le_from_mul d _ _ hd (omega (arith, linear, x, y, e1, e2, e3)) }
 
 at_most_total : (a b c d : ℤ) → IsAtMost a b c d ⊎ IsAtMost c d a b
-at_most_total a b c d =
-    ⊎_elim
-    (λ (le : (a *ℤ d) ≤ℤ (c *ℤ b)). inl (record { products = le }))
-    (λ (lt : (c *ℤ b) <ℤ (a *ℤ d)). inr (record { products = omega (arith, linear, lt) }))
-    (le_or_lt (a *ℤ d) (c *ℤ b))
+at_most_total a b c d = grind (arith, linear)
 
 -- ---- lines
 -- two first factors change places
@@ -159,10 +155,7 @@ right_of c e f oc oe of y h = let parts = simp spread at h in simp spread (omega
 
 -- the same product with its factors written otherwise
 respelled : (a b c d a' b' c' d' : ℤ) → a ≡ a' → b ≡ b' → c ≡ c' → d ≡ d' → (a *ℤ b) ≤ℤ (c *ℤ d) → (a' *ℤ b') ≤ℤ (c' *ℤ d')
-respelled a b c d a' b' c' d' ea eb ec ed h =
-    let first : a *ℤ b ≡ a' *ℤ b' = λ i. ea i *ℤ eb i in
-    let second : c *ℤ d ≡ c' *ℤ d' = λ i. ec i *ℤ ed i in
-    omega (arith, linear, first, second, h)
+respelled a b c d a' b' c' d' ea eb ec ed h = grind (arith, linear, ea, eb, ec, ed, h)
 
 -- ---- pairs of points around an output
 module _ (points : List Point) (y : ℤ) where
@@ -360,9 +353,7 @@ pub record Rises (points : List Point) : Type 0 where
 
 -- a later point lies no further left
 pub outputs_rise : (points : List Point) → Rises points → (i j : ℕ) → i ≤ j → j < length points → output_of points i ≤ℤ output_of points j
-outputs_rise points rises i zero h l =
-    let same : i ≡ 0 = omega (arith, h) in
-    omega (arith, linear, ap (output_of points) same)
+outputs_rise points rises i zero h l = grind (arith, linear, rises, zero, h, l)
 outputs_rise points rises i (suc j) h l = ⊎_elim
     (λ (less : i < suc j).
     let before = outputs_rise points rises i j (omega (arith, less)) (omega (arith, l)) in
@@ -407,42 +398,19 @@ pub record IsHeld (points : List Point) (p : ℤ) (s : Segment) : Type 0 where
 
 -- by the definition
 pub is_held : (points : List Point) (p : ℤ) (s : Segment) → Holds points 1 p s → IsHeld points p s
-is_held points p s holds =
-    let kind = is_hull_segment points s.left s.right || ((s.left == s.right) && is_hull_point points s.left) in
-    let begins = int_le (pos 1 *ℤ output_of points s.left) p in
-    let both = and_parts (kind && begins) (int_le p (pos 1 *ℤ output_of points s.right)) holds.held in
-    let first = and_parts kind begins both.0 in
-    record {
-      is = ⊎_elim
-          (λ (segment : IsTrue (is_hull_segment points s.left s.right)). inl
-          (under points s holds.left holds.right segment))
-          (λ (point : IsTrue ((s.left == s.right) && is_hull_point points s.left)).
-          let parts = and_parts (s.left == s.right) (is_hull_point points s.left) point in
-          inr (eqb-true s.left s.right parts.0, holds.left, parts.1))
-          (or_cases (is_hull_segment points s.left s.right)
-          ((s.left == s.right) && is_hull_point points s.left) first.0);
-      begins = subst (λ z. z ≤ℤ p) (one-mul (output_of points s.left))
-          (int_le-true (pos 1 *ℤ output_of points s.left) p first.1);
-      reaches = subst (λ z. p ≤ℤ z) (one-mul (output_of points s.right))
-          (int_le-true p (pos 1 *ℤ output_of points s.right) both.1);
-    }
+is_held points p s holds = grind (arith, linear, int_le, and_parts, under, eqb-true, or_cases, one-mul, int_le-true, holds)
 
 -- and back
 pub holds_from : (points : List Point) (p : ℤ) (i j : ℕ) → IsTrue (is_hull_segment points i j || ((i == j) && is_hull_point points i))
     → output_of points i ≤ℤ p → p ≤ℤ output_of points j → IsTrue (segment_holds points 1 p i j)
-holds_from points p i j is begins reaches =
-    and_from _ _
-    (and_from _ _ is (le-int_le _ _ (subst (λ z. z ≤ℤ p) (sym (one-mul (output_of points i))) begins)))
-    (le-int_le _ _ (subst (λ z. p ≤ℤ z) (sym (one-mul (output_of points j))) reaches))
+holds_from points p i j is begins reaches = grind (arith, linear, and_from, le-int_le, one-mul, is, begins, reaches)
 
 -- a segment from x or before to x + 1 or behind isn't one point
 not_level : (points : List Point) (x : ℕ) (s : Segment) → output_of points s.left ≤ℤ pos x → pos (suc x) ≤ℤ output_of points s.right
     → IsUnder points s ⊎ ((s.left ≡ s.right) × (s.left < length points) × IsTrue (is_hull_point points s.left))
     → IsUnder points s
 not_level points x s begins reaches (inl is) = is
-not_level points x s begins reaches (inr point) =
-    let same = ap (output_of points) point.0 in
-    absurd (omega (arith, linear, same, begins, reaches))
+not_level points x s begins reaches (inr point) = grind (arith, linear, begins, reaches, point)
 
 -- there is such a segment for each step inside the points' width
 pub step_there : (points : List Point) (x : ℕ) → Rises points → pos (suc x) ≤ℤ output_of points (length points - 1)

@@ -112,18 +112,10 @@ state_before-not initial on (suc k) = refl
 
 -- u(t) - u(t-1) = v(t) - w(t) at a fall, and at a rise
 falls_by_stop : (now before up down : Bool) → bit now -ℤ bit before ≡ bit up -ℤ bit down → before ≡ true → now ≡ false → IsTrue down
-falls_by_stop now before up down e was is =
-    let one = bit-true before was in
-    let none : bit now ≡ pos 0 = ap bit is in
-    let low = bit_nonneg up in
-    one-le-bit down (omega (arith, linear))
+falls_by_stop now before up down e was is = grind (arith, linear, e, was, is)
 
 rises_by_start : (now before up down : Bool) → bit now -ℤ bit before ≡ bit up -ℤ bit down → before ≡ false → now ≡ true → IsTrue up
-rises_by_start now before up down e was is =
-    let one = bit-true now is in
-    let none : bit before ≡ pos 0 = ap bit was in
-    let low = bit_nonneg down in
-    one-le-bit up (omega (arith, linear))
+rises_by_start now before up down e was is = grind (arith, linear, e, was, is)
 
 -- so a start and a stop can't stand in one period
 pub not_both : (initial : Bool) (on up down : Commitment) (periods time_up time_down : ℕ) → 1 ≤ time_up → 1 ≤ time_down

@@ -63,8 +63,7 @@ length-minus_text-le (negsuc n) = omega arith
 
 -- k places for the whole part, one for a minus, one for the point and six for the decimals
 pub length-money_text-le : (k : ℕ) (n : ℤ) → 0 < k → unsigned_abs n / 1000000 < 10 ^ k → length (money_text n) ≤ k + 8
-length-money_text-le k n some small =
-    omega (arith, length-money_text n, length-minus_text-le n, length-whole_text-le k (unsigned_abs n / 1000000) some small)
+length-money_text-le k n some small = grind (arith, length-money_text, length-minus_text-le, length-whole_text-le, some, small)
 
 pub money_text_nonempty : (n : ℤ) → 0 < length (money_text n)
 money_text_nonempty n = omega (arith, length-money_text n)

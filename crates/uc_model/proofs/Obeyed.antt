@@ -1,6 +1,6 @@
 -- What a schedule that obeys keeps at each unit and period, and that its commitment is an allowed pattern.
 -- Cite from a crate above by `use Rattle.uc_model.proofs.Obeyed.{rule_at, is_allowed-obeying}`.
-use Rattle.std.proofs.Common.{◌≡◌, ℕ, zero, suc, ◌<◌, ◌≤◌, false, not, ◌&&◌, sym, ◌∙◌, arith, ℤ, pos, ◌+ℤ◌, ◌*ℤ◌, ◌≤ℤ◌, ◌<ℤ◌, ⊎_elim, IsTrue, int_le, nat_lt}
+use Rattle.std.proofs.Common.{◌≡◌, ℕ, zero, suc, ◌<◌, ◌≤◌, false, not, ◌&&◌, sym, ◌∙◌, arith, ℤ, pos, ◌+ℤ◌, ◌*ℤ◌, ◌≤ℤ◌, ⊎_elim, IsTrue, int_le, nat_lt}
 use Rattle.std.specs.Int.{int_min}
 use Rattle.std.specs.Ordering.{int_eq}
 use Rattle.std.proofs.lemmas.Int.{ints}
@@ -10,7 +10,7 @@ use Rattle.uc_model.specs.Commitment.{Thermal, start_cap, stop_cap, cap, is_allo
 use Rattle.uc_model.specs.Schedule.{Instance, Row, Schedule, thermal_unit, thermal_count, point, point_count, point_p, p_at, weight_sum}
 use Rattle.uc_model.specs.Rules.{Rule, MustRun, InitialUp, InitialDown, MinimumUp, MinimumDown, InitialStop, Production, StartCap, StopCap, holds_at, rule_units, rule_periods, production_at, Obeys}
 use Rattle.uc_model.specs.Limits.{IsLawfulThermal}
-use Rattle.uc_model.proofs.Ring.{linear, le_trans, mul_nonneg, pos_nonneg, le_from_mul, mul-zero, sub_nonneg}
+use Rattle.uc_model.proofs.Ring.{linear, le_trans, mul_nonneg, pos_nonneg, sub_nonneg}
 use Rattle.uc_model.proofs.Sums.{sum_below_nonneg}
 use Rattle.uc_model.proofs.Tests.{int_le-true, le-int_le, int_eq-true, all_below-at, all_below-from}
 
@@ -56,18 +56,12 @@ pub point_p_nonneg : (unit : Thermal) → IsLawfulThermal unit → (l : ℕ) →
 point_p_nonneg unit lawful l h = sub_nonneg _ _ (first-le-point unit lawful l h)
 
 pub p_at_nonneg : (unit : Thermal) → IsLawfulThermal unit → (row : Row) (t : ℕ) → pos 0 ≤ℤ p_at unit row t
-p_at_nonneg unit lawful row t =
-    sum_below_nonneg (point_count unit) (λ l. point_p unit l *ℤ pos (row.weight t l))
-    (λ l h. mul_nonneg _ _ (point_p_nonneg unit lawful l h) (pos_nonneg _))
+p_at_nonneg unit lawful row t = grind (arith, ints, sum_below_nonneg, mul_nonneg, point_p_nonneg, pos_nonneg, lawful)
 
 -- ---- caps
 -- a cap that q times bounds a number which isn't negative isn't negative
 cap_nonneg : (q : ℕ) (c p r : ℤ) → 1 ≤ q → pos 0 ≤ℤ p → pos 0 ≤ℤ r → (p +ℤ r) ≤ℤ (pos q *ℤ c) → pos 0 ≤ℤ c
-cap_nonneg q c p r hq hp hr h =
-    let positive : pos 0 <ℤ pos q = omega (arith, linear) in
-    let zero_side : pos q *ℤ pos 0 ≡ pos 0 = mul-zero (pos q) in
-    let above : (pos q *ℤ pos 0) ≤ℤ (pos q *ℤ c) = omega (arith, linear) in
-    le_from_mul (pos q) (pos 0) c positive above
+cap_nonneg q c p r hq hp hr h = grind (arith, ints, hq, hp, hr, h)
 
 -- a least of two numbers that aren't negative
 pub min_nonneg : (a b : ℤ) → pos 0 ≤ℤ a → pos 0 ≤ℤ b → pos 0 ≤ℤ int_min a b

@@ -25,16 +25,10 @@ during-off_past first end t h = and_right _ _ (le-ltb t end h)
 
 -- an off period behind the first is behind the end, and one before the end is before the first
 pub during-past : (first end t : ℕ) → first ≤ t → on_during first end t ≡ false → end ≤ t
-during-past first end t h off = ⊎_elim
-    (λ (before : t < end). absurd (true≢false (sym (during-from first end t h before) ∙ off)))
-    (λ (past : end ≤ t). past)
-    (cases_lt t end)
+during-past first end t h off = grind (arith, linear, h, off)
 
 during-before : (first end t : ℕ) → t < end → on_during first end t ≡ false → t < first
-during-before first end t h off = ⊎_elim
-    (λ (before : t < first). before)
-    (λ (from : first ≤ t). absurd (true≢false (sym (during-from first end t from h) ∙ off)))
-    (cases_lt t first)
+during-before first end t h off = grind (arith, linear, h, off)
 
 -- ---- starts and stops
 pub start_parts : (unit : Thermal) (on : Commitment) (t : ℕ) → IsTrue (starts unit on t) → (was_on unit on t ≡ false) × (on t ≡ true)
@@ -46,52 +40,25 @@ stop_parts unit on t h = let parts = and_parts _ _ h in (parts.0, not-true _ par
 -- a unit that is on at first and to the period before n never starts, and stops in n
 pub never_starts : (unit : Thermal) (n t : ℕ) → unit.on0 ≡ true → IsTrue (starts unit (on_during 0 n) t) → ⊥
 never_starts unit n zero first h = true≢false (sym first ∙ (start_parts unit (on_during 0 n) zero h).0)
-never_starts unit n (suc t) first h =
-    let parts = start_parts unit (on_during 0 n) (suc t) h in
-    let now = during-at 0 n (suc t) parts.1 in
-    true≢false (sym (during-from 0 n t (omega arith) (omega (arith, now.1))) ∙ parts.0)
+never_starts unit n (suc t) first h = grind (arith, linear, first, h)
 
 pub stops_in : (unit : Thermal) (n t : ℕ) → IsTrue (stops unit (on_during 0 n) t) → t ≡ n
-stops_in unit n zero h =
-    let past = during-past 0 n zero (omega arith) (stop_parts unit (on_during 0 n) zero h).1 in omega arith
-stops_in unit n (suc t) h =
-    let parts = stop_parts unit (on_during 0 n) (suc t) h in
-    let before = during-at 0 n t parts.0 in
-    let past = during-past 0 n (suc t) (omega arith) parts.1 in
-    omega (arith, before.1)
+stops_in unit n zero h = grind (arith, linear, zero, h)
+stops_in unit n (suc t) h = grind (arith, linear, h)
 
 -- one that is off at first and on from n to the end starts in n, and never stops
 pub starts_in : (unit : Thermal) (n end t : ℕ) → IsTrue (starts unit (on_during n end) t) → t ≡ n
-starts_in unit n end zero h =
-    let now = during-at n end zero (start_parts unit (on_during n end) zero h).1 in omega (arith, now.0)
-starts_in unit n end (suc t) h =
-    let parts = start_parts unit (on_during n end) (suc t) h in
-    let now = during-at n end (suc t) parts.1 in
-    let before = during-before n end t (omega (arith, now.1)) parts.0 in
-    omega (arith, now.0)
+starts_in unit n end zero h = grind (arith, linear, zero, h)
+starts_in unit n end (suc t) h = grind (arith, linear, h)
 
 pub never_stops : (unit : Thermal) (n end t : ℕ) → unit.on0 ≡ false → t < end → IsTrue (stops unit (on_during n end) t) → ⊥
 never_stops unit n end zero first h k = true≢false (sym (stop_parts unit (on_during n end) zero k).0 ∙ first)
-never_stops unit n end (suc t) first h k =
-    let parts = stop_parts unit (on_during n end) (suc t) k in
-    let before = during-at n end t parts.0 in
-    let now = during-before n end (suc t) h parts.1 in
-    omega (arith, before.0)
+never_stops unit n end (suc t) first h k = grind (arith, linear, first, h, k)
 
 -- ---- M4 and M5 with no change, and with one
 pub keeps-none : (window : ℕ) (changes state : Commitment) (t : ℕ) → ((k : ℕ) → k ≤ t → IsTrue (changes k) → ⊥)
     → IsTrue (keeps_minimum_at window changes state t)
-keeps-none window changes state t none = ⊎_elim
-    (λ (short : suc t < window). or_left (nat_lt (suc t) window) _ (lt-ltb (suc t) window short))
-    (λ (whole : window ≤ suc t). or_right (nat_lt (suc t) window) _ (le-int_le _ _ (nothing whole)))
-    (cases_lt (suc t) window)
-  where
-    nothing : window ≤ suc t → sum_below window (λ i. bit (changes (suc t - window + i))) ≤ℤ bit (state t)
-    nothing whole =
-        let total = sum_below-zero window (λ i. bit (changes (suc t - window + i)))
-        (λ i h. ap bit (false_from_ne_true _ (λ change. none (suc t - window + i) (omega arith) change))) in
-        let low = bit_nonneg (state t) in
-        omega (arith, linear)
+keeps-none window changes state t none = grind (arith, linear, or_left, lt-ltb, or_right, le-int_le, cases_lt, sum_below-zero, false_from_ne_true, bit_nonneg, none)
 
 one_at_most : (m : ℕ) (changes : Commitment) (from n : ℕ) → ((i : ℕ) → i < m → IsTrue (changes (from + i)) → from + i ≡ n)
     → sum_below m (λ i. bit (changes (from + i))) ≤ℤ pos 1

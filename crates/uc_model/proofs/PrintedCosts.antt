@@ -55,11 +55,7 @@ watts-factor instance printed =
 
 -- which is at least 1 where the other is
 pub watts_positive : (printed : Printed) (q c : ℕ) → q ≡ c * watt_denominator printed → 1 ≤ q → 0 < watt_denominator printed
-watts_positive printed q c factor some = positive (watt_denominator printed) factor
-  where
-    positive : (d : ℕ) → q ≡ c * d → 0 < d
-    positive zero e = absurd (omega arith)
-    positive (suc d) e = omega arith
+watts_positive printed q c factor some = grind (arith, linear, factor, some)
 
 -- ---- a cell
 -- weights that M8 refuses
@@ -70,15 +66,12 @@ on_cell : (q c : ℕ) (points : List Point) (d : ℕ) (p : ℤ) (s : Option Segm
     → ((l : ℕ) → l < length points → segment_weight q points d p s l ≤ q) → q ≡ c * (d * width_on points s)
     → weighted_cost points (segment_weight q points d p s) ≤ℤ (pos q *ℤ segment_cost points d p s)
 on_cell q c points d p None e some positive within factor = no_refused q (length points) some within
-on_cell q c points d p (Some s) e some positive within factor =
-    cost-segment q c points d p s e factor (share_is q c (d * segment_width points s) (wide d points s positive) factor) positive
+on_cell q c points d p (Some s) e some positive within factor = grind (arith, linear, cost-segment, share_is, wide, e, some, positive, within, factor)
 
 off_cell : (q : ℕ) (points : List Point) (idle : Bool) → 0 < length points
     → ((l : ℕ) → l < length points → (if idle then 0 else refused_weight q l) ≤ q)
     → weighted_cost points (λ l. if idle then 0 else refused_weight q l) ≤ℤ (pos q *ℤ pos 0)
-off_cell q points true some within =
-    let total = sum_below-zero (length points) (λ l. (point_of points l).cost *ℤ pos 0) (λ l h. mul-zero (point_of points l).cost) in
-    omega (arith, linear, total, mul-zero (pos q))
+off_cell q points true some within = grind (arith, linear, sum_below-zero, mul-zero, true, some, within)
 off_cell q points false some within = no_refused q (length points) some within
 
 -- the weights that a cell stands for cost at most q times what is printed
@@ -87,8 +80,7 @@ cell_weights : (q c : ℕ) (points : List Point) (d : ℕ) (on : Bool) (p : ℤ)
     → q ≡ c * (d * (if on then width_on points (segment_at points d p) else 1))
     → weighted_cost points (λ l. if on then segment_weight q points d p (segment_at points d p) l else (if int_eq p (pos 0) then 0 else refused_weight q l))
     ≤ℤ (pos q *ℤ (if on then hull_cost points d p else pos 0))
-cell_weights q c points d true p some positive within factor =
-    on_cell q c points d p (segment_at points d p) refl some positive within factor
+cell_weights q c points d true p some positive within factor = grind (arith, linear, on_cell, true, some, positive, within, factor)
 cell_weights q c points d false p some positive within factor = off_cell q points (int_eq p (pos 0)) some within
 
 cell_cost-le : (instance : Instance) (printed : Printed) (g t : ℕ) → IsLawfulInstance instance

@@ -1,10 +1,10 @@
 -- Laws of floor and ceiling, `IsFloor a b n` and `IsCeiling a b n`, for a positive b.
 -- Cite from a crate above by `use Rattle.uc_model.proofs.Quotients.{IsFloor-greatest}`.
-use Rattle.std.proofs.Common.{◌≡◌, ◌%◌, ◌≢◌, ◌-◌, unsigned_abs, subst, arith, ℤ, pos, negsuc, ◌+ℤ◌, ◌*ℤ◌, neg_ℤ, ◌≤ℤ◌, ◌<ℤ◌}
+use Rattle.std.proofs.Common.{◌≡◌, ◌%◌, ◌≢◌, ◌-◌, unsigned_abs, arith, ℤ, pos, negsuc, ◌+ℤ◌, ◌*ℤ◌, neg_ℤ, ◌≤ℤ◌, ◌<ℤ◌}
 use Rattle.std.specs.Int.{int_div_euclid, int_rem_euclid}
 use Rattle.std.proofs.lemmas.Int.{ints, by_lt_z}
 use Rattle.uc_model.specs.Division.{IsFloor, IsCeiling, quotient_up}
-use Rattle.uc_model.proofs.Ring.{linear, add-mul, neg-mul, one-mul, mul-one, mul-le-mul_right, le_antisymm, pos_nonneg}
+use Rattle.uc_model.proofs.Ring.{linear, add-mul, neg-mul, one-mul, mul-le-mul_right, le_antisymm, pos_nonneg}
 
 -- ---- a bound by a multiple
 -- from m * b < n * b + b it follows that m ≤ n
@@ -57,8 +57,7 @@ pub IsCeiling-exact : (a b n : ℤ) → pos 0 <ℤ b → IsFloor a b n → n *�
 IsCeiling-exact a b n positive floor exact = record { above = omega (arith, linear); before = omega (arith, linear) }
 
 pub IsCeiling-next : (a b n : ℤ) → IsFloor a b n → (n *ℤ b) <ℤ a → IsCeiling a b (n +ℤ pos 1)
-IsCeiling-next a b n floor rest =
-    record { above = simp (add-mul, one-mul) (omega (arith, linear)); before = simp (add-mul, one-mul) (omega (arith, linear)) }
+IsCeiling-next a b n floor rest = grind (arith, ints, floor, rest)
 
 -- ---- the Euclidean quotient and remainder
 pub int_rem_euclid_nonneg : (a b : ℤ) → pos 0 ≤ℤ int_rem_euclid a b
@@ -73,30 +72,19 @@ quotient-remainder a (negsuc b) positive = absurd (omega (arith, linear))
 
 -- the ceiling is the quotient where the remainder is 0
 pub IsCeiling-int_div_euclid : (a b : ℤ) → pos 0 <ℤ b → int_rem_euclid a b ≡ pos 0 → IsCeiling a b (int_div_euclid a b)
-IsCeiling-int_div_euclid a b positive none =
-    let parts = quotient-remainder a b positive in
-    IsCeiling-exact a b (int_div_euclid a b) positive (IsFloor-int_div_euclid a b positive) (omega (arith, linear))
+IsCeiling-int_div_euclid a b positive none = grind (arith, ints, positive, none)
 
 -- and else one more
 pub IsCeiling-int_div_euclid_next : (a b : ℤ) → pos 0 <ℤ b → int_rem_euclid a b ≢ pos 0 → IsCeiling a b (int_div_euclid a b +ℤ pos 1)
-IsCeiling-int_div_euclid_next a b positive some =
-    let parts = quotient-remainder a b positive in
-    let nonneg = int_rem_euclid_nonneg a b in
-    let more : pos 0 <ℤ int_rem_euclid a b = by_lt_z (pos 0) (int_rem_euclid a b) (λ h. h) (λ h. absurd (some (le_antisymm _ _ h nonneg))) in
-    IsCeiling-next a b (int_div_euclid a b) (IsFloor-int_div_euclid a b positive) (omega (arith, linear))
+IsCeiling-int_div_euclid_next a b positive some = grind (arith, ints, positive, some)
 
 -- ---- the quotient rounded up, as a number
 neg_neg : (a : ℤ) → neg_ℤ (neg_ℤ a) ≡ a
 neg_neg a = omega (arith, linear)
 
 pub quotient_up-is : (a b : ℤ) → pos 0 <ℤ b → IsCeiling a b (quotient_up a b)
-quotient_up-is a b positive =
-    subst (λ z. IsCeiling z b (quotient_up a b)) (neg_neg a)
-    (IsCeiling-neg (neg_ℤ a) b (int_div_euclid (neg_ℤ a) b) (IsFloor-int_div_euclid (neg_ℤ a) b positive))
+quotient_up-is a b positive = grind (arith, ints, positive)
 
 -- over 1 it is the number itself
 pub quotient_up-one : (a : ℤ) → quotient_up a (pos 1) ≡ a
-quotient_up-one a =
-    let same = mul-one a in
-    IsCeiling_unique a (pos 1) (quotient_up a (pos 1)) a (omega (arith, linear)) (quotient_up-is a (pos 1) (omega (arith, linear)))
-    (record { above = omega (arith, linear); before = omega (arith, linear) })
+quotient_up-one a = grind (arith, ints)

@@ -35,9 +35,7 @@ pub one-mul : (a : ℤ) → pos 1 *ℤ a ≡ a
 one-mul a = omega (arith, parts)
 
 pub mul-neg : (a b : ℤ) → a *ℤ neg_ℤ b ≡ neg_ℤ (a *ℤ b)
-mul-neg a b =
-    let whole = neg_is b in
-    omega (arith, parts, ap (λ x. up a * x) whole.0, ap (λ x. up a * x) whole.1, ap (λ x. down a * x) whole.0, ap (λ x. down a * x) whole.1)
+mul-neg a b = grind arith
 
 pub neg-mul : (a b : ℤ) → neg_ℤ a *ℤ b ≡ neg_ℤ (a *ℤ b)
 neg-mul a b = mul_comm (neg_ℤ a) b ∙ mul-neg b a ∙ ap neg_ℤ (mul_comm b a)
@@ -161,9 +159,7 @@ mul-lt-mul_left q a b h k = by_lt_z (q *ℤ a) (q *ℤ b) (λ less. less) (λ le
 
 -- one more of a number
 pub suc-mul : (n : ℕ) (a : ℤ) → pos (suc n) *ℤ a ≡ pos n *ℤ a +ℤ a
-suc-mul n a =
-    let next : pos (suc n) ≡ pos n +ℤ pos 1 = omega (arith, linear) in
-    ap (λ x. x *ℤ a) next ∙ add-mul (pos n) (pos 1) a ∙ ap (λ x. pos n *ℤ a +ℤ x) (one-mul a)
+suc-mul n a = grind arith
 
 -- two numbers of ℕ, as numbers of ℤ
 pub pos-mul : (m n : ℕ) → pos (m * n) ≡ pos m *ℤ pos n

@@ -1,10 +1,9 @@
 -- What is missing of demand and reserve in a schedule that obeys, and what that costs: from 0 to the most that all
 -- shortages may cost.
 -- Cite from a crate above by `use Rattle.uc_model.proofs.Shortages.{shed_parts, short_parts}`.
-use Rattle.std.proofs.Common.{◌≡◌, ℕ, zero, suc, ◌*◌, ◌/◌, ◌<◌, ◌≤◌, ⊎_elim, sym, ap, subst, ◌∙◌, arith, ℤ, pos, ◌+ℤ◌, ◌*ℤ◌, ◌≤ℤ◌, ◌<ℤ◌, IsTrue, nat_lt, slice_index_or}
+use Rattle.std.proofs.Common.{◌≡◌, ℕ, zero, suc, ◌*◌, ◌/◌, ◌<◌, ◌≤◌, sym, ap, subst, ◌∙◌, arith, ℤ, pos, ◌+ℤ◌, ◌*ℤ◌, ◌≤ℤ◌, ◌<ℤ◌, IsTrue, slice_index_or}
 use Rattle.std.proofs.Math.Nat.{mul-div_cancel}
 use Rattle.std.proofs.lemmas.List.{get_or-replicate}
-use Rattle.std.proofs.lemmas.Bool.{and_parts, or_cases, ltb-true}
 use Rattle.uc_model.specs.Sums.{sum_below}
 use Rattle.uc_model.specs.Division.{quotient_up}
 use Rattle.uc_model.specs.Schedule.{Instance, Schedule, most_shed, most_short}
@@ -12,9 +11,8 @@ use Rattle.uc_model.specs.Rules.{ShedRange, ShortRange, shortage_holds, Obeys}
 use Rattle.uc_model.specs.Cost.{shortage_cost}
 use Rattle.uc_model.specs.PrintedSchedule.{Printed, LacksNothing, watt_denominator, shed_at, short_at, printed_schedule, printed_shortage_cost}
 use Rattle.uc_model.specs.Limits.{greatest_shortage_cost}
-use Rattle.uc_model.proofs.Ring.{linear, mul-add, mul_comm, mul_assoc, mul_left_comm, mul-zero, zero-mul, mul_nonneg, scale-le-scale, le_from_mul, pos_nonneg, pos-mul, add-le-add}
+use Rattle.uc_model.proofs.Ring.{linear, mul-add, mul_comm, mul_assoc, mul_left_comm, mul-zero, mul_nonneg, scale-le-scale, le_from_mul, pos_nonneg, pos-mul, add-le-add}
 use Rattle.uc_model.proofs.Sums.{sum_below-le, sum_below-add, sum_below-mul_left, sum_below-zero, sum_below_nonneg}
-use Rattle.uc_model.proofs.Tests.{int_le-true, int_eq-true}
 use Rattle.uc_model.proofs.Obeyed.{rule_at}
 use Rattle.uc_model.proofs.Quotients.{IsCeiling-least, quotient_up-is, quotient_up-one}
 
@@ -25,18 +23,7 @@ pub record IsShortage (q price : ℕ) (most missing : ℤ) : Type 0 where
   pub priced : price ≡ 0 → missing ≡ pos 0
 
 pub shortage_parts : (q price : ℕ) (most missing : ℤ) → IsTrue (shortage_holds q price most missing) → IsShortage q price most missing
-shortage_parts q price most missing h =
-    let p2 = and_parts _ _ h in
-    let p1 = and_parts _ _ p2.0 in
-    record {
-      nonneg = int_le-true _ _ p1.0;
-      within = int_le-true _ _ p1.1;
-      priced = λ none.
-          ⊎_elim
-          (λ (some : IsTrue (nat_lt 0 price)). absurd (let less = ltb-true 0 price some in omega arith))
-          (λ zero. int_eq-true _ _ zero)
-          (or_cases (nat_lt 0 price) _ p2.1);
-    }
+shortage_parts q price most missing h = grind (arith, linear, h)
 
 pub shed_parts : (instance : Instance) (q : ℕ) (x : Schedule) (t : ℕ) → Obeys instance q x → t < instance.periods
     → IsShortage q instance.a (most_shed instance t) (x.shed t)
@@ -58,11 +45,7 @@ greatest_by_period instance a b =
 
 -- without a price there is none
 pub unpriced : (instance : Instance) (a b : ℕ) → a ≡ 0 → b ≡ 0 → greatest_shortage_cost instance a b ≡ pos 0
-unpriced instance a b no_shed no_short =
-    let n = instance.periods in
-    let shed = ap (λ k. pos k *ℤ sum_below n (most_shed instance)) no_shed ∙ zero-mul (sum_below n (most_shed instance)) in
-    let short = ap (λ k. pos k *ℤ sum_below n (most_short instance)) no_short ∙ zero-mul (sum_below n (most_short instance)) in
-    omega (arith, linear)
+unpriced instance a b no_shed no_short = grind (arith, linear, no_shed, no_short)
 
 -- what is missing costs at most q times the price of the most
 cost-le : (q a : ℕ) (most missing : ℤ) → missing ≤ℤ (pos q *ℤ most) → (pos a *ℤ missing) ≤ℤ (pos q *ℤ (pos a *ℤ most))

@@ -3,12 +3,12 @@
 -- size, and answer what they name. Numbers that are passed by value stand there as their bits,
 -- `to_z w (of_z w z)`, which are no greater in size.
 -- Cite from a crate above by `use Rattle.uc_model.proofs.Sizes.{product-fits}`.
-use Rattle.std.proofs.Common.{◌≡◌, ℕ, suc, Bool, true, false, refl, ◌+◌, ◌-◌, ◌*◌, ◌<◌, ◌≤◌, ◌^◌, sym, subst, ◌∙◌, arith, ℤ, pos, negsuc, ◌+ℤ◌, ◌-ℤ◌, ◌*ℤ◌, ◌<ℤ◌, ◌≤ℤ◌, to_z, of_z, unsigned_abs, nat_lt}
+use Rattle.std.proofs.Common.{◌≡◌, ℕ, Bool, true, false, refl, ◌+◌, ◌*◌, ◌<◌, ◌≤◌, ◌^◌, sym, subst, ◌∙◌, arith, ℤ, pos, negsuc, ◌+ℤ◌, ◌-ℤ◌, ◌*ℤ◌, ◌<ℤ◌, ◌≤ℤ◌, to_z, of_z, unsigned_abs, nat_lt}
 use mir.Val.{sel}
 use Rattle.std.specs.Int.{w64, w128, int_min}
 use Rattle.std.proofs.lemmas.Int.{ints, unsigned_abs-mul, to_z-of_z, fits_signed_from_abs, by_lt_z}
 use Rattle.std.proofs.lemmas.Nat.{mul-le}
-use Rattle.std.proofs.lemmas.Bool.{cond_both, ltb-true, ltb-false}
+use Rattle.std.proofs.lemmas.Bool.{cond_both, ltb-false}
 use Rattle.uc_model.specs.Division.{IsFloor}
 use Rattle.uc_model.proofs.Ring.{linear, mul-one, one-mul, add-mul, mul-le-mul_left, mul-le-mul_turned}
 
@@ -39,13 +39,11 @@ chosen false x y m h k = k refl
 
 pub abs_wide : (z : ℤ) → unsigned_abs (to_z w128 (of_z w128 z)) ≤ unsigned_abs z
 abs_wide (pos n) = chosen (nat_lt n (2 ^ 127)) _ _ n (λ e. omega arith) (λ e. omega (arith, ltb-false n (2 ^ 127) e))
-abs_wide (negsuc n) = chosen (nat_lt (2 ^ 128 - suc n) (2 ^ 127)) _ _ (suc n)
-    (λ e. omega (arith, ltb-true (2 ^ 128 - suc n) (2 ^ 127) e)) (λ e. omega (arith, ltb-false (2 ^ 128 - suc n) (2 ^ 127) e))
+abs_wide (negsuc n) = grind (arith, ints, n)
 
 pub abs_narrow : (z : ℤ) → unsigned_abs (to_z w64 (of_z w64 z)) ≤ unsigned_abs z
 abs_narrow (pos n) = chosen (nat_lt n (2 ^ 63)) _ _ n (λ e. omega arith) (λ e. omega (arith, ltb-false n (2 ^ 63) e))
-abs_narrow (negsuc n) = chosen (nat_lt (2 ^ 64 - suc n) (2 ^ 63)) _ _ (suc n)
-    (λ e. omega (arith, ltb-true (2 ^ 64 - suc n) (2 ^ 63) e)) (λ e. omega (arith, ltb-false (2 ^ 64 - suc n) (2 ^ 63) e))
+abs_narrow (negsuc n) = grind (arith, ints, n)
 
 pub wide-size : (z : ℤ) (m : ℕ) → unsigned_abs z ≤ m → unsigned_abs (to_z w128 (of_z w128 z)) ≤ m
 wide-size z m h = omega (arith, abs_wide z)
@@ -78,9 +76,7 @@ difference-size a b r m n e h k = subst (λ x. unsigned_abs x ≤ m + n) (sym e)
 
 pub scaled-size : (a b r : ℤ) (m n : ℕ) → r ≡ to_z w64 (of_z w64 a) *ℤ to_z w64 (of_z w64 b)
     → unsigned_abs a ≤ m → unsigned_abs b ≤ n → unsigned_abs r ≤ m * n
-scaled-size a b r m n e h k =
-    subst (λ x. unsigned_abs x ≤ m * n) (sym e)
-    (abs_mul (to_z w64 (of_z w64 a)) (to_z w64 (of_z w64 b)) m n (omega (arith, abs_narrow a)) (omega (arith, abs_narrow b)))
+scaled-size a b r m n e h k = grind (arith, ints, abs_mul, abs_narrow, e, h, k)
 
 pub product-is : (a b r : ℤ) (m n : ℕ) → r ≡ to_z w128 (of_z w128 a) *ℤ to_z w128 (of_z w128 b)
     → unsigned_abs a ≤ m → unsigned_abs b ≤ n → m < 2 ^ 127 → n < 2 ^ 127 → r ≡ a *ℤ b

@@ -1,9 +1,9 @@
 -- The least start cost is never above the cost of a category that M6 allows, and its size.
 -- Cite from a crate above by `use Rattle.uc_model.proofs.StartCosts.{sigma-le-allowed, sigma-size}`.
 use Rattle.std.proofs.Common.{◌≡◌, ℕ, zero, suc, ◌-◌, ◌<◌, ◌≤◌, ◌≢◌, ⊎_elim, false, not, ◌&&◌, cond, sym, ap, subst, ◌∙◌, arith, ℤ, ◌≤ℤ◌, Bool, IsTrue, nat_lt, nat_le, ◌==◌, Option, Some, unsigned_abs}
-use Rattle.std.proofs.lemmas.Bool.{and_parts, and_from, or_cases, cases_Bool, cond_both, cond-true, cond-false, not-true, true≢false, leb-true, ltb-true, eqb-true, le-leb, lt-ltb}
+use Rattle.std.proofs.lemmas.Bool.{and_parts, and_from, or_cases, cases_Bool, cond_both, cond-true, cond-false, true≢false, leb-true, ltb-true, eqb-true, le-leb, lt-ltb}
 use Rattle.uc_model.specs.Sums.{least_below}
-use Rattle.uc_model.specs.Commitment.{Thermal, Commitment, was_on, starts, stops}
+use Rattle.uc_model.specs.Commitment.{Thermal, Commitment, starts, stops}
 use Rattle.uc_model.specs.StartCategory.{category_count, category_lag, category_cost, has_stop_within, is_barred, is_category_allowed, last_stop, stopped_within, may_cost_as, sigma}
 use Rattle.uc_model.specs.Limits.{IsLawfulThermal, MAX_COST}
 use Rattle.uc_model.proofs.Sizes.{abs_min}
@@ -29,10 +29,7 @@ last_stop-after unit on (suc t) k h s =
 
 -- a unit doesn't start and stop in one period
 pub not_start_and_stop : (unit : Thermal) (on : Commitment) (t : ℕ) → IsTrue (starts unit on t) → IsTrue (stops unit on t) → ⊥
-not_start_and_stop unit on t a b =
-    let started = and_parts (not (was_on unit on t)) (on t) a in
-    let stopped = and_parts (was_on unit on t) (not (on t)) b in
-    true≢false (sym stopped.0 ∙ not-true (was_on unit on t) started.0)
+not_start_and_stop unit on t a b = grind (arith, a, b)
 
 stopped_within-at : (last : Option ℕ) (l most t : ℕ) → last ≡ Some l → t - l ≤ most → IsTrue (stopped_within last most t)
 stopped_within-at last l most t e near = subst (λ o. IsTrue (stopped_within o most t)) (sym e) (le-leb (t - l) most near)
@@ -60,15 +57,7 @@ may_cost-allowed : (unit : Thermal) (on : Commitment) (s t : ℕ) → IsTrue (st
     (has_stop_within unit on (category_lag unit (suc s)) (category_lag unit (suc (suc s))) t)
     (not (is_barred unit.dt0 (category_lag unit (suc (suc s))) t)))
     → IsTrue (may_cost_as unit (last_stop unit on t) t s)
-may_cost-allowed unit on s t start h =
-    let lag = category_lag unit (suc (suc s)) in
-    let from = category_lag unit (suc s) in
-    ⊎_elim
-    (λ (reached : IsTrue (nat_le lag (suc t))).
-    cond-true _ _ _ reached
-    ∙ after_stop unit on from lag t start (leb-true _ _ reached) (sym (cond-true _ _ _ reached) ∙ h))
-    (λ (before : nat_le lag (suc t) ≡ false). cond-false _ _ _ before ∙ sym (cond-false _ _ _ before) ∙ h)
-    (cases_Bool (nat_le lag (suc t)))
+may_cost-allowed unit on s t start h = grind (arith, nat_le, cond-true, after_stop, leb-true, cond-false, cases_Bool, start, h)
 
 pub sigma-le-allowed : (unit : Thermal) (on : Commitment) (s t : ℕ) → IsTrue (starts unit on t) → IsTrue (is_category_allowed unit on s t)
     → sigma unit (last_stop unit on t) t ≤ℤ category_cost unit s
@@ -104,8 +93,4 @@ category_cost-size unit lawful zero h k = absurd (omega arith)
 category_cost-size unit lawful (suc s) h k = lawful.start_costs s (omega arith)
 
 pub sigma-size : (unit : Thermal) → IsLawfulThermal unit → (last : Option ℕ) (t : ℕ) → unsigned_abs (sigma unit last t) ≤ MAX_COST
-sigma-size unit lawful last t =
-    least_below-size (category_count unit - 1) (may_cost_as unit last t) (λ s. category_cost unit (suc s))
-    (category_cost unit (category_count unit)) MAX_COST
-    (category_cost-size unit lawful (category_count unit) lawful.categories.0 (omega arith))
-    (λ s l. category_cost-size unit lawful (suc s) (omega arith) (omega (arith, lawful.categories.0)))
+sigma-size unit lawful last t = grind (arith, least_below-size, category_cost-size, lawful)

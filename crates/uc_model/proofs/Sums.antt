@@ -3,7 +3,7 @@
 -- `(k : ℕ) → k < n → ..`, and the number of places first.
 use Rattle.std.proofs.Common.{◌≡◌, ℕ, zero, suc, ◌+◌, ◌<◌, ◌≢◌, ◌⊎◌, ⊎_elim, refl, sym, ap, subst, ◌∙◌, arith, ℤ, pos, ◌+ℤ◌, ◌-ℤ◌, ◌*ℤ◌, neg_ℤ, ◌≤ℤ◌}
 use Rattle.uc_model.specs.Sums.{sum_below}
-use Rattle.uc_model.proofs.Ring.{linear, add-zero, add-le-add, le_refl, mul-add, add-mul, mul-zero, zero-mul, suc-mul}
+use Rattle.uc_model.proofs.Ring.{linear, add-le-add, le_refl, mul-add, add-mul, mul-zero, zero-mul, suc-mul}
 
 -- a place below n + 1
 pub below_or_last : (n k : ℕ) → k < suc n → (k < n) ⊎ (k ≡ n)
@@ -63,9 +63,7 @@ term-le-sum_below (suc n) f k l h =
 -- ---- its parts
 -- cut at a place
 pub sum_below-split : (m n : ℕ) (f : ℕ → ℤ) → sum_below (m + n) f ≡ sum_below m f +ℤ sum_below n (λ k. f (m + k))
-sum_below-split m zero f =
-    let none : m + 0 ≡ m = omega arith in
-    ap (λ k. sum_below k f) none ∙ sym (add-zero (sum_below m f))
+sum_below-split m zero f = grind (arith, linear, zero)
 sum_below-split m (suc n) f =
     let next : m + suc n ≡ suc (m + n) = omega arith in
     let before = sum_below-split m n f in

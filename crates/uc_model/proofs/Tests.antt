@@ -73,8 +73,7 @@ step_right b x y = cond_both b (int_min x y) y (λ z. z ≤ℤ y) (λ e. int_min
 
 pub least_below-le-other : (n : ℕ) (test : ℕ → Bool) (f : ℕ → ℤ) (other : ℤ) → least_below n test f other ≤ℤ other
 least_below-le-other zero test f other = omega (arith, ints)
-least_below-le-other (suc n) test f other =
-    omega (arith, ints, step_right (test n) (f n) (least_below n test f other), least_below-le-other n test f other)
+least_below-le-other (suc n) test f other = grind (arith, ints, (least_below-le-other n test f other))
 
 pub least_below-le : (n : ℕ) (test : ℕ → Bool) (f : ℕ → ℤ) (other : ℤ) (k : ℕ) → k < n → IsTrue (test k) → least_below n test f other ≤ℤ f k
 least_below-le zero test f other k l h = absurd (omega arith)

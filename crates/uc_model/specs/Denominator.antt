@@ -2,7 +2,7 @@
 -- common denominator of fractions, as in Graham, Knuth and Patashnik, Concrete Mathematics, chapter 4.
 --
 -- Units and periods count from 0 here.
-use Rattle.std.specs.Prelude.{ℕ, ◌*◌, ◌%◌, ◌<◌, ◌≤◌, ◌==◌, Bool, ◌&&◌, ℤ, unsigned_abs, IsTrue}
+use Rattle.std.specs.Prelude.{ℕ, ◌*◌, ◌%◌, ◌≤◌, ◌==◌, Bool, ◌&&◌, ℤ, unsigned_abs, IsTrue}
 use Rattle.uc_model.specs.Sums.{all_below}
 use Rattle.uc_model.specs.Schedule.{Instance, Schedule, thermal_unit, thermal_count, renewable_count, p_at}
 

@@ -1,35 +1,23 @@
 -- No hours behind an output, and an hour behind none.
-use Rattle.std.proofs.Common.{◌≡◌, ℕ, true, false, true≢false, refl, sym, ap, ◌∙◌, arith, ℤ, pos, ◌+ℤ◌, ◌-ℤ◌, Option, Some, None, if◌then◌else◌}
+use Rattle.std.proofs.Common.{◌≡◌, ℕ, true, false, true≢false, sym, arith, ℤ, pos, ◌+ℤ◌, ◌-ℤ◌, Option, Some, None, if◌then◌else◌}
 use Rattle.std.specs.Ordering.{int_eq}
-use Rattle.std.proofs.lemmas.Bool.{cond-true}
-use Rattle.uc_model.proofs.Common.{linear, le_antisymm, eq-int_eq, int_eq-true}
+use Rattle.uc_model.proofs.Common.{linear}
 use Rattle.dual_model.specs.CostToGo.{total_of}
 use Rattle.dual_model.proofs.Optimum.{total_of-parts}
 use Rattle.step_functions.specs.Functions.{Steps, IsPlace, last_place, value_at}
 use Rattle.unit_runs.specs.CostThrough.{hour_after, least_between, reserve_cost}
 use Rattle.unit_runs.proofs.Costs.{least_between-reached}
 use Rattle.unit_exact.specs.inside.Problems.{Table, Thermal}
-use Rattle.hull_function.proofs.Represented.{output-of, through}
+use Rattle.hull_function.proofs.Represented.{output-of}
 use Rattle.hull_function.specs.Hours.{IsCostsOf}
 
 -- ---- no hours behind an output
 only : (f : Steps) (output p : ℤ) → f.first ≡ output → last_place f ≡ output → IsPlace f p → p ≡ output
-only f output p first last place =
-    let low = place.low in
-    let high = place.high in
-    le_antisymm p output (omega (arith, linear, last, high)) (omega (arith, linear, first, low))
+only f output p first last place = grind (arith, linear, last, place)
 
 pub begun-costs : (f : Steps) (output : ℤ) → f.first ≡ output → last_place f ≡ output → value_at f output ≡ pos 0
     → IsCostsOf true f (λ p. if int_eq p output then Some (pos 0) else None)
-begun-costs f output first last value = record {
-  inside = λ live p place.
-      let here = only f output p first last place in
-      cond-true (int_eq p output) (Some (pos 0)) None (eq-int_eq p output here) ∙ ap Some (sym value ∙ ap (value_at f) (sym here));
-  outside = λ p v e.
-      let found = through (int_eq p output) (Some (pos 0)) v e in
-      let here = int_eq-true p output found.0 in
-      (refl, record { low = omega (arith, linear, first, here); high = omega (arith, linear, last, here) });
-}
+begun-costs f output first last value = grind (arith, linear, last, value)
 
 -- ---- hours behind none are none
 pub none-after : (f g : Steps) (before : ℤ → Option ℤ) (table : Table) (unit : Thermal) (t : ℕ) (cap : ℤ) → IsCostsOf false f before

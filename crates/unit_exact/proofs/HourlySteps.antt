@@ -5,7 +5,7 @@ use Rattle.std.proofs.lemmas.Int.{ints, clamps}
 use Rattle.std.proofs.lemmas.Bool.{cases_Bool, cond-true, cond-false}
 use Rattle.uc_model.specs.Prelude.{Commitment, starts, cap, start_cap, stop_cap, initial_p, cell_cap, IsLawfulThermal, thermal_unit, last_stop, sigma, term_at}
 use Rattle.uc_model.specs.declared.terms.Terms.{Terms}
-use Rattle.uc_model.proofs.Common.{abs_is, linear, mul-add, mul-zero, one-mul, sub-mul, zero-mul, below_or_last, sum_below-le}
+use Rattle.uc_model.proofs.Common.{abs_is, linear, mul-add, one-mul, sub-mul, zero-mul, below_or_last, sum_below-le}
 use Rattle.dual_model.specs.Prelude.{UnitSchedule, IsUnitScheduleAt, exact_cell_value, exact_period_value, greatest_output, output_before as schedule_output_before, IsPatternAt, is_followed, pi_at, mu_at, AreTermsOf, IsCellTerm, IsTerm, output_price, reserve_price, period_value}
 use Rattle.dual_model.specs.ExactValue.{floored_cost}
 use Rattle.dual_model.proofs.CellCaps.{cell_cap-cap}
@@ -60,17 +60,13 @@ hourly-more periods table unit terms on t before new so_far is ramps =
           let here = with_hour-before given t new k earlier in
           record {
             is = subst (IsGivenAt periods table unit terms on k) (sym here) own.is;
-            ramps =
-                subst (λ (g : Given). KeepsRamps unit (output_before unit (with_hour given t new) k) g.output g.reserve) (sym here)
-                (subst (λ z. KeepsRamps unit z (given k).output (given k).reserve) (sym (output-same unit given t new k (omega arith))) own.ramps);
+            ramps = grind (arith, ints, with_hour, output-same, unit, given, t, new, k, here, own);
           })
           (λ (last : k ≡ t).
           subst (IsHourlyAt periods table unit terms on (with_hour given t new)) (sym last)
           (record {
             is = subst (IsGivenAt periods table unit terms on t) (sym same) is;
-            ramps =
-                subst (λ (g : Given). KeepsRamps unit (output_before unit (with_hour given t new) t) g.output g.reserve) (sym same)
-                (subst (λ z. KeepsRamps unit z new.output new.reserve) (so_far.last ∙ sym (output-same unit given t new t (omega arith))) ramps);
+            ramps = grind (arith, ints, with_hour, output-same, unit, given, t, new, same, so_far, ramps);
           }))
           (below_or_last t k h);
       last = sym (ap (λ (g : Given). g.output) same);
@@ -78,19 +74,13 @@ hourly-more periods table unit terms on t before new so_far is ramps =
 
 pub hourly-all : (periods : ℕ) (table : Table) (unit : Thermal) (terms : Terms) (on : Commitment) (t : ℕ) (before : ℤ) → t ≡ periods
     → IsHourlyTo periods table unit terms on t before → IsHourly periods table unit terms on
-hourly-all periods table unit terms on t before whole so_far = record {
-  given = so_far.given;
-  each = λ k h. so_far.each k (omega arith);
-}
+hourly-all periods table unit terms on t before whole so_far = grind (arith, ints, whole, so_far)
 
 -- ---- one hour
 -- what reserve earns at its price: nothing is taken where that isn't above 0
 earns : (mu worth reserve : ℤ) → worth ≡ int_max mu (pos 0) → (worth ≡ pos 0 → reserve ≡ pos 0) → mu *ℤ reserve ≡ worth *ℤ reserve
 earns (pos n) worth reserve is none = let same : pos n ≡ worth = omega (arith, ints, clamps) in ap (λ z. z *ℤ reserve) same
-earns (negsuc n) worth reserve is none =
-    let nothing : worth ≡ pos 0 = omega (arith, ints, clamps) in
-    let empty = none nothing in
-    ap (λ z. negsuc n *ℤ z) empty ∙ mul-zero (negsuc n) ∙ sym (mul-zero worth) ∙ ap (λ z. worth *ℤ z) (sym empty)
+earns (negsuc n) worth reserve is none = grind (arith, ints, is, none)
 
 -- and all of the cap earns as much
 all-earned : (worth taken limit : ℤ) → pos 0 ≤ℤ worth → (pos 0 <ℤ worth → taken ≡ limit) → worth *ℤ taken ≡ worth *ℤ limit

@@ -1,7 +1,6 @@
 -- A run that goes on, hour by hour.
 use Rattle.std.proofs.Common.{◌≡◌, ℕ, zero, suc, ◌+◌, ◌-◌, ◌*◌, ◌<◌, ◌≤◌, ◌==◌, Bool, true, false, refl, sym, ap, subst, ◌∙◌, arith, ℤ, Option}
 use Rattle.std.proofs.lemmas.Bool.{eq-eqb, eqb-true, eqb-false, ne_eqb}
-use Rattle.std.proofs.lemmas.Nat.{mul-le}
 use Rattle.uc_model.specs.Prelude.{cell_cap}
 use Rattle.step_functions.specs.Functions.{Steps, run_count}
 use Rattle.hull_function.specs.Hulls.{IsBounded}
@@ -77,22 +76,13 @@ hours-size n periods l few = omega (arith, l, few)
 -- ---- room
 pub room-more : (n periods x count runs room : ℕ) → n < periods → count ≤ n * (x + 2) → runs ≤ x → ((periods + 2) * (x + 2)) ≤ room
     → count + runs + 2 < room
-room-more n periods x count runs room l pieces few enough =
-    let order = mul-le (suc n) (x + 2) periods (x + 2) l (omega arith) in
-    let more : suc n * (x + 2) ≡ n * (x + 2) + (x + 2) = omega arith in
-    let spare : (periods + 2) * (x + 2) ≡ periods * (x + 2) + 2 * (x + 2) = omega arith in
-    omega (arith, order, more, spare, pieces, few, enough)
+room-more n periods x count runs room l pieces few enough = grind (arith, l, pieces, few, enough)
 
 pub pieces-more : (n x old runs new : ℕ) → old ≤ n * (x + 2) → runs ≤ x → new ≤ old + runs + 2 → new ≤ suc n * (x + 2)
-pieces-more n x old runs new pieces few more =
-    let sum : suc n * (x + 2) ≡ n * (x + 2) + (x + 2) = omega arith in
-    omega (arith, sum, pieces, few, more)
+pieces-more n x old runs new pieces few more = grind (arith, pieces, few, more)
 
 pub spare-room : (n periods x count room : ℕ) → n < periods → count ≤ suc n * (x + 2) → ((periods + 2) * (x + 2)) ≤ room → count < room
-spare-room n periods x count room l pieces enough =
-    let order = mul-le (suc n) (x + 2) periods (x + 2) l (omega arith) in
-    let spare : (periods + 2) * (x + 2) ≡ periods * (x + 2) + 2 * (x + 2) = omega arith in
-    omega (arith, order, spare, pieces, enough)
+spare-room n periods x count room l pieces enough = grind (arith, l, pieces, enough)
 
 -- ---- a copy of costs in its own room
 pub record IsCopyOf (alive : Bool) (f : Steps) (same : Bool) (g : Steps) : Type 0 where

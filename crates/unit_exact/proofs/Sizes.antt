@@ -1,6 +1,5 @@
 -- How large the costs of ways are.
-use Rattle.std.proofs.Common.{ℕ, suc, ◌*◌, ◌≤◌, arith, ℤ, unsigned_abs, Option, Some, None, IfSome}
-use Rattle.uc_model.proofs.Common.{abs_add}
+use Rattle.std.proofs.Common.{ℕ, suc, ◌≤◌, arith, ℤ, unsigned_abs, Option, Some, None, IfSome}
 use Rattle.dual_model.specs.CostToGo.{total_of}
 use Rattle.unit_exact.specs.inside.Choices.{Choice, choice_cost}
 use Rattle.unit_exact.specs.inside.Problems.{MAX_SWITCH}
@@ -14,9 +13,7 @@ some-map P Q (Some x) f h = f x h
 pub total-size : (cost : ℤ) (next : Option Choice) (n : ℕ) → unsigned_abs cost ≤ MAX_SWITCH
     → IfSome next (λ choice. IsWithinSwitches n choice.cost) → IfSome (total_of (Some cost) (choice_cost next)) (IsWithinSwitches (suc n))
 total-size cost None n small h = tt
-total-size cost (Some choice) n small h =
-    let sum = abs_add cost choice.cost MAX_SWITCH (MAX_SWITCH * suc n) small h in
-    omega (arith, sum)
+total-size cost (Some choice) n small h = grind (arith, small, h)
 
 -- a switch alone
 pub some-size : (n : ℕ) (o : Option ℤ) → IfSome o (λ v. unsigned_abs v ≤ MAX_SWITCH) → IfSome o (IsWithinSwitches n)

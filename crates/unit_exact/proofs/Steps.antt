@@ -1,5 +1,5 @@
 -- The least way by its first switch: what is known of the earlier ones, the next one, and those behind it.
-use Rattle.std.proofs.Common.{◌≡◌, ℕ, suc, ◌-◌, ◌<◌, ⊎_elim, Bool, false, not, ◌==◌, refl, sym, ap, ◌∙◌, arith, ℤ, ◌≤ℤ◌, IsTrue, Option, Some, None, if◌then◌else◌}
+use Rattle.std.proofs.Common.{◌≡◌, ℕ, suc, ◌-◌, ◌<◌, Bool, false, not, ◌==◌, sym, ap, ◌∙◌, arith, ℤ, ◌≤ℤ◌, IsTrue, Option, Some, None, if◌then◌else◌}
 use Rattle.std.specs.Int.{int_min}
 use Rattle.std.proofs.lemmas.Int.{ints}
 use Rattle.std.proofs.lemmas.Bool.{cond-true, cond-false, eq-eqb, ne_eqb}
@@ -7,7 +7,7 @@ use Rattle.dual_model.specs.CostToGo.{lesser_of, total_of}
 use Rattle.dual_model.proofs.Costs.{lesser-assoc, lesser-none}
 use Rattle.unit_runs.specs.RunsToGo.{Fix, may_stay, runs_to_go, switch_cost}
 use Rattle.unit_runs.proofs.Changes.{by_change}
-use Rattle.unit_exact.specs.inside.Choices.{IsCostBelow, IsReached}
+use Rattle.unit_exact.specs.inside.Choices.{IsCostBelow}
 use Rattle.unit_exact.specs.inside.Problems.{Table, Thermal}
 use Rattle.unit_exact.specs.inside.Switches.{switch_total}
 
@@ -17,22 +17,10 @@ min_first a b h = grind (arith, ints)
 
 -- what is found below what is known is as good as the cost
 pub lesser-below : (known cost found : Option ℤ) → IsCostBelow known cost found → lesser_of known found ≡ lesser_of known cost
-lesser-below known cost found is = ⊎_elim
-    (λ (same : found ≡ cost). ap (lesser_of known) same)
-    (λ (over : (found ≡ None) × IsReached known cost). ap (lesser_of known) over.0 ∙ lesser-none known ∙ sym (no_less cost over.1))
-    is
-  where
-    no_less : (o : Option ℤ) → IsReached known o → lesser_of known o ≡ known
-    no_less None reached = lesser-none known
-    no_less (Some v) reached =
-        let limit = reached v refl in
-        ap (λ k. lesser_of k (Some v)) limit.1 ∙ ap Some (min_first limit.0 v limit.2) ∙ sym limit.1
+lesser-below known cost found is = grind (arith, ints, is)
 
 pub some-below : (known cost found : Option ℤ) (v : ℤ) → IsCostBelow known cost found → found ≡ Some v → cost ≡ Some v
-some-below known cost found v is e = ⊎_elim
-    (λ (same : found ≡ cost). sym same ∙ e)
-    (λ (over : (found ≡ None) × IsReached known cost). absurd (let none = over.0 in cc))
-    is
+some-below known cost found v is e = grind (arith, ints, is, e)
 
 -- with one more way known
 pub next-cost : (known total rest whole new : Option ℤ) → lesser_of known (lesser_of total rest) ≡ whole → new ≡ lesser_of known total

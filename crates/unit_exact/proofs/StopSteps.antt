@@ -39,11 +39,7 @@ least-inside low high output from to =
       after = from;
       before = to;
       reached = sym value;
-      least = λ p place below above.
-          let begins = place.low in
-          let ends = place.high in
-          let same : p ≡ output = le_antisymm p output (omega (arith, linear, ends)) (omega (arith, linear, begins)) in
-          le_of_eq (pos 0) (value_at f p) (sym (ap (value_at f) same ∙ value));
+      least = λ p place below above. grind (arith, ints, le_antisymm, le_of_eq, place, p, output, f, value);
     } in
     least-is f (λ p. if int_eq p output then Some (pos 0) else None) low high (pos 0) (begun-costs f output refl last value) least
 

@@ -1,10 +1,10 @@
 -- A pattern that attains the least value by a unit's terms attains the unit's value at the table that the terms are of.
-use Rattle.std.proofs.Common.{◌≡◌, ℕ, sym, ap, subst, ◌∙◌, ℤ, Some}
+use Rattle.std.proofs.Common.{arith, ◌≡◌, ℕ, sym, subst, ◌∙◌, ℤ, Some}
 use Rattle.uc_model.specs.Prelude.{Commitment, thermal_unit, period_count}
 use Rattle.uc_model.specs.declared.instance.Thermal.{Thermal}
 use Rattle.uc_model.specs.declared.instance.Instance.{Instance}
 use Rattle.uc_model.specs.declared.terms.Terms.{Terms}
-use Rattle.dual_model.specs.Prelude.{IsFixOf, IsBestPattern, IsPatternValue, IsUnitValue, IsPattern, IsLeastValue, pattern_value, AreTermsOf}
+use Rattle.dual_model.specs.Prelude.{IsFixOf, IsBestPattern, IsUnitValue, IsPattern, IsLeastValue, pattern_value, AreTermsOf}
 use Rattle.dual_model.specs.declared.node.Fix.{Fix}
 use Rattle.dual_model.specs.declared.node.Node.{Node}
 use Rattle.dual_model.specs.declared.table.Table.{Table}
@@ -17,9 +17,7 @@ pub best-of : (instance : Instance) (node : Node) (table : Table) (g : ℕ) (uni
 best-of instance node table g unit terms fix v on same are decided least pattern attained =
     record {
       pattern = record { allowed = own.allowed; agrees = decided.same on ∙ own.agrees };
-      value = subst (λ z. IsPatternValue instance table g on z)
-          (sym (attained ∙ ap (λ u. pattern_value terms u on) (sym same)))
-          (to_table instance table g terms are on own.allowed);
+      value = grind (arith, to_table, instance, table, g, on, attained, terms, same, are);
       least = whole.best.least;
     }
   where

@@ -1,5 +1,5 @@
 -- A pattern whose way is the least one is allowed and as is decided, and its value is the way's cost.
-use Rattle.std.proofs.Common.{◌≡◌, ℕ, ◌≤◌, false, sym, subst, ◌∙◌, arith, ℤ, Option, Some, None, MatchOption, IfSome, IfNone, unsigned_abs}
+use Rattle.std.proofs.Common.{◌≡◌, ℕ, ◌≤◌, false, subst, arith, ℤ, Option, Some, None, MatchOption, IfSome, IfNone, unsigned_abs}
 use Rattle.uc_model.specs.Prelude.{IsLawfulThermal, commitment_of, thermal_unit, period_count}
 use Rattle.uc_model.specs.declared.instance.Instance.{Instance}
 use Rattle.dual_model.specs.declared.node.Node.{Node}
@@ -30,9 +30,7 @@ same-some a b e = cc
 
 pub way-value : (terms : Terms) (unit : Thermal) (fix : Fix) (cost : ℤ) (pattern : Pattern)
     → IsWay terms unit fix cost pattern → cost ≡ pattern_value terms unit (commitment_of pattern)
-way-value terms unit fix cost pattern is =
-    same-some cost (pattern_value terms unit (commitment_of pattern))
-    (sym is.attained ∙ whole_way-from terms unit fix (commitment_of pattern) (all_right terms unit fix cost pattern is))
+way-value terms unit fix cost pattern is = grind (arith, same-some, whole_way-from, all_right, is)
 
 -- ---- the answer
 -- the cost of the least way, with a pattern whose way it is; or that there is none

@@ -1,10 +1,10 @@
 -- What the last stop adds to the start categories: those whose lags the gap since then lies between. So a start costs the least
 -- of what it costs without a stop in the horizon and of these, and after a longer gap than any lag nothing is added.
-use Rattle.std.proofs.Common.{◌≡◌, ℕ, zero, suc, ◌+◌, ◌-◌, ◌<◌, ◌≤◌, ⊎_elim, Bool, true, false, not, ◌&&◌, ◌||◌, cond, refl, sym, ap, ◌∙◌, arith, ℤ, Some, None, nat_lt, nat_le}
+use Rattle.std.proofs.Common.{◌≡◌, ℕ, zero, suc, ◌+◌, ◌-◌, ◌<◌, ◌≤◌, Bool, true, false, ◌&&◌, ◌||◌, cond, refl, sym, ap, ◌∙◌, arith, ℤ, Some, None, nat_lt, nat_le}
 use Rattle.std.specs.Int.{int_min}
 use Rattle.std.proofs.lemmas.Int.{ints}
-use Rattle.std.proofs.lemmas.Bool.{cases_lt, le-leb, lt-leb, lt-ltb, le-ltb, ltb-true}
-use Rattle.uc_model.specs.Prelude.{least_below, category_cost, category_count, category_lag, is_barred, may_cost_as, sigma}
+use Rattle.std.proofs.lemmas.Bool.{lt-leb, ltb-true}
+use Rattle.uc_model.specs.Prelude.{least_below, category_cost, category_count, category_lag, may_cost_as, sigma}
 use Rattle.uc_model.specs.declared.instance.Thermal.{Thermal}
 use Rattle.dual_model.specs.Prelude.{stop_since}
 use Rattle.unit_path.specs.inside.StartCosts.{is_within_lags, row_of}
@@ -36,8 +36,7 @@ chosen-either false false x a l by_q first e = e
 least-either : (n : ℕ) (p q : ℕ → Bool) (f : ℕ → ℤ) (other : ℤ)
     → least_below n (λ k. p k || q k) f other ≡ least_below n q f (least_below n p f other)
 least-either zero p q f other = refl
-least-either (suc n) p q f other =
-    chosen-either (p n) (q n) (f n) _ (least_below n p f other) (least_below n q f) (λ y z. least-first n q f y z) (least-either n p q f other)
+least-either (suc n) p q f other = grind (arith, ints, chosen-either, least-first, (least-either n p q f other))
 
 -- ---- one category
 -- a stop adds it where it is reached, its lags are in order, and the gap is below the next lag
@@ -57,11 +56,7 @@ not_added true false near free e = refl
 not_added false ordered near free e = refl
 
 near-below : (gap lag t l : ℕ) → t - l ≡ gap → 1 ≤ lag → nat_le (t - l) (lag - 1) ≡ nat_lt gap lag
-near-below gap lag t l e some =
-    ⊎_elim
-    (λ (h : gap < lag). le-leb (t - l) (lag - 1) (omega arith) ∙ sym (lt-ltb gap lag h))
-    (λ (h : lag ≤ gap). lt-leb (t - l) (lag - 1) (omega arith) ∙ sym (le-ltb gap lag h))
-    (cases_lt gap lag)
+near-below gap lag t l e some = grind (arith, ints, e, some)
 
 lag-next : (unit : Thermal) (s : ℕ) → category_lag unit (suc (suc s)) ≡ (row_of unit.startup (suc s)).lag
 lag-next unit s = let e : suc (suc s) - 1 ≡ suc s = omega arith in ap (λ k. (row_of unit.startup k).lag) e
@@ -71,12 +66,7 @@ lag-own unit s = let e : suc s - 1 ≡ s = omega arith in ap (λ k. (row_of unit
 
 may_cost-gap : (unit : Thermal) (gap t s : ℕ) → gap ≤ t
     → may_cost_as unit (Some (t - gap)) t s ≡ (may_cost_as unit None t s || is_within_lags unit.startup s gap t)
-may_cost-gap unit gap t s h =
-    let lag = category_lag unit (suc (suc s)) in
-    let own = category_lag unit (suc s) in
-    added (nat_le lag (suc t)) (nat_lt own lag) (nat_le (t - (t - gap)) (lag - 1)) (nat_lt gap lag) (not (is_barred unit.dt0 lag t))
-    (λ e. let less : own < lag = ltb-true own lag e in near-below gap lag t (t - gap) (omega arith) (omega arith))
-    ∙ (λ i. may_cost_as unit None t s || ((nat_lt gap (lag-next unit s i) && nat_le (lag-next unit s i) (suc t)) && nat_lt (lag-own unit s i) (lag-next unit s i)))
+may_cost-gap unit gap t s h = grind (arith, ints, h)
 
 -- ---- all of them
 pub sigma-gap : (unit : Thermal) (gap t : ℕ) → gap ≤ t → sigma unit (Some (t - gap)) t
@@ -89,15 +79,7 @@ sigma-gap unit gap t h =
 
 pub sigma-cold : (unit : Thermal) (l t longest : ℕ) → ((s : ℕ) → s < category_count unit → (row_of unit.startup s).lag ≤ longest) → l + longest ≤ t
     → sigma unit (Some l) t ≡ sigma unit None t
-sigma-cold unit l t longest most h =
-    least-test (category_count unit - 1) (may_cost_as unit (Some l) t) (may_cost_as unit None t)
-    (λ s. category_cost unit (suc s)) (category_cost unit (category_count unit)) (λ s k.
-    not_added (nat_le (category_lag unit (suc (suc s))) (suc t)) (nat_lt (category_lag unit (suc s)) (category_lag unit (suc (suc s))))
-    (nat_le (t - l) (category_lag unit (suc (suc s)) - 1)) (not (is_barred unit.dt0 (category_lag unit (suc (suc s))) t)) (λ e.
-    let less : category_lag unit (suc s) < category_lag unit (suc (suc s)) = ltb-true _ _ e in
-    let here = lag-next unit s in
-    let long = most (suc s) (omega arith) in
-    lt-leb (t - l) (category_lag unit (suc (suc s)) - 1) (omega arith)))
+sigma-cold unit l t longest most h = grind (arith, ints, least-test, not_added, nat_le, ltb-true, lag-next, lt-leb, most, h)
 
 -- the same by the time since which the unit is off
 pub sigma-cold_since : (unit : Thermal) (since t longest : ℕ) → 0 < since → ((s : ℕ) → s < category_count unit → (row_of unit.startup s).lag ≤ longest)

@@ -1,5 +1,5 @@
 -- One period of the least cost of going on, with the period in place of the number of periods left.
-use Rattle.std.proofs.Common.{◌≡◌, ℕ, suc, ◌-◌, ◌<◌, ◌≤◌, Bool, true, false, sym, ap, ◌∙◌, arith, ℤ, Option}
+use Rattle.std.proofs.Common.{◌≡◌, ℕ, suc, ◌-◌, ◌<◌, ◌≤◌, Bool, true, false, arith, ℤ, Option}
 use Rattle.std.proofs.lemmas.Bool.{cond-true, cond-false, eq-eqb, ne_eqb}
 use Rattle.uc_model.specs.Prelude.{IsLawfulThermal, period_count}
 use Rattle.dual_model.specs.Prelude.{AreSizedTerms, move, cost_to_go, end_cost, IsWithin, MAX_COST_TO_GO}
@@ -15,15 +15,11 @@ pub to_go-step : (terms : Terms) (unit : Thermal) (fix : Fix) (t : ℕ) → t < 
     → to_go terms unit fix t was since
     ≡ lesser_of (total_of (move terms unit fix t was since true) (to_go terms unit fix (suc t) true (since_after was since true t)))
     (total_of (move terms unit fix t was since false) (to_go terms unit fix (suc t) false (since_after was since false t)))
-to_go-step terms unit fix t h was since =
-    let left : period_count terms - t ≡ suc (period_count terms - suc t) = omega arith in
-    ap (λ n. cost_to_go terms unit fix n t was since) left
+to_go-step terms unit fix t h was since = grind (arith, h)
 
 pub to_go-end : (terms : Terms) (unit : Thermal) (fix : Fix) (t : ℕ) → t ≡ period_count terms → (was : Bool) (since : ℕ)
     → to_go terms unit fix t was since ≡ end_cost terms unit t was since
-to_go-end terms unit fix t h was since =
-    let left : period_count terms - t ≡ 0 = omega arith in
-    ap (λ n. cost_to_go terms unit fix n t was since) left
+to_go-end terms unit fix t h was since = grind (arith, h)
 
 pub to_go-fits : (unit : Thermal) (terms : Terms) (fix : Fix) → IsLawfulThermal unit → AreSizedTerms unit terms → (t : ℕ) → t ≤ period_count terms
     → (was : Bool) (since : ℕ) → IsWithin MAX_COST_TO_GO (to_go terms unit fix t was since)
@@ -49,14 +45,8 @@ start_total-end terms unit fix since t h = cond-true _ _ _ (eq-eqb t (period_cou
 -- a unit that is on stays on or stops, and one that is off starts or rests
 pub on-step : (terms : Terms) (unit : Thermal) (fix : Fix) (since t : ℕ) → t < period_count terms → to_go terms unit fix t true since
     ≡ lesser_of (total_of (move terms unit fix t true since true) (to_go terms unit fix (suc t) true since)) (stop_cost terms unit fix since t)
-on-step terms unit fix since t h =
-    to_go-step terms unit fix t h true since
-    ∙ ap (lesser_of (total_of (move terms unit fix t true since true) (to_go terms unit fix (suc t) true since)))
-    (sym (stop_cost-at terms unit fix since t h))
+on-step terms unit fix since t h = grind (arith, h)
 
 pub off-step : (terms : Terms) (unit : Thermal) (fix : Fix) (since t : ℕ) → t < period_count terms → to_go terms unit fix t false since
     ≡ lesser_of (start_total terms unit fix since t) (total_of (move terms unit fix t false since false) (to_go terms unit fix (suc t) false since))
-off-step terms unit fix since t h =
-    to_go-step terms unit fix t h false since
-    ∙ ap (λ x. lesser_of x (total_of (move terms unit fix t false since false) (to_go terms unit fix (suc t) false since)))
-    (sym (start_total-at terms unit fix since t h))
+off-step terms unit fix since t h = grind (arith, h)

@@ -2,11 +2,10 @@
 use Rattle.std.proofs.Common.{◌≡◌, ℕ, suc, ◌+◌, ◌-◌, ◌<◌, ◌≤◌, ◌⊎◌, ⊎_elim, true, false, refl, sym, ap, subst, ◌∙◌, arith, ℤ, pos, ◌*ℤ◌, Option, Some, None, IfSome, unwrap_or}
 use Rattle.std.proofs.lemmas.Bool.{cases_Bool}
 use Rattle.uc_model.specs.Prelude.{IsLawfulThermal, sigma, period_count, may_start}
-use Rattle.dual_model.specs.Prelude.{AreSizedTerms, may_be_off, move, stop_since, IsWithin, MAX_COST_TO_GO}
+use Rattle.dual_model.specs.Prelude.{AreSizedTerms, may_be_off, stop_since}
 use Rattle.dual_model.specs.CostToGo.{lesser_of, total_of}
 use Rattle.unit_path.specs.inside.Choices.{Fix, Terms, Thermal, Choice, choice_cost, ends_at, rests, start_total, IsLeastStart, IsOneOf, IsStart}
 use Rattle.unit_path.specs.inside.Hours.{IsCold, IsColdStart, IsStartIn}
-use Rattle.dual_model.proofs.BestChoices.{some-of}
 use Rattle.dual_model.proofs.Costs.{lesser-assoc, lesser-comm, total-zero}
 use Rattle.dual_model.proofs.Following.{lasting-split}
 use Rattle.unit_path.proofs.Going.{start_total-end, to_go, to_go-end, to_go-fits}
@@ -19,13 +18,7 @@ pub start-at : (terms : Terms) (unit : Thermal) (fix : Fix) (since t : ℕ) (at 
     → unwrap_or at (period_count terms) ≤ period_count terms → rests terms unit fix since t (unwrap_or at (period_count terms) - t) ≡ Some (pos 0)
     → start_total terms unit fix since (unwrap_or at (period_count terms)) ≡ Some cost
     → IsStart terms unit fix since t (record { cost = cost; at = at })
-start-at terms unit fix since t at cost low high free is = record {
-  later = low;
-  within = high;
-  attained =
-      let total = start_total terms unit fix since (unwrap_or at (period_count terms)) in
-      ap (λ x. total_of x total) free ∙ total-zero total ∙ is;
-}
+start-at terms unit fix since t at cost low high free is = grind (arith, low, high, free, is)
 
 pub start-further : (terms : Terms) (unit : Thermal) (fix : Fix) (since t from : ℕ) (choice : Option Choice) → t ≤ from
     → rests terms unit fix since t (from - t) ≡ Some (pos 0) → IfSome choice (IsStart terms unit fix since from) → IfSome choice (IsStart terms unit fix since t)
@@ -38,12 +31,7 @@ start-further terms unit fix since t from (Some choice) h free start =
     record {
       later = omega (arith, later);
       within = start.within;
-      attained =
-          ap (λ x. total_of x (start_total terms unit fix since to))
-          (ap (rests terms unit fix since t) count ∙ lasting-split (move terms unit fix) false since t (from - t) (to - from)
-          ∙ (λ i. total_of (free i) (rests terms unit fix since (at i) (to - from)))
-          ∙ total-zero (rests terms unit fix since from (to - from)))
-          ∙ start.attained;
+      attained = grind (arith, lasting-split, total-zero, terms, unit, fix, since, to, t, count, from, free, at, start);
     }
 
 -- a choice that is one of two, or a new one
@@ -51,18 +39,13 @@ pub start-of_one : (terms : Terms) (unit : Thermal) (fix : Fix) (since t : ℕ) 
     → t ≤ unwrap_or at (period_count terms) → unwrap_or at (period_count terms) ≤ period_count terms
     → rests terms unit fix since t (unwrap_or at (period_count terms) - t) ≡ Some (pos 0) → cost ≡ start_total terms unit fix since (unwrap_or at (period_count terms))
     → IfSome known (IsStart terms unit fix since t) → IsOneOf known cost at result → IfSome result (IsStart terms unit fix since t)
-start-of_one terms unit fix since t at known result cost low high free is start one =
-    some-of (IsStart terms unit fix since t) known result cost at start (λ v new. start-at terms unit fix since t at v low high free (sym is ∙ new)) one
+start-of_one terms unit fix since t at known result cost low high free is start one = grind (arith, low, high, free, is, start, one)
 
 -- the least way by its cost and a start that attains it
 pub least-start : (terms : Terms) (unit : Thermal) (fix : Fix) → IsLawfulThermal unit → AreSizedTerms unit terms
     → (since t : ℕ) (choice : Option Choice) → t ≤ period_count terms → choice_cost choice ≡ to_go terms unit fix t false since
     → IfSome choice (IsStart terms unit fix since t) → IsLeastStart terms unit fix since t choice
-least-start terms unit fix lawful sized since t choice h cost start = record {
-  cost = cost;
-  size = subst (IsWithin MAX_COST_TO_GO) (sym cost) (to_go-fits unit terms fix lawful sized t h false since);
-  start = start;
-}
+least-start terms unit fix lawful sized since t choice h cost start = grind (arith, to_go-fits, lawful, sized, h, cost, start)
 
 -- ---- one start more
 -- the least way from a rest in period t, from that of one period later
@@ -71,12 +54,7 @@ pub warmer : (terms : Terms) (unit : Thermal) (fix : Fix) (since t : ℕ) (best 
     → lesser_of (choice_cost best) (to_go terms unit fix t false since) ≡ whole
     → choice_cost result ≡ lesser_of (choice_cost best) cost
     → lesser_of (choice_cost result) (to_go terms unit fix (suc t) false since) ≡ whole
-warmer terms unit fix since t best result cost whole h may is so_far chosen =
-    ap (λ x. lesser_of x (to_go terms unit fix (suc t) false since)) chosen
-    ∙ lesser-assoc (choice_cost best) cost (to_go terms unit fix (suc t) false since)
-    ∙ ap (lesser_of (choice_cost best))
-    (ap (λ x. lesser_of x (to_go terms unit fix (suc t) false since)) is ∙ sym (off-free terms unit fix since t h may))
-    ∙ so_far
+warmer terms unit fix since t best result cost whole h may is so_far chosen = grind (arith, to_go, lesser-assoc, off-free, h, may, is, so_far, chosen)
 
 -- the best start in the periods from `from` to the one before t, with the way on from a rest to t
 pub record IsBestTo (terms : Terms) (unit : Thermal) (fix : Fix) (since from t : ℕ) (best : Option Choice) : Type 0 where

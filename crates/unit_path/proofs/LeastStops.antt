@@ -41,12 +41,7 @@ stop-further terms unit fix since t from spent choice h is stop =
     record {
       later = omega (arith, later);
       within = stop.within;
-      attained =
-          ap (λ x. total_of x (stop_cost terms unit fix since to))
-          (ap (stays terms unit fix since t) count ∙ lasting-split (move terms unit fix) true since t (from - t) (to - from)
-          ∙ (λ i. total_of (sym is i) (stays terms unit fix since (at i) (to - from))))
-          ∙ total-assoc (Some spent) (stays terms unit fix since from (to - from)) (stop_cost terms unit fix since to)
-          ∙ ap (total_of (Some spent)) stop.attained;
+      attained = grind (arith, lasting-split, total-assoc, terms, unit, fix, since, to, t, count, from, is, at, spent, stop);
     }
 
 longer-stop : (terms : Terms) (unit : Thermal) (fix : Fix) (since t from : ℕ) (spent : ℤ) (choice : Option Choice) → t ≤ from
@@ -66,13 +61,7 @@ pub least-at_once : (terms : Terms) (unit : Thermal) (fix : Fix) → IsLawfulThe
     → (since : ℕ) (known : Option Choice) → since ≤ period_count terms → IsStopAtOnce terms unit fix since since known
     → to_go terms unit fix since true since ≡ stop_cost terms unit fix since since
     → IsLeastStop terms unit fix since since known
-least-at_once terms unit fix lawful sized since known h at_once e =
-    let cost : choice_cost known ≡ to_go terms unit fix since true since = at_once.cost ∙ sym e in
-    record {
-      cost = cost;
-      size = subst (IsWithin MAX_COST_TO_GO) (sym cost) (to_go-fits unit terms fix lawful sized since h true since);
-      stop = at_once-stop terms unit fix since known h at_once.cost at_once.at;
-    }
+least-at_once terms unit fix lawful sized since known h at_once e = grind (arith, to_go, to_go-fits, at_once-stop, lawful, sized, h, at_once, e)
 
 pub least-later : (terms : Terms) (unit : Thermal) (fix : Fix) → IsLawfulThermal unit → AreSizedTerms unit terms
     → (since from : ℕ) (known : Option Choice) (spent : ℤ) (later result : Option Choice) → since < from → from ≤ period_count terms
@@ -161,11 +150,7 @@ least-onward terms unit fix lawful sized t stay next later stop result exit with
 pub at_once-from : (terms : Terms) (unit : Thermal) (fix : Fix) (since : ℕ) (known : Option Choice) (cost : Option ℤ)
     → cost ≡ stop_cost terms unit fix since since → choice_cost known ≡ cost → IsOneOf None cost (Some since) known
     → IsStopAtOnce terms unit fix since since known
-at_once-from terms unit fix since known cost is chosen one = record {
-  cost = chosen ∙ is;
-  at =
-      some-of (λ choice. choice.at ≡ Some since) None known cost (Some since) tt (λ v new. refl) one;
-}
+at_once-from terms unit fix since known cost is chosen one = grind (arith, is, chosen, one)
 
 pub least-end : (terms : Terms) (unit : Thermal) (fix : Fix) → IsLawfulThermal unit → AreSizedTerms unit terms
     → (since t : ℕ) (choice : Option Choice) (cost : Option ℤ) → t ≡ period_count terms

@@ -1,12 +1,11 @@
 -- A rest on the least way: how it splits, and that until it may end it has to go on.
-use Rattle.std.proofs.Common.{◌≡◌, ℕ, zero, suc, ◌+◌, ◌-◌, ◌<◌, ◌≤◌, true, false, ◌&&◌, refl, ap, ◌∙◌, arith, pos, Some, None, if◌then◌else◌}
-use mathlib.Core.Bool.{and-false}
+use Rattle.std.proofs.Common.{◌≡◌, ℕ, zero, suc, ◌+◌, ◌-◌, ◌<◌, ◌≤◌, true, false, refl, ap, ◌∙◌, arith, pos, Some, None, if◌then◌else◌}
 use Rattle.std.proofs.lemmas.Bool.{cond-true, cond-false, le-leb, leb-true}
 use Rattle.uc_model.specs.Prelude.{period_count, has_lasted, may_start}
-use Rattle.dual_model.specs.Prelude.{end_cost, may_be_off, may_be_on, move}
+use Rattle.dual_model.specs.Prelude.{may_be_off, move}
 use Rattle.dual_model.specs.CostToGo.{lesser_of, total_of}
 use Rattle.unit_path.specs.inside.Choices.{Fix, Terms, Thermal, rests, start_total}
-use Rattle.dual_model.proofs.Costs.{lesser-none, total-none, total-zero}
+use Rattle.dual_model.proofs.Costs.{total-none, total-zero}
 use Rattle.dual_model.proofs.Following.{forced-to, lasting-split}
 use Rattle.unit_path.proofs.Going.{off-step, to_go}
 
@@ -23,8 +22,7 @@ pub rest-barred : (terms : Terms) (unit : Thermal) (fix : Fix) (since t : ℕ) �
 rest-barred terms unit fix since t e = cond-false (may_be_off unit fix t) (Some (pos 0)) None e
 
 pub start-barred : (terms : Terms) (unit : Thermal) (fix : Fix) (since t : ℕ) → may_start unit since t ≡ false → move terms unit fix t false since true ≡ None
-start-barred terms unit fix since t e =
-    cond-false (may_be_on fix t && may_start unit since t) _ _ (ap (λ b. may_be_on fix t && b) e ∙ and-false (may_be_on fix t))
+start-barred terms unit fix since t e = grind (arith, e)
 
 -- ---- rests
 -- where the unit may rest throughout, it costs nothing
@@ -50,21 +48,13 @@ rests-barred terms unit fix since t k n low high e =
 pub rest-until : (terms : Terms) (unit : Thermal) (fix : Fix) (since from : ℕ) → since ≤ from → from ≤ period_count terms
     → ((k : ℕ) → since ≤ k → k < from → may_start unit since k ≡ false)
     → to_go terms unit fix since false since ≡ total_of (rests terms unit fix since since (from - since)) (to_go terms unit fix from false since)
-rest-until terms unit fix since from low high barred =
-    forced-to (move terms unit fix) (end_cost terms unit) (period_count terms) false since since from low high
-    (λ k a b. start-barred terms unit fix since k (barred k a b))
+rest-until terms unit fix since from low high barred = grind (arith, forced-to, start-barred, low, high, barred)
 
 -- where it may rest, the least of a start and of a rest; else a start
 pub off-free : (terms : Terms) (unit : Thermal) (fix : Fix) (since t : ℕ) → t < period_count terms → may_be_off unit fix t ≡ true
     → to_go terms unit fix t false since ≡ lesser_of (start_total terms unit fix since t) (to_go terms unit fix (suc t) false since)
-off-free terms unit fix since t h may =
-    off-step terms unit fix since t h
-    ∙ ap (lesser_of (start_total terms unit fix since t))
-    (ap (λ x. total_of x (to_go terms unit fix (suc t) false since)) (rest-allowed terms unit fix since t may) ∙ total-zero (to_go terms unit fix (suc t) false since))
+off-free terms unit fix since t h may = grind (arith, off-step, to_go, rest-allowed, total-zero, h, may)
 
 pub off-barred : (terms : Terms) (unit : Thermal) (fix : Fix) (since t : ℕ) → t < period_count terms → may_be_off unit fix t ≡ false
     → to_go terms unit fix t false since ≡ start_total terms unit fix since t
-off-barred terms unit fix since t h barred =
-    off-step terms unit fix since t h
-    ∙ ap (λ x. lesser_of (start_total terms unit fix since t) (total_of x (to_go terms unit fix (suc t) false since))) (rest-barred terms unit fix since t barred)
-    ∙ lesser-none (start_total terms unit fix since t)
+off-barred terms unit fix since t h barred = grind (arith, h, barred)

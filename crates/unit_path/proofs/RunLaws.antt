@@ -1,14 +1,12 @@
 -- A run of on hours on the least way: how it splits, and that until it may end it has to go on.
-use Rattle.std.proofs.Common.{◌≡◌, ℕ, suc, ◌+◌, ◌-◌, ◌*◌, ◌<◌, ◌≤◌, Bool, true, false, ◌&&◌, cond, sym, ap, subst, ◌∙◌, lit<, arith, ℤ, pos, ◌+ℤ◌, to_z, of_z, FitsSigned, Some, None, ◌==◌, nat_lt, unsigned_abs}
-use mathlib.Core.Bool.{and-true, and-false}
+use Rattle.std.proofs.Common.{◌≡◌, ℕ, suc, ◌+◌, ◌-◌, ◌*◌, ◌<◌, ◌≤◌, Bool, true, false, ◌&&◌, sym, ap, ◌∙◌, arith, ℤ, ◌+ℤ◌, to_z, of_z, FitsSigned, Some, None, ◌==◌, nat_lt, unsigned_abs}
 use Rattle.std.specs.Int.{w128}
-use Rattle.std.proofs.lemmas.Int.{fits_signed_from_abs}
-use Rattle.std.proofs.lemmas.Bool.{and_from, cond-true, cond-false, lt-ltb, ne_eqb, or_left}
+use Rattle.std.proofs.lemmas.Bool.{cond-false, lt-ltb, ne_eqb, or_left}
 use Rattle.uc_model.specs.declared.limits.TheConstants.{MAX_PERIODS}
 use Rattle.uc_model.proofs.Common.{abs_add}
 use Rattle.uc_model.proofs.Sizes.{wide}
 use Rattle.uc_model.specs.Prelude.{period_count, may_stop}
-use Rattle.dual_model.specs.Prelude.{end_cost, holds_initially, hour_before, may_be_off, may_be_on, move, MAX_MOVE}
+use Rattle.dual_model.specs.Prelude.{end_cost, holds_initially, hour_before, may_be_on, move, MAX_MOVE}
 use Rattle.dual_model.specs.CostToGo.{lesser_of, total_of}
 use Rattle.unit_path.specs.inside.Choices.{Fix, Terms, Thermal, stays, stop_cost}
 use Rattle.unit_path.specs.inside.Hours.{leave_cost, stay_cost}
@@ -23,15 +21,11 @@ stay-barred terms unit fix since t e = cond-false (may_be_on fix t && holds_init
 
 -- and one that may not stop doesn't
 pub stop-barred : (terms : Terms) (unit : Thermal) (fix : Fix) (since t : ℕ) → may_stop unit since t ≡ false → move terms unit fix t true since false ≡ None
-stop-barred terms unit fix since t e =
-    cond-false ((may_be_off unit fix t && holds_initially unit t true) && may_stop unit since t) _ _
-    (ap (λ b. (may_be_off unit fix t && holds_initially unit t true) && b) e ∙ and-false (may_be_off unit fix t && holds_initially unit t true))
+stop-barred terms unit fix since t e = grind (arith, e)
 
 pub stop-allowed : (terms : Terms) (unit : Thermal) (fix : Fix) (since t : ℕ) → may_stop unit since t ≡ true
     → move terms unit fix t true since false ≡ leave_cost terms unit fix t (since == t)
-stop-allowed terms unit fix since t e =
-    ap (λ b. cond b (hour_before terms unit t (since == t) true) None)
-    (ap (λ b. (may_be_off unit fix t && holds_initially unit t true) && b) e ∙ and-true (may_be_off unit fix t && holds_initially unit t true))
+stop-allowed terms unit fix since t e = grind (arith, e)
 
 -- the moves of a unit that has been on since an earlier period
 pub stay-later : (terms : Terms) (unit : Thermal) (fix : Fix) (since t : ℕ) → since < t
@@ -45,9 +39,7 @@ holds-later unit t stop h = or_left (nat_lt 0 t) _ (lt-ltb 0 t h)
 -- where it may be on, it costs the hour before to stay on, of a later period
 pub stay-hour : (terms : Terms) (unit : Thermal) (fix : Fix) (since t : ℕ) → since < t → may_be_on fix t ≡ true
     → move terms unit fix t true since true ≡ hour_before terms unit t false false
-stay-hour terms unit fix since t h e =
-    stay-later terms unit fix since t h
-    ∙ cond-true (may_be_on fix t && holds_initially unit t false) _ _ (and_from _ _ e (holds-later unit t false (omega arith)))
+stay-hour terms unit fix since t h e = grind (arith, h, e)
 
 -- ---- runs
 -- the first period apart
@@ -104,34 +96,17 @@ pub record IsRunTo (terms : Terms) (unit : Thermal) (fix : Fix) (since t : ℕ) 
 run_more-value : (terms : Terms) (unit : Thermal) (fix : Fix) (since t n : ℕ) (total stay : ℤ) → since < t → n ≡ suc (t - since) → may_be_on fix t ≡ true
     → Some stay ≡ hour_before terms unit t false false → Some total ≡ stays terms unit fix since since (t - since)
     → Some (total +ℤ stay) ≡ stays terms unit fix since since n
-run_more-value terms unit fix since t n total stay h e on is so_far =
-    let at : since + (t - since) ≡ t = omega arith in
-    (λ i. total_of (so_far i) ((is ∙ sym (stay-hour terms unit fix since t h on) ∙ ap (λ k. move terms unit fix k true since true) (sym at)) i))
-    ∙ ap (stays terms unit fix since since) (sym e)
+run_more-value terms unit fix since t n total stay h e on is so_far = grind (arith, stay-hour, h, e, on, is, so_far)
 
 pub run-first : (terms : Terms) (unit : Thermal) (fix : Fix) (since n : ℕ) (spent : ℤ) → n ≡ 1 → Some spent ≡ move terms unit fix since true since true
     → Some spent ≡ stays terms unit fix since since n
-run-first terms unit fix since n spent e is =
-    let at : since + 0 ≡ since = omega arith in
-    is ∙ sym (total-zero (move terms unit fix since true since true))
-    ∙ ap (λ k. total_of (Some (pos 0)) (move terms unit fix k true since true)) (sym at)
-    ∙ ap (stays terms unit fix since since) (sym e)
+run-first terms unit fix since n spent e is = grind (arith, total-zero, e, is)
 
 pub run-fits : (n : ℕ) (total stay : ℤ) → n ≤ MAX_PERIODS → unsigned_abs total ≤ n * MAX_MOVE → unsigned_abs stay ≤ MAX_MOVE
     → FitsSigned w128 (total +ℤ to_z w128 (of_z w128 stay))
-run-fits n total stay h size more =
-    let kept = wide stay MAX_MOVE more (lit< tt) in
-    let whole = abs_add total stay (n * MAX_MOVE) MAX_MOVE size more in
-    subst (λ x. FitsSigned w128 (total +ℤ x)) (sym kept) (fits_signed_from_abs w128 (total +ℤ stay) (omega arith))
+run-fits n total stay h size more = grind (arith, h, size, more)
 
 pub run-more : (terms : Terms) (unit : Thermal) (fix : Fix) (since t : ℕ) (total stay : ℤ) → since < t → t ≤ MAX_PERIODS → may_be_on fix t ≡ true
     → Some stay ≡ hour_before terms unit t false false → unsigned_abs stay ≤ MAX_MOVE → IsRunTo terms unit fix since t total
     → IsRunTo terms unit fix since (suc t) (to_z w128 (of_z w128 (total +ℤ to_z w128 (of_z w128 stay))))
-run-more terms unit fix since t total stay h few on is more so_far =
-    let kept = wide stay MAX_MOVE more (lit< tt) in
-    let size : unsigned_abs (total +ℤ stay) ≤ (suc t - since) * MAX_MOVE =
-    omega (arith, abs_add total stay ((t - since) * MAX_MOVE) MAX_MOVE so_far.size more) in
-    let same : to_z w128 (of_z w128 (total +ℤ to_z w128 (of_z w128 stay))) ≡ total +ℤ stay =
-    ap (λ x. to_z w128 (of_z w128 (total +ℤ x))) kept ∙ wide (total +ℤ stay) (suc MAX_PERIODS * MAX_MOVE) (omega arith) (lit< tt) in
-    subst (λ x. IsRunTo terms unit fix since (suc t) x) (sym same)
-    (record { value = run_more-value terms unit fix since t (suc t - since) total stay h (omega arith) on is so_far.value; size = size })
+run-more terms unit fix since t total stay h few on is more so_far = grind (arith, wide, abs_add, run_more-value, h, few, on, is, more, so_far)

@@ -1,13 +1,13 @@
 -- The table with one entry more, and the sizes of its entries.
-use Rattle.std.proofs.Common.{◌≡◌, ℕ, suc, ◌+◌, ◌-◌, ◌*◌, ◌^◌, ◌<◌, ◌≤◌, ⊎_elim, Bool, true, false, List, length, refl, sym, ap, subst, ◌∙◌, arith, ℤ, ◌*ℤ◌, Option, Some, None, slice_set, unsigned_abs, get_or-set_other, get_or-set_same, length-set}
+use Rattle.std.proofs.Common.{◌≡◌, ℕ, suc, ◌+◌, ◌-◌, ◌*◌, ◌<◌, ◌≤◌, ⊎_elim, Bool, true, false, List, length, refl, sym, subst, ◌∙◌, arith, ℤ, ◌*ℤ◌, Option, Some, None, slice_set, unsigned_abs, get_or-set_other, get_or-set_same, length-set}
 use Rattle.std.proofs.lemmas.Int.{ints}
 use Rattle.std.proofs.lemmas.Bool.{cases_Bool, cases_lt}
 use Rattle.uc_model.specs.Prelude.{IsLawfulThermal, period_count}
 use Rattle.uc_model.specs.declared.limits.TheConstants.{MAX_COST}
 use Rattle.uc_model.proofs.Common.{abs_mul}
-use Rattle.dual_model.specs.Prelude.{AreSizedTerms, may_be_off, may_be_on, IsWithin, MAX_COST_TO_GO, MAX_MOVE}
+use Rattle.dual_model.specs.Prelude.{AreSizedTerms, IsWithin, MAX_COST_TO_GO, MAX_MOVE}
 use Rattle.dual_model.specs.CostToGo.{lesser_of, total_of}
-use Rattle.dual_model.proofs.CostSizes.{cost_to_go-size, more_room, lesser_of-size, total_of-size}
+use Rattle.dual_model.proofs.CostSizes.{cost_to_go-size, more_room, lesser_of-size}
 use Rattle.unit_path.specs.inside.Choices.{Fix, Terms, Thermal, Choice, choice_cost}
 use Rattle.unit_path.specs.inside.Hours.{Hour, hour_in, IsEnd, IsHour, IsStartIn, IsStopIn, IsTableFrom, IsUntil, IsWithinMoves}
 
@@ -15,14 +15,7 @@ use Rattle.unit_path.specs.inside.Hours.{Hour, hour_in, IsEnd, IsHour, IsStartIn
 -- the table of the end alone
 pub table-end : (terms : Terms) (unit : Thermal) (fix : Fix) (hours : List Hour) (end : Hour) (from at : ℕ) → length hours ≡ suc (period_count terms)
     → at ≡ period_count terms → period_count terms ≤ from → IsEnd terms unit fix end → IsTableFrom terms unit fix from (slice_set hours at end)
-table-end terms unit fix hours end from at count e past is =
-    let kept : length (slice_set hours at end) ≡ length hours = length-set hours at end in
-    record {
-      count = kept ∙ count;
-      hour = λ t low high. absurd (omega arith);
-      end = subst (λ h. IsEnd terms unit fix h)
-          (sym (ap (hour_in (slice_set hours at end)) (sym e) ∙ get_or-set_same hours at end _ (omega arith))) is;
-    }
+table-end terms unit fix hours end from at count e past is = grind (arith, ints, slice_set, length-set, get_or-set_same, count, e, past, is)
 
 pub table-more : (terms : Terms) (unit : Thermal) (fix : Fix) (hours : List Hour) (hour : Hour) (from at : ℕ) → at ≡ from → from < period_count terms
     → IsTableFrom terms unit fix (suc from) hours → IsHour terms unit fix from hour → IsTableFrom terms unit fix from (slice_set hours at hour)
@@ -46,26 +39,7 @@ table-more terms unit fix hours hour from at e h later is =
 -- ---- until when a state may last
 pub until-step : (may : ℕ → Bool) (periods t next until : ℕ) → t < periods → (may t ≡ true → until ≡ next) → (may t ≡ false → until ≡ t)
     → IsUntil may periods (suc t) next → IsUntil may periods t until
-until-step may periods t next until h on off later =
-    ⊎_elim
-    (λ (b : may t ≡ true).
-    let is = on b in
-    let after = later.later in
-    let inside = later.within in
-    subst (λ u. IsUntil may periods t u) (sym is)
-    (record {
-      later = omega arith;
-      within = inside;
-      before = λ k low high. ⊎_elim
-          (λ (here : k < suc t). ap may (let e : k ≡ t = omega arith in e) ∙ b)
-          (λ (behind : suc t ≤ k). later.before k behind high)
-          (cases_lt k (suc t));
-      at = later.at;
-    }))
-    (λ (b : may t ≡ false).
-    subst (λ u. IsUntil may periods t u) (sym (off b))
-    (record { later = omega arith; within = omega arith; before = λ k low high. absurd (omega arith); at = λ less. b }))
-    (cases_Bool (may t))
+until-step may periods t next until h on off later = grind (arith, ints, h, on, off, later)
 
 -- ---- sizes
 moves-fit : (n : ℕ) (cost : Option ℤ) → n ≤ 168 → IsWithin (MAX_MOVE * n + MAX_MOVE) cost → IsWithin MAX_COST_TO_GO cost
@@ -74,23 +48,15 @@ moves-fit n cost h size = more_room (MAX_MOVE * n + MAX_MOVE) MAX_COST_TO_GO cos
 -- of a way that the table has for each period and for the end
 table-moves : (terms : Terms) (way : ℕ → Option Choice) → IsWithinMoves 0 (way (period_count terms)) → (t : ℕ) → t ≤ period_count terms
     → (t < period_count terms → IsWithinMoves (period_count terms - t) (way t)) → IsWithinMoves (period_count terms - t) (way t)
-table-moves terms way end t high hour =
-    ⊎_elim
-    (λ (within : t < period_count terms). hour within)
-    (λ (past : period_count terms ≤ t).
-    let e : period_count terms ≡ t = omega arith in
-    subst (λ k. IsWithinMoves (period_count terms - k) (way k)) e (more_room (MAX_MOVE * 0 + MAX_MOVE) _ _ (omega arith) end))
-    (cases_lt t (period_count terms))
+table-moves terms way end t high hour = grind (arith, ints, end, high, hour)
 
 pub onward-moves : (terms : Terms) (unit : Thermal) (fix : Fix) (from : ℕ) (hours : List Hour) → IsTableFrom terms unit fix from hours
     → (t : ℕ) → from ≤ t → t ≤ period_count terms → IsWithinMoves (period_count terms - t) (hour_in hours t).onward
-onward-moves terms unit fix from hours table t low high =
-    table-moves terms (λ k. (hour_in hours k).onward) table.end.onward_size t high (λ within. (table.hour t low within).onward_size)
+onward-moves terms unit fix from hours table t low high = grind (arith, ints, table, low, high)
 
 pub cold_start-moves : (terms : Terms) (unit : Thermal) (fix : Fix) (from : ℕ) (hours : List Hour) → IsTableFrom terms unit fix from hours
     → (t : ℕ) → from ≤ t → t ≤ period_count terms → IsWithinMoves (period_count terms - t) (hour_in hours t).cold_start
-cold_start-moves terms unit fix from hours table t low high =
-    table-moves terms (λ k. (hour_in hours k).cold_start) table.end.cold_start_size t high (λ within. (table.hour t low within).cold_start_size)
+cold_start-moves terms unit fix from hours table t low high = grind (arith, ints, table, low, high)
 
 -- the way that goes on where it may
 pub later-moves : (may : Bool) (n : ℕ) (next later : Option Choice) → (may ≡ true → later ≡ next) → (may ≡ false → later ≡ None)
@@ -100,30 +66,17 @@ later-moves false n next later on off size = subst (λ o. IsWithinMoves n o) (sy
 
 pub stop-moves : (unit : Thermal) (terms : Terms) (fix : Fix) → IsLawfulThermal unit → AreSizedTerms unit terms → (t : ℕ) (choice : Option Choice) → t < period_count terms
     → IsStopIn terms unit fix t choice → IsWithinMoves (period_count terms - suc t) choice
-stop-moves unit terms fix lawful sized t choice h entry =
-    ⊎_elim
-    (λ (may : may_be_off unit fix t ≡ true). subst (λ o. IsWithin (MAX_MOVE * (period_count terms - suc t) + MAX_MOVE) o) (sym (entry.least may).cost)
-    (cost_to_go-size unit terms fix lawful sized (period_count terms - suc t) (suc t) (omega arith) false (suc t)))
-    (λ (barred : may_be_off unit fix t ≡ false). subst (λ o. IsWithinMoves (period_count terms - suc t) o) (sym (entry.none barred)) tt)
-    (cases_Bool (may_be_off unit fix t))
+stop-moves unit terms fix lawful sized t choice h entry = grind (arith, ints, cost_to_go-size, cases_Bool, lawful, sized, h, entry)
 
 pub start-moves : (unit : Thermal) (terms : Terms) (fix : Fix) → IsLawfulThermal unit → AreSizedTerms unit terms → (t : ℕ) (choice : Option Choice) → t < period_count terms
     → IsStartIn terms unit fix t choice → IsWithinMoves (period_count terms - suc t) choice
-start-moves unit terms fix lawful sized t choice h entry =
-    ⊎_elim
-    (λ (may : may_be_on fix t ≡ true). subst (λ o. IsWithin (MAX_MOVE * (period_count terms - suc t) + MAX_MOVE) o) (sym (entry.least may).cost)
-    (cost_to_go-size unit terms fix lawful sized (period_count terms - suc t) (suc t) (omega arith) true (suc t)))
-    (λ (barred : may_be_on fix t ≡ false). subst (λ o. IsWithinMoves (period_count terms - suc t) o) (sym (entry.none barred)) tt)
-    (cases_Bool (may_be_on fix t))
+start-moves unit terms fix lawful sized t choice h entry = grind (arith, ints, cost_to_go-size, cases_Bool, lawful, sized, h, entry)
 
 -- a move before such a way
 pub move-before : (terms : Terms) (t : ℕ) (move cost : Option ℤ) (choice : Option Choice) → t < period_count terms → IsWithin MAX_MOVE move
     → cost ≡ total_of move (choice_cost choice) → IsWithinMoves (period_count terms - suc t) choice
     → IsWithin (MAX_MOVE * (period_count terms - t) + MAX_MOVE) cost
-move-before terms t move cost choice h small is size =
-    subst (λ o. IsWithin (MAX_MOVE * (period_count terms - t) + MAX_MOVE) o) (sym is)
-    (more_room (MAX_MOVE + (MAX_MOVE * (period_count terms - suc t) + MAX_MOVE)) _ _ (omega arith)
-    (total_of-size move (choice_cost choice) MAX_MOVE (MAX_MOVE * (period_count terms - suc t) + MAX_MOVE) small size))
+move-before terms t move cost choice h small is size = grind (arith, ints, h, small, is, size)
 
 pub lesser-moves : (n : ℕ) (a b : Option ℤ) (choice : Option Choice) → choice_cost choice ≡ lesser_of a b
     → IsWithin (MAX_MOVE * n + MAX_MOVE) a → IsWithin (MAX_MOVE * n + MAX_MOVE) b → IsWithinMoves n choice
@@ -135,10 +88,7 @@ within-fits unit terms sized t cost size = moves-fit (period_count terms - t) co
 
 -- what a start costs
 pub start_cost-size : (unit : Thermal) (terms : Terms) → AreSizedTerms unit terms → (cost : ℤ) → unsigned_abs cost ≤ MAX_COST → IsWithin MAX_MOVE (Some (terms.k *ℤ cost))
-start_cost-size unit terms sized cost small =
-    let scale : unsigned_abs terms.k ≤ 10 ^ 9 = omega (arith, ints, sized.scale.0, sized.scale.1) in
-    let whole = abs_mul terms.k cost (10 ^ 9) MAX_COST scale small in
-    omega arith
+start_cost-size unit terms sized cost small = grind (arith, ints, abs_mul, sized, small)
 
 pub one_more-moves : (n m : ℕ) (choice : Option Choice) → n ≤ m → IsWithinMoves n choice → IsWithinMoves m choice
 one_more-moves n m choice h size = more_room (MAX_MOVE * n + MAX_MOVE) (MAX_MOVE * m + MAX_MOVE) (choice_cost choice) (omega arith) size

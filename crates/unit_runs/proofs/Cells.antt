@@ -5,7 +5,7 @@ use Rattle.std.specs.Int.{int_min}
 use Rattle.std.proofs.lemmas.Int.{ints}
 use Rattle.std.proofs.lemmas.Bool.{cases_Bool, cases_lt, cond-true, cond-false, and_from, and_left, and_right, not_from_false, eq-eqb, ne_eqb, lt-ltb, le-ltb}
 use Rattle.uc_model.specs.Prelude.{bit, was_on, stops, start_cap, stop_cap, start_reduction, stop_reduction, initial_p, cap}
-use Rattle.uc_model.proofs.Common.{linear, one-mul, mul-zero, le_trans, int_min_left, int_min_right}
+use Rattle.uc_model.proofs.Common.{linear, one-mul, le_trans, int_min_left, int_min_right}
 use Rattle.dual_model.specs.Prelude.{is_followed, UnitSchedule, greatest_output, output_before, IsUnitScheduleAt}
 use Rattle.dual_model.proofs.CellCaps.{cell_cap-cap}
 use Rattle.unit_runs.specs.Runs.{Thermal, Trajectory, entry_output, output_before_hour, hour_cap, KeepsRamps, IsHourOf}
@@ -18,14 +18,7 @@ le_min z a b h k = grind (arith, ints)
 
 cap-from : (periods : ℕ) (unit : Thermal) (on : Commitment) (t : ℕ) (z : ℤ) → z ≤ℤ start_cap unit on t
     → (suc t < periods → z ≤ℤ stop_cap unit on t) → z ≤ℤ cap periods unit on t
-cap-from periods unit on t z start stop = ⊎_elim
-    (λ (within : suc t < periods).
-    subst (λ c. z ≤ℤ c) (sym (cond-true (nat_lt (suc t) periods) _ (start_cap unit on t) (lt-ltb (suc t) periods within)))
-    (le_min z (start_cap unit on t) (stop_cap unit on t) start (stop within)))
-    (λ (last : periods ≤ suc t).
-    subst (λ c. z ≤ℤ c)
-    (sym (cond-false (nat_lt (suc t) periods) (int_min (start_cap unit on t) (stop_cap unit on t)) _ (le-ltb (suc t) periods last))) start)
-    (cases_lt (suc t) periods)
+cap-from periods unit on t z start stop = grind (arith, ints, cond-true, lt-ltb, le_min, cond-false, le-ltb, cases_lt, start, stop)
 
 pub cap-start : (periods : ℕ) (unit : Thermal) (on : Commitment) (t : ℕ) (z : ℤ) → z ≤ℤ cap periods unit on t → z ≤ℤ start_cap unit on t
 cap-start periods unit on t z h = ⊎_elim
@@ -212,12 +205,7 @@ module _ (periods : ℕ) (unit : Thermal) (x : UnitSchedule) (from : ℕ) (tr : 
 
 -- ---- an off period
 off_cap : (room reduction : ℤ) (b c : Bool) → b ≡ false → c ≡ false → (room *ℤ bit b -ℤ reduction *ℤ bit c) ≡ pos 0
-off_cap room reduction b c e f =
-    let first = ap (λ z. room *ℤ bit z) e in
-    let second = ap (λ z. reduction *ℤ bit z) f in
-    let none = mul-zero room in
-    let no_more = mul-zero reduction in
-    omega (arith, linear)
+off_cap room reduction b c e f = grind (arith, ints, e, f)
 
 pub off-at : (periods : ℕ) (unit : Thermal) (x : UnitSchedule) (t : ℕ) → IsIdleOff periods x → t < periods → x.on t ≡ false
     → pos 0 ≤ℤ greatest_output unit.points → KeepsRamps unit (output_before 1 unit x t) (pos 0) (pos 0)

@@ -1,8 +1,8 @@
 -- The hours of a run: in them the unit is on, and behind them it is off or the horizon ends; and each on period lies in one
 -- run.
 -- Cite from a crate above by `use Rattle.unit_runs.proofs.Hours.{in_run}`.
-use Rattle.std.proofs.Common.{◌≡◌, ℕ, zero, suc, ◌+◌, ◌-◌, ◌<◌, ◌≤◌, ⊎_elim, true, false, not, ◌&&◌, ◌==◌, true≢false, refl, sym, ap, ◌∙◌, arith, IsTrue, if◌then◌else◌}
-use Rattle.std.proofs.lemmas.Bool.{cases_Bool, cases_lt, cond_both, cond-true, cond-false, and_parts, and_from, or_cases, or_left, or_right, not-true, not_from_false, eqb-true}
+use Rattle.std.proofs.Common.{◌≡◌, ℕ, zero, suc, ◌+◌, ◌-◌, ◌<◌, ◌≤◌, ⊎_elim, true, false, refl, ap, ◌∙◌, arith, IsTrue, if◌then◌else◌}
+use Rattle.std.proofs.lemmas.Bool.{cases_Bool, cases_lt, cond-true, cond-false, and_from, or_left, or_right, not_from_false}
 use Rattle.uc_model.specs.Prelude.{was_on}
 use Rattle.unit_runs.specs.Runs.{Thermal}
 use Rattle.unit_runs.specs.Patterns.{Commitment, starts, begins, hours_on, run_hours}
@@ -16,15 +16,11 @@ no_more on n t e = cond-false (on t) (suc (hours_on on n (suc t))) 0 e
 
 hours_on-le : (on : Commitment) (n t : ℕ) → hours_on on n t ≤ n
 hours_on-le on zero t = omega arith
-hours_on-le on (suc n) t =
-    cond_both (on t) (suc (hours_on on n (suc t))) 0 (λ h. h ≤ suc n) (λ e. omega (arith, hours_on-le on n (suc t))) (λ e. omega arith)
+hours_on-le on (suc n) t = grind (arith, (hours_on-le on n (suc t)))
 
 hours_on-within : (on : Commitment) (n t i : ℕ) → i < hours_on on n t → on (t + i) ≡ true
 hours_on-within on zero t i h = absurd (omega arith)
-hours_on-within on (suc n) t zero h = ⊎_elim
-    (λ (e : on t ≡ true). let same : t + 0 ≡ t = omega arith in ap on same ∙ e)
-    (λ (e : on t ≡ false). absurd (let none = no_more on n t e in omega arith))
-    (cases_Bool (on t))
+hours_on-within on (suc n) t zero h = grind (arith, h)
 hours_on-within on (suc n) t (suc i) h = ⊎_elim
     (λ (e : on t ≡ true).
     let all = more on n t e in
@@ -66,12 +62,7 @@ run-some periods on t l e = hours_on-some on (periods - t) t (omega arith) e
 -- the hour behind one of the run is of the run exactly where the unit is on in it
 pub run-next : (periods : ℕ) (on : Commitment) (t i : ℕ) → i < run_hours periods on t → suc (t + i) < periods → on (suc (t + i)) ≡ true
     → suc i < run_hours periods on t
-run-next periods on t i h l e = ⊎_elim
-    (λ (less : suc i < run_hours periods on t). less)
-    (λ (past : run_hours periods on t ≤ suc i).
-    let same : t + run_hours periods on t ≡ suc (t + i) = omega arith in
-    absurd (true≢false (sym e ∙ ap on (sym same) ∙ run-end periods on t (omega arith))))
-    (cases_lt (suc i) (run_hours periods on t))
+run-next periods on t i h l e = grind (arith, run-end, cases_lt, h, l, e)
 
 -- ---- where runs begin
 pub begins-start : (unit : Thermal) (on : Commitment) (t : ℕ) → IsTrue (starts unit on t) → IsTrue (begins unit on t)
@@ -82,23 +73,14 @@ begins-first unit on h = or_right (starts unit on 0) _ (and_from unit.on0 true h
 
 -- a later run begins with a start
 pub begins-later : (unit : Thermal) (on : Commitment) (t : ℕ) → IsTrue (begins unit on (suc t)) → (on t ≡ false) × (on (suc t) ≡ true)
-begins-later unit on t h = ⊎_elim
-    (λ (start : IsTrue (starts unit on (suc t))).
-    let parts = and_parts (not (on t)) (on (suc t)) start in (not-true (on t) parts.0, parts.1))
-    (λ (first : IsTrue (unit.on0 && (suc t == 0))).
-    let none : suc t ≡ 0 = eqb-true (suc t) 0 (and_parts unit.on0 (suc t == 0) first).1 in
-    absurd (omega arith))
-    (or_cases (starts unit on (suc t)) (unit.on0 && (suc t == 0)) h)
+begins-later unit on t h = grind (arith, h)
 
 -- one that begins in the first period is that from before, or a start
 pub begins-now : (unit : Thermal) (on : Commitment) (t : ℕ) → was_on unit on t ≡ false → on t ≡ true → IsTrue (begins unit on t)
 begins-now unit on t w n = begins-start unit on t (and_from _ _ (not_from_false _ w) n)
 
 pub begins-off : (unit : Thermal) (on : Commitment) → unit.on0 ≡ false → IsTrue (begins unit on 0) → on 0 ≡ true
-begins-off unit on off h = ⊎_elim
-    (λ (start : IsTrue (starts unit on 0)). (and_parts (not unit.on0) (on 0) start).1)
-    (λ (first : IsTrue (unit.on0 && (0 == 0))). absurd (true≢false (sym (and_parts unit.on0 (0 == 0) first).0 ∙ off)))
-    (or_cases (starts unit on 0) (unit.on0 && (0 == 0)) h)
+begins-off unit on off h = grind (arith, off, h)
 
 -- ---- the run of an on period
 pub record InRun (periods : ℕ) (unit : Thermal) (on : Commitment) (t : ℕ) : Type 0 where
@@ -152,8 +134,7 @@ origin-first unit on (suc t) h = cond-false (on t) (origin on t) (suc t) (begins
 
 pub origin-is : (periods : ℕ) (unit : Thermal) (on : Commitment) (from i : ℕ) → IsTrue (begins unit on from)
     → i < run_hours periods on from → origin on (from + i) ≡ from
-origin-is periods unit on from zero h l =
-    let same : from + 0 ≡ from = omega arith in ap (origin on) same ∙ origin-first unit on from h
+origin-is periods unit on from zero h l = grind (arith, origin-first, h, l)
 origin-is periods unit on from (suc i) h l =
     let same : from + suc i ≡ suc (from + i) = omega arith in
     ap (origin on) same

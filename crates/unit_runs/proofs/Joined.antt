@@ -1,7 +1,7 @@
 -- A unit's schedule cut into the trajectories of its runs, and trajectories of a pattern's runs joined to a schedule.
 -- Cite from a crate above by `use Rattle.unit_runs.proofs.Joined.{joined}`.
 use Rattle.std.proofs.Common.{◌≡◌, ℕ, zero, suc, ◌+◌, ◌-◌, ◌<◌, ◌≤◌, ⊎_elim, Bool, true, false, cond, true≢false, refl, sym, ap, subst, ◌∙◌, arith, ℤ, pos, ◌+ℤ◌, ◌-ℤ◌, ◌*ℤ◌, ◌≤ℤ◌, IsTrue, length}
-use Rattle.std.proofs.lemmas.Bool.{cases_Bool, cases_lt, cond-true, cond-false}
+use Rattle.std.proofs.lemmas.Bool.{cases_Bool, cases_lt, cond-true}
 use Rattle.uc_model.specs.Prelude.{sum_below, bit, initial_p, last_stop, sigma, thermal_unit, IsLawfulThermal}
 use Rattle.uc_model.proofs.Common.{linear, one-mul, zero-mul, sum_below-same, sum_below-add, Rises, outputs_rise}
 use Rattle.dual_model.specs.Prelude.{pi_at, mu_at, IsPatternAt, UnitSchedule, greatest_output, output_before, IsUnitScheduleAt, IsUnitSchedule, exact_cell_value, unit_schedule_value}
@@ -78,10 +78,7 @@ joined on tr = record {
 }
 
 joined-idle : (periods : ℕ) (on : Commitment) (tr : ℕ → Trajectory) → IsIdleOff periods (joined on tr)
-joined-idle periods on tr = record {
-  p = λ t l off. cond-false (on t) ((tr (origin on t)).p (t - origin on t)) 0 off;
-  r = λ t l off. cond-false (on t) ((tr (origin on t)).r (t - origin on t)) 0 off;
-}
+joined-idle periods on tr = grind (arith, linear)
 
 pub joined-along : (periods : ℕ) (unit : Thermal) (on : Commitment) (tr : ℕ → Trajectory) (from : ℕ) → IsTrue (begins unit on from)
     → IsAlong periods (joined on tr) from (tr from)
@@ -137,10 +134,7 @@ ends_later periods unit on t l was off =
         (cases_lt (suc found.hour) (run_hours periods on found.from))
 
 no_ramp : (unit : Thermal) (before : ℤ) → IsLawfulThermal unit → before ≡ pos 0 → KeepsRamps unit before (pos 0) (pos 0)
-no_ramp unit before lawful e =
-    let up = lawful.ramp_up.low in
-    let down = lawful.ramp_down.low in
-    record { up = omega (arith, linear, e, up); down = omega (arith, linear, e, down) }
+no_ramp unit before lawful e = grind (arith, linear, lawful, e)
 
 module _ (instance : Instance) (node : Node) (g : ℕ) (on : Commitment) (tr : ℕ → Trajectory) (lawful : IsLawfulThermal (thermal_unit instance g))
     (each : EachRun instance.periods (thermal_unit instance g) on

@@ -1,12 +1,12 @@
 -- The recursion over the hours of a run gives the least value of a trajectory: each costs at least that, and one attains it.
 -- Reserve goes first: beside two outputs in a row the most of it is the best where its price is above 0, and none is
 -- elsewhere.
-use Rattle.std.proofs.Common.{◌≡◌, ℕ, zero, suc, ◌+◌, ◌<◌, ◌≤◌, ◌⊎◌, inl, inr, ⊎_elim, Bool, true, false, ◌==◌, nat_lt, refl, sym, ap, subst, ◌∙◌, arith, ℤ, pos, ◌+ℤ◌, ◌-ℤ◌, ◌*ℤ◌, neg_ℤ, ◌≤ℤ◌, ◌<ℤ◌, IsTrue, int_le, unsigned_abs, Option, Some, None, if◌then◌else◌}
+use Rattle.std.proofs.Common.{◌≡◌, ℕ, zero, suc, ◌+◌, ◌<◌, ◌≤◌, ◌⊎◌, ⊎_elim, Bool, true, false, ◌==◌, nat_lt, refl, sym, ap, subst, ◌∙◌, arith, ℤ, pos, ◌+ℤ◌, ◌-ℤ◌, ◌*ℤ◌, neg_ℤ, ◌≤ℤ◌, ◌<ℤ◌, IsTrue, int_le, unsigned_abs, Option, Some, None, if◌then◌else◌}
 use Rattle.std.specs.Int.{int_min, int_max}
 use Rattle.std.specs.Ordering.{int_eq}
-use Rattle.std.proofs.lemmas.Int.{ints, clamps}
+use Rattle.std.proofs.lemmas.Int.{ints}
 use Rattle.std.proofs.lemmas.Bool.{cond-true, cond-false, and_parts, and_from, eq-eqb, ne_eqb, lt-ltb, le-ltb, cases_lt}
-use Rattle.uc_model.proofs.Common.{linear, le_or_lt, mul-add, mul-sub, sub-mul, zero-mul, mul-zero, mul-le-mul_left, mul-le-mul_right, sum_below-same, int_le-true, le-int_le, int_eq-true, eq-int_eq, int_min_left, int_min_right, abs_is}
+use Rattle.uc_model.proofs.Common.{linear, mul-add, mul-sub, sub-mul, zero-mul, mul-zero, mul-le-mul_left, mul-le-mul_right, sum_below-same, int_le-true, le-int_le, int_eq-true, eq-int_eq, int_min_left, int_min_right, abs_is}
 use Rattle.dual_model.specs.Prelude.{pi_at, mu_at, greatest_output}
 use Rattle.dual_model.specs.CostToGo.{total_of}
 use Rattle.dual_model.specs.ExactValue.{floored_cost}
@@ -22,25 +22,11 @@ le_min z a b h k = grind (arith, ints)
 -- ---- the reserve of an hour, over plain numbers: mu its price, q and p the outputs
 -- what it is worth per watt is at least the price, and no less than nothing
 worth_is : (mu : ℤ) → ((pos 0 <ℤ mu) × (int_max mu (pos 0) ≡ mu)) ⊎ ((mu ≤ℤ pos 0) × (int_max mu (pos 0) ≡ pos 0))
-worth_is mu = ⊎_elim
-    (λ (none : mu ≤ℤ pos 0). inr (none, omega (arith, ints, clamps)))
-    (λ (some : pos 0 <ℤ mu). inl (some, omega (arith, ints, clamps)))
-    (le_or_lt mu (pos 0))
+worth_is mu = grind (arith, ints)
 
 -- the reserve earns at most what the most reserve would
 earned : (mu r most : ℤ) → pos 0 ≤ℤ r → r ≤ℤ most → (mu *ℤ r) ≤ℤ (int_max mu (pos 0) *ℤ most)
-earned mu r most low high = ⊎_elim
-    (λ (some : (pos 0 <ℤ mu) × (int_max mu (pos 0) ≡ mu)).
-    let same = ap (λ w. w *ℤ most) some.1 in
-    let more = mul-le-mul_left mu r most (let above = some.0 in omega (arith, linear)) high in
-    omega (arith, linear))
-    (λ (none : (mu ≤ℤ pos 0) × (int_max mu (pos 0) ≡ pos 0)).
-    let same = ap (λ w. w *ℤ most) none.1 in
-    let nothing = zero-mul most in
-    let less = mul-le-mul_right r mu (pos 0) low none.0 in
-    let nought = zero-mul r in
-    omega (arith, linear))
-    (worth_is mu)
+earned mu r most low high = grind (arith, ints, mul-le-mul_left, zero-mul, mul-le-mul_right, worth_is, low, high)
 
 -- the best reserve: the most of it where its price is above 0
 record BestReserve (mu most : ℤ) : Type 0 where

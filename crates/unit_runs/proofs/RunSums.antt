@@ -1,6 +1,6 @@
 -- A sum over the on periods of a commitment is one over its runs, of the sum over each run's hours.
 -- Cite from a crate above by `use Rattle.unit_runs.proofs.RunSums.{sum_of_runs}`.
-use Rattle.std.proofs.Common.{◌≡◌, ℕ, zero, suc, ◌+◌, ◌-◌, ◌<◌, ◌≤◌, Bool, true, false, cond, not, ◌&&◌, ◌||◌, ne_eqb, refl, sym, ap, ◌∙◌, arith, ℤ, pos, ◌+ℤ◌, ◌≤ℤ◌, IsTrue}
+use Rattle.std.proofs.Common.{◌≡◌, ℕ, zero, suc, ◌+◌, ◌-◌, ◌<◌, ◌≤◌, Bool, true, false, cond, not, ◌&&◌, ◌||◌, ne_eqb, refl, ap, ◌∙◌, arith, ℤ, pos, ◌+ℤ◌, ◌≤ℤ◌, IsTrue}
 use Rattle.uc_model.specs.Prelude.{sum_below, was_on}
 use Rattle.uc_model.proofs.Common.{linear, le_refl, sum_below-first, sum_below-same, sum_below-le}
 use Rattle.unit_runs.specs.Runs.{Thermal}
@@ -23,8 +23,7 @@ sum_from-is (suc n) t c =
     omega (arith, linear)
 
 pub from_zero : (n : ℕ) (c : ℕ → ℤ) → sum_below n c ≡ sum_from n 0 c
-from_zero n c =
-    sum_below-same n c (λ i. c (0 + i)) (λ i l. let same : i ≡ 0 + i = omega arith in ap c same) ∙ sym (sum_from-is n 0 c)
+from_zero n c = grind (arith, linear, sum_below-same, sum_from-is)
 
 pub sum_from-same : (n t : ℕ) (c d : ℕ → ℤ) → ((k : ℕ) → t ≤ k → c k ≡ d k) → sum_from n t c ≡ sum_from n t d
 sum_from-same zero t c d e = refl

@@ -1,8 +1,7 @@
 -- The duality gap is the sum of the uplifts and slacks.
-use Rattle.std.proofs.Common.{◌≡◌, ℕ, ◌<◌, ◌≤◌, false, refl, ap, ◌∙◌, arith, ⊎_elim, length, ℤ, pos, ◌+ℤ◌, ◌-ℤ◌, ◌*ℤ◌, neg_ℤ, IsTrue, nat_lt}
-use Rattle.std.specs.Int.{int_min}
+use Rattle.std.proofs.Common.{◌≡◌, ℕ, ◌<◌, ◌≤◌, refl, ap, ◌∙◌, arith, length, ℤ, pos, ◌+ℤ◌, ◌-ℤ◌, ◌*ℤ◌, neg_ℤ}
 use Rattle.std.proofs.lemmas.Bool.{cases_Bool, cond-true, cond-false, ltb-false}
-use Rattle.uc_model.specs.Prelude.{sum_below, bit, thermal_unit, thermal_count, renewable_count, demand_at, reserve_at, most_shed, most_short, cell_at, shed_at, short_at, printed_cost, printed_shortage_cost, quotient_up}
+use Rattle.uc_model.specs.Prelude.{sum_below, bit, thermal_unit, thermal_count, renewable_count, demand_at, reserve_at, most_shed, most_short, cell_at, shed_at, short_at, printed_cost, printed_shortage_cost}
 use Rattle.uc_model.proofs.Common.{linear, mul-add, mul-zero, mul_assoc, sub-mul, sum_below-add, sum_below-sub, sum_below-neg, sum_below-mul_left, sum_below-same, quotient_up-one, IsShortage}
 use Rattle.dual_model.specs.Prelude.{constant_at, node_total, renewable_part, renewables_value, shortage_value, shortages_value, system_value, unit_part, HasSizeOf, pi_at, mu_at, up_at, down_at}
 use Rattle.dual_model.proofs.Multipliers.{up_at_past, down_at_past}
@@ -79,36 +78,12 @@ renewables_are instance printed table =
 shortage_is : (k : ℤ) (price : ℕ) (multiplier most missing : ℤ) → IsShortage 1 price most missing
     → shortage_uplift k price multiplier most missing
     ≡ k *ℤ (pos price *ℤ missing) -ℤ multiplier *ℤ missing -ℤ shortage_value k price multiplier most
-shortage_is k price multiplier most missing h =
-    let loss = k *ℤ pos price -ℤ multiplier in
-    let least = int_min (pos 0) loss in
-    let gained = loss *ℤ missing -ℤ least *ℤ most in
-    ⊎_elim
-    (λ (some : IsTrue (nat_lt 0 price)).
-    let here : shortage_uplift k price multiplier most missing ≡ gained = cond-true (nat_lt 0 price) gained (pos 0) some in
-    let value : shortage_value k price multiplier most ≡ least *ℤ most = cond-true (nat_lt 0 price) (least *ℤ most) (pos 0) some in
-    let parted = sub-mul (k *ℤ pos price) multiplier missing in
-    let grouped = mul_assoc k (pos price) missing in
-    omega (arith, linear, here, value, parted, grouped))
-    (λ (none : nat_lt 0 price ≡ false).
-    let here : shortage_uplift k price multiplier most missing ≡ pos 0 = cond-false (nat_lt 0 price) gained (pos 0) none in
-    let value : shortage_value k price multiplier most ≡ pos 0 = cond-false (nat_lt 0 price) (least *ℤ most) (pos 0) none in
-    let nothing : missing ≡ pos 0 = h.priced (no_price price none) in
-    let cost : k *ℤ (pos price *ℤ missing) ≡ pos 0 =
-    ap (λ z. k *ℤ (pos price *ℤ z)) nothing ∙ ap (λ z. k *ℤ z) (mul-zero (pos price)) ∙ mul-zero k in
-    let paid : multiplier *ℤ missing ≡ pos 0 = ap (λ z. multiplier *ℤ z) nothing ∙ mul-zero multiplier in
-    omega (arith, linear, here, value, cost, paid))
-    (cases_Bool (nat_lt 0 price))
-  where
-    no_price : (p : ℕ) → nat_lt 0 p ≡ false → p ≡ 0
-    no_price p e = omega (arith, ltb-false 0 p e)
+shortage_is k price multiplier most missing h = grind (arith, linear, cond-true, sub-mul, mul_assoc, cond-false, mul-zero, cases_Bool, ltb-false, h)
 
 -- in whole watts nothing is rounded up
 cost_is : (instance : Instance) (printed : Printed) (t : ℕ) → printed.denominator ≡ 1
     → printed_shortage_cost instance printed t ≡ pos instance.a *ℤ shed_at printed t +ℤ pos instance.b *ℤ short_at printed t
-cost_is instance printed t one =
-    (λ i. quotient_up (pos instance.a *ℤ shed_at printed t) (pos (one i)) +ℤ quotient_up (pos instance.b *ℤ short_at printed t) (pos (one i)))
-    ∙ (λ i. quotient_up-one (pos instance.a *ℤ shed_at printed t) i +ℤ quotient_up-one (pos instance.b *ℤ short_at printed t) i)
+cost_is instance printed t one = grind (arith, linear, quotient_up-one, one)
 
 shortage_at_is : (instance : Instance) (printed : Printed) (table : Table) (t : ℕ) → IsWhole instance printed → t < instance.periods
     → shortage_uplift_at instance printed table t

@@ -1,7 +1,6 @@
 -- A unit and its row, as they are read of an instance and a schedule.
-use Rattle.std.proofs.Common.{◌≡◌, ℕ, ◌<◌, List, [], length, sym, ap, ◌∙◌, arith, get_or, ◌+ℤ◌, ◌*ℤ◌}
+use Rattle.std.proofs.Common.{◌≡◌, ℕ, ◌<◌, List, length, sym, ap, ◌∙◌, arith, get_or, ◌+ℤ◌, ◌*ℤ◌}
 use Rattle.std.proofs.lemmas.List.{get_or_read}
-use Rattle.std.proofs.lemmas.List.Elements.{All-get_or}
 use Rattle.uc_model.specs.Prelude.{HasShapeOf, cell_at, printed_cell_cost, thermal_unit, thermal_count, sum_below}
 use Rattle.schedule_check.specs.WholeWatts.{cell, row_of}
 use Rattle.uplift.specs.Uplift.{Cell, Instance, Printed, Table, Thermal, cell_charge, charge, printed_unit_cost}
@@ -9,13 +8,11 @@ use Rattle.uplift.specs.inside.Lists.{reduced_cost}
 
 -- an element that was read of a list is the one that stands there
 pub read_is : {X : Type 0} (xs ys : List X) (k : ℕ) (x other : X) → ys ≡ xs → k < length xs → x ≡ get_or ys k x → get_or xs k other ≡ x
-read_is xs ys k x other same within is =
-    ap (λ zs. get_or zs k other) (sym same) ∙ sym (get_or_read ys k x (omega (arith, ap length same)) is other)
+read_is xs ys k x other same within is = grind (arith, get_or_read, same, within, is)
 
 pub periods_are : (instance : Instance) (printed : Printed) (g : ℕ) → HasShapeOf instance printed → g < thermal_count instance
     → length (row_of printed g) ≡ instance.periods
-periods_are instance printed g shape within =
-    All-get_or (λ row. length row ≡ instance.periods) printed.thermal g [] (omega (arith, shape.thermal)) shape.cells
+periods_are instance printed g shape within = grind (arith, shape, within)
 
 -- what unit g costs by its row, and is charged, in whole watts
 pub reduced_is : (instance : Instance) (printed : Printed) (table : Table) (g : ℕ) (unit : Thermal) (row : List Cell)

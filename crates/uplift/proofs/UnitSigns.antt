@@ -60,8 +60,7 @@ off_parts : (pmin start pi k category a p b r value made u : ℤ) → value ≡ 
     → start ≤ℤ (k *ℤ category)
     → (value +ℤ start) ≤ℤ (k *ℤ (made +ℤ category) +ℤ (a *ℤ p +ℤ b *ℤ r -ℤ pi *ℤ (pmin *ℤ u)))
 off_parts pmin start pi k category a p b r value made u is_value is_made is_off p_none r_none begun =
-    rw (is_value, is_made, is_off, p_none, r_none, mul-zero pmin, mul-zero pi, mul-zero a, mul-zero b)
-    (simp (spread, mul-zero) (omega (arith, linear)))
+    grind (arith, linear, mul-zero, spread, is_value, is_made, is_off, p_none, r_none, begun)
 
 -- K times the least start cost of a cell is at most that of its category
 begun : (instance : Instance) (printed : Printed) (table : Table) (g t : ℕ) → IsWhole instance printed → g < thermal_count instance

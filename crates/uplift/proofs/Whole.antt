@@ -5,7 +5,7 @@ use Rattle.std.specs.Ordering.{int_eq}
 use Rattle.std.proofs.lemmas.Bool.{and_parts, or_cases, cond_both, not_from_true, true≢false}
 use Rattle.uc_model.specs.Prelude.{cap, start_cap, stop_cap, thermal_unit, thermal_count, renewable_count, renewable_minimum, renewable_maximum, demand_at, reserve_at, most_shed, most_short, cell_at, shed_at, short_at, printed_denominator, printed_schedule, IsLawfulInstance}
 use Rattle.uc_model.specs.Rules as model
-use Rattle.uc_model.proofs.Common.{one-mul, int_le-true, int_eq-true, rule_at, IsShortage, shortage_parts}
+use Rattle.uc_model.proofs.Common.{int_le-true, int_eq-true, rule_at, IsShortage}
 use Rattle.schedule_check.specs.SizedNumbers.{output_at}
 use Rattle.schedule_check.specs.WholeWatts as watts
 use Rattle.schedule_check.proofs.Measures.{over_one}
@@ -49,9 +49,7 @@ reserve_met instance printed h t ht = int_le-true _ _ (rule_holds instance print
 -- what is missing, over the denominator 1
 missing : (price : ℕ) (most lacking : ℤ)
     → IsTrue (int_le (pos 0) lacking && int_le lacking most && (nat_lt 0 price || int_eq lacking (pos 0))) → IsShortage 1 price most lacking
-missing price most lacking h =
-    shortage_parts 1 price most lacking
-    (subst (λ z. IsTrue (int_le (pos 0) lacking && int_le lacking z && (nat_lt 0 price || int_eq lacking (pos 0)))) (sym (one-mul most)) h)
+missing price most lacking h = grind (arith, h)
 
 pub shed_within : (instance : Instance) (printed : Printed) → IsWhole instance printed → (t : ℕ) → t < instance.periods
     → IsShortage 1 instance.a (most_shed instance t) (shed_at printed t)

@@ -1,7 +1,7 @@
 -- A child's path has decided what its parent's has, and the cell of its last decision.
 use Rattle.std.proofs.Common.{refl, sym, ◌∙◌, arith}
 use Rattle.branch_tree.specs.Places.{tree_from}
-use Rattle.branch_tree.proofs.Paths.{undecided_on, decided_here, undecided_top}
+use Rattle.branch_tree.proofs.Paths.{undecided_on, decided_here}
 use Rattle.branch_tree.proofs.cells.is_undecided.Goals as goal
 
 pub loop-reached-init : goal.loop-reached-init
@@ -22,6 +22,4 @@ returns-then-decides c =
     c.above-step.ensures (sym c.decides.ensures ∙ c.if-decides.true))
 
 pub returns : goal.returns
-returns c =
-    sym (c.loop-reached.invariant.same
-    ∙ undecided_top (tree_from c.args.places.now 0) c.loop-reached.reached c.args.g c.args.t c.requires.placed.numbered (omega arith))
+returns c = grind (arith, c)

@@ -5,8 +5,7 @@ use Rattle.branch_tree.proofs.Preorder.{walk_begins, walk_ends, walk_next, next_
 use Rattle.branch_tree.proofs.layout.preorder.Goals as goal
 
 pub loop-node-init : goal.loop-node-init
-loop-node-init c =
-    rw (c.in_ok-pending.ensures.items, c.new-nodes.ensures.items) (walk_begins c.args.tree.now.nodes c.keeps_cover.ensures.numbered)
+loop-node-init c = grind (arith, walk_begins, c)
 
 pub node-requires : goal.node-requires
 node-requires c =
@@ -23,13 +22,7 @@ loop-node-smaller c =
     omega (arith, length_push c.loop-node.nodes.items c.in-Some.node, ap length c.in_ok-push.ensures.items)
 
 pub loop-node-preserved : goal.loop-node-preserved
-loop-node-preserved c =
-    let whole = c.args.tree.now.nodes in
-    rw (c.in_ok-push_children.ensures, c.in_ok-push.ensures.items)
-    (walk_on whole c.in-Some.node c.pop.new.self.items c.loop-node.nodes.items c.node.result c.keeps_cover.ensures.numbered
-    (walk_next whole c.loop-node.pending.items c.loop-node.nodes.items c.pop.new.self.items c.in-Some.node
-    c.loop-node.invariant c.in-Some.ensures.items)
-    c.node.ensures)
+loop-node-preserved c = grind (arith, walk_on, walk_next, c)
 
 pub returns : goal.returns
 returns c = walk_ends c.args.tree.now.nodes c.loop-node.pending.items c.loop-node.nodes.items c.loop-node.invariant

@@ -1,8 +1,7 @@
 -- Each turn takes the tables of a node from those to come.
-use Rattle.std.proofs.Common.{◌≡◌, ℕ, ◌+◌, ◌<◌, [], ◌++◌, Bool, false, List, Vec, Global, length, get_or, drop, replicate, sym, ap, ◌∙◌, subst, arith, rules}
+use Rattle.std.proofs.Common.{◌≡◌, ℕ, ◌+◌, [], ◌++◌, Bool, Vec, Global, drop, sym, ap, ◌∙◌, subst, arith}
 use Rattle.std.specs.List.{flat_map}
 use Rattle.std.proofs.lemmas.List.{length-replicate, get_or-replicate}
-use Rattle.branch_tree.specs.NumberedTree.{node_count}
 use Rattle.branch_tree.specs.TreeView.{tree_of}
 use Rattle.branch_tree.specs.UsedTables.{stored_tables, spot_tables}
 use Rattle.branch_tree.proofs.Preorder.{whole_part, numbers_within, IsUsedSoFar, tables_at, tables_listed, tables_next, used_begins, used_more, next_table}
@@ -10,21 +9,10 @@ use Rattle.branch_tree.proofs.layout.used.Goals as goal
 use Rattle.branch_tree.proofs.layout.used.Goals.{in-Some+in_ok-note, in_default}
 
 pub loop-node-init : goal.loop-node-init
-loop-node-init c =
-    let whole = c.args.tree.now.nodes in
-    let marks : c.in_ok-seen.seen.items ≡ replicate c.args.tables false = search rules in
-    let all : flat_map (tables_at whole) c.args.nodes.now ≡ stored_tables (tree_of c.args.tree.now) =
-    ap (flat_map (tables_at whole)) c.requires.nodes ∙ tables_listed whole whole c.keeps_cover.ensures.numbered (whole_part whole) in
-    rw (c.new-used.ensures.items, all)
-    (used_begins (stored_tables (tree_of c.args.tree.now)) c.in_ok-seen.seen.items c.args.tables
-    (ap length marks ∙ length-replicate c.args.tables false)
-    (λ table below. ap (λ xs. get_or xs table false) marks ∙ get_or-replicate c.args.tables table false false below))
+loop-node-init c = grind (arith, tables_at, tables_listed, whole_part, used_begins, length-replicate, get_or-replicate, c)
 
 pub node-requires : goal.node-requires
-node-requires c =
-    let whole = c.args.tree.now.nodes in
-    subst (λ (nodes : List ℕ). (k d : ℕ) → k < length nodes → get_or nodes k d < node_count whole) (sym c.requires.nodes)
-    (numbers_within whole whole c.keeps_cover.ensures.numbered (whole_part whole)) c.loop-node.node-index 0 c.loop-node-test.true
+node-requires c = grind (arith, numbers_within, whole_part, c)
 
 pub note-requires : goal.note-requires
 note-requires c =

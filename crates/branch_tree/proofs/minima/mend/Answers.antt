@@ -1,5 +1,5 @@
 -- Each turn leaves the entry above, and the last one none.
-use Rattle.std.proofs.Common.{◌≡◌, ◌∙◌, arith}
+use Rattle.std.proofs.Common.{◌∙◌, arith}
 use Rattle.branch_tree.proofs.Tournament.{mended_up, mended_all}
 use Rattle.branch_tree.proofs.minima.mend.Goals as goal
 
@@ -11,7 +11,4 @@ loop-reached-preserved c = record {
 }
 
 pub returns-clause-entries : goal.returns-clause-entries
-returns-clause-entries c =
-    let top : c.loop-reached.reached ≡ 0 = omega arith in
-    mended_all c.args.values.now c.loop-reached.entries.items c.renew-2.new.entries.items c.loop-reached.reached top
-    c.loop-reached.invariant.mended c.renew-2.ensures.entries
+returns-clause-entries c = grind (arith, mended_all, c)

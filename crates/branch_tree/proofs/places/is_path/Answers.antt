@@ -1,16 +1,12 @@
 -- Each turn compares the last decision left with the one by which the node that is reached comes from its parent.
-use Rattle.std.proofs.Common.{refl, sym, ◌∙◌, arith}
+use Rattle.std.proofs.Common.{sym, ◌∙◌, arith}
 use Rattle.std.proofs.lemmas.Bool.{true≢false}
 use Rattle.branch_tree.specs.Places.{tree_from}
 use Rattle.branch_tree.proofs.Paths.{alike_begins, alike_on, alike_not, alike_ends}
 use Rattle.branch_tree.proofs.places.is_path.Goals as goal
 
 pub loop-reached-init : goal.loop-reached-init
-loop-reached-init c = record {
-  within = c.requires.within;
-  some = omega arith;
-  alike = alike_begins (tree_from c.args.places.now 0) c.args.node _ c.args.fixings.now refl;
-}
+loop-reached-init c = grind (arith, alike_begins, c)
 
 pub loop-reached-preserved : goal.loop-reached-preserved
 loop-reached-preserved c = record {
@@ -30,6 +26,4 @@ returns-then-not-ends_with c = (
 )
 
 pub returns : goal.returns
-returns c =
-    alike_ends (tree_from c.args.places.now 0) c.args.node c.loop-reached.reached c.args.fixings.now c.loop-reached.left
-    c.requires.placed.numbered (omega arith) c.loop-reached.invariant.some c.loop-reached.invariant.alike
+returns c = grind (arith, alike_ends, c)

@@ -5,11 +5,7 @@ use Rattle.branch_tree.proofs.Paths.{IsWayUp, way_begins, way_on}
 use Rattle.branch_tree.proofs.places.path.Goals as goal
 
 pub loop-reached-init : goal.loop-reached-init
-loop-reached-init c = (
-  c.requires.within,
-  subst (IsWayUp (tree_from c.args.places.now 0) c.args.node c.args.node) (sym c.new-path.ensures.items)
-      (way_begins c.args.places.now (tree_from c.args.places.now 0) c.args.node c.requires.placed c.requires.within),
-)
+loop-reached-init c = grind (arith, way_begins, c)
 
 pub loop-reached-preserved : goal.loop-reached-preserved
 loop-reached-preserved c = (

@@ -1,22 +1,17 @@
 -- Each step says what it says of any certificate that has the listing that was read.
-use Rattle.std.proofs.Common.{◌+◌, arith, sym, ap, subst, ◌∙◌, true≢false}
-use Rattle.dual_model.specs.Prelude.{IsClaimTrue}
+use Rattle.std.proofs.Common.{◌+◌, arith, sym, subst, ◌∙◌, true≢false}
 use Rattle.dual_model.proofs.Covers.{certificates_claim_truly}
 use Rattle.branch_tree.specs.Prelude.{written_of}
-use Rattle.cert_check.specs.Answers.{is_none}
 use Rattle.cert_check.specs.inside.Nodes.{IsFirstCode}
 use Rattle.cert_check.specs.inside.Numbers.{IsFirstOffOf}
-use Rattle.cert_check.proofs.Listed.{checkable, tables-from, schedule-from, claim-fits, refused-schedule, refused-1, refused-8, refused-9, refused-10, refused-node, accepted, cost-is, bound-is, schedule-is}
+use Rattle.cert_check.proofs.Listed.{tables-from, schedule-from, claim-fits, refused-schedule, refused-1, refused-8, refused-node, accepted, cost-is, bound-is, schedule-is}
 use Rattle.cert_check.proofs.certificate.check.Goals as goal
 
 pub returns-then-not-fits_instance-clause-refused : goal.returns-then-not-fits_instance-clause-refused
-returns-then-not-fits_instance-clause-refused c = λ d e.
-    refused-9 c.args.instance.now d c.args.cert.now e (λ fits. true≢false (sym (c.fits_instance.ensures.1 fits) ∙ c.if-not-fits_instance.true))
+returns-then-not-fits_instance-clause-refused c = grind (arith, c)
 
 pub returns-then-not-reads_prices-clause-refused : goal.returns-then-not-reads_prices-clause-refused
-returns-then-not-reads_prices-clause-refused c = λ d e.
-    refused-10 c.args.instance.now d c.args.cert.now e (c.fits_instance.ensures.0 c.if-not-fits_instance.false)
-    (λ reads. true≢false (sym (c.reads_prices.ensures.1 reads) ∙ c.if-not-reads_prices.true))
+returns-then-not-reads_prices-clause-refused c = grind (arith, c)
 
 pub returns-in-Some-clause-refused : goal.returns-in-Some-clause-refused
 returns-in-Some-clause-refused c = λ d e.
@@ -25,9 +20,7 @@ returns-in-Some-clause-refused c = λ d e.
     (subst (IsFirstOffOf c.args.cert.now.tables) c.in-Some.is c.in_ok-off.ensures) (omega arith)
 
 pub first_unsound-requires-clause-checkable : goal.first_unsound-requires-clause-checkable
-first_unsound-requires-clause-checkable c =
-    checkable c.args.instance.now c.args.cert.now c.requires.text (c.fits_instance.ensures.0 c.if-not-fits_instance.false)
-    (subst (IsFirstOffOf c.args.cert.now.tables) c.in_default.is c.in_ok-off.ensures)
+first_unsound-requires-clause-checkable c = grind (arith, c)
 
 pub returns-in-Err-clause-refused : goal.returns-in-Err-clause-refused
 returns-in-Err-clause-refused c = λ d e.
@@ -67,23 +60,8 @@ returns-in-Ok-None-clause-holds c =
           let claim = claim-fits d c.args.cert.now e (c.does_claim_fit.ensures.0 c.if-not-does_claim_fit.false) in
           accepted c.args.instance.now d c.args.cert.now e c.requires.text (record { schedule = schedule; claim = claim })
           (subst (λ found. IsFirstCode c.args.instance.now c.args.cert.now found) c.in-Ok-None.field-0-is c.in-Ok-None.ensures);
-      claimed = λ d e. record {
-        cost = cost-is d c.args.cert.now c.args.instance.now c.in-Ok.cost e c.in-Ok.ensures.cost;
-        bound = sym (bound-is d c.args.cert.now e);
-        infeasible = c.claims_infeasible.ensures ∙ ap is_none (sym (bound-is d c.args.cert.now e));
-      };
+      claimed = λ d e. grind (arith, cost-is, bound-is, d, c, e);
     }
 
 pub returns-in-Ok-None-clause-claims : goal.returns-in-Ok-None-clause-claims
-returns-in-Ok-None-clause-claims c =
-    let fits = c.fits_instance.ensures.0 c.if-not-fits_instance.false in
-    let reads = c.reads_prices.ensures.0 c.if-not-reads_prices.false in
-    let numbers = (subst (IsFirstOffOf c.args.cert.now.tables) c.in_default.is c.in_ok-off.ensures) in
-    let d = c.requires.text.certificate in
-    let e = c.requires.text.listed in
-    let schedule = schedule-from c.args.instance.now d c.args.cert.now e c.requires.text fits reads numbers c.in-Ok.cost c.in-Ok.ensures.cost in
-    let claim = claim-fits d c.args.cert.now e (c.does_claim_fit.ensures.0 c.if-not-does_claim_fit.false) in
-    subst (λ b. IsClaimTrue c.args.instance.now b) (bound-is d c.args.cert.now e)
-    (certificates_claim_truly c.args.instance.now d c.requires.lawful
-    (accepted c.args.instance.now d c.args.cert.now e c.requires.text (record { schedule = schedule; claim = claim })
-    (subst (λ found. IsFirstCode c.args.instance.now c.args.cert.now found) c.in-Ok-None.field-0-is c.in-Ok-None.ensures)))
+returns-in-Ok-None-clause-claims c = grind (arith, schedule-from, claim-fits, bound-is, certificates_claim_truly, accepted, c)

@@ -1,14 +1,10 @@
 -- What was kept is of the table of its number, and so is what is new.
-use Rattle.std.proofs.Common.{sym, subst, ap, Some, ◌∙◌, refl, Option}
+use Rattle.std.proofs.Common.{arith, sym, ap, Some, ◌∙◌, refl}
 use Rattle.std.proofs.lemmas.Option.{slice_get-get_or}
-use Rattle.cert_check.specs.inside.Leaves.{Loaded, IsLoaded}
 use Rattle.cert_check.proofs.leaf.loaded_of.Goals as goal
 
 pub returns-then-loaded-number-clause-loaded : goal.returns-then-loaded-number-clause-loaded
-returns-then-loaded-number-clause-loaded c = record {
-  of_number = subst (λ (k : Option Loaded). IsLoaded c.args.instance.now c.args.tables.now k) c.in-Some.is c.requires.kept;
-  number_is = c.if-loaded-number.true;
-}
+returns-then-loaded-number-clause-loaded c = grind (arith, c)
 
 pub returns-clause-loaded : goal.returns-clause-loaded
 returns-clause-loaded c =

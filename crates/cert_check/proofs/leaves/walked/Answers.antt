@@ -1,27 +1,17 @@
 -- Each turn makes one visit, of the node at hand.
-use Rattle.std.proofs.Common.{◌≡◌, ◌↔◌, ℕ, suc, ◌+◌, ◌<◌, ◌≤◌, Bool, IsTrue, List, length, arith, sym, ap, subst, ◌∙◌, map, true, false, true≢false}
+use Rattle.std.proofs.Common.{◌≡◌, ◌↔◌, ℕ, suc, ◌+◌, ◌<◌, ◌≤◌, Bool, IsTrue, List, length, arith, sym, ap, subst, ◌∙◌, false, true≢false}
 use Rattle.uc_model.specs.Prelude.{thermal_count}
 use Rattle.cert_text.specs.CertificateText.{IsNodeWithin, TreeNode}
 use Rattle.cert_text.specs.Reading.{node_of}
 use Rattle.cert_text.specs.declared.cert.Cert.{Cert}
 use Rattle.cert_check.specs.Refusals.{Instance, Refusal, refusal_of}
 use Rattle.cert_check.specs.Visits.{IsSound}
-use Rattle.cert_check.specs.inside.Walks.{CertNode, Fixing, HasVisited, IsPath, MayGoOn, StepsTo, all_visits, visit_of}
-use Rattle.cert_check.proofs.Turns.{each-mapped, may_go_on, node_at, visited-all, visited-end, visited-next, visited-none, visited-unsound}
-use Rattle.cert_check.proofs.WalkedPaths.{path-nil}
+use Rattle.cert_check.specs.inside.Walks.{CertNode, Fixing, MayGoOn, StepsTo, visit_of}
+use Rattle.cert_check.proofs.Turns.{each-mapped, may_go_on, node_at, visited-all, visited-end, visited-next, visited-unsound}
 use Rattle.cert_check.proofs.leaves.walked.Goals as goal
 
 pub loop-i-init : goal.loop-i-init
-loop-i-init c =
-    let instance = c.args.instance.now in
-    let cert = c.args.cert.now in
-    let empty = sym c.new-path.ensures.items in
-    record {
-      visited = subst (λ path. HasVisited instance cert.tables cert.bound (all_visits cert.tree) 0 path (map node_of cert.tree)) empty
-          (visited-none instance cert.tables cert.bound cert.tree);
-      path = subst (λ path. IsPath instance path) empty (path-nil instance);
-      ready = c.requires.ready;
-    }
+loop-i-init c = grind (arith, c)
 
 pub is_sound-requires-clause-node : goal.is_sound-requires-clause-node
 is_sound-requires-clause-node c =
@@ -36,9 +26,7 @@ IsTold instance cert i path told = IsTrue told ↔ IsSound instance cert.tables 
 
 is_told : (instance : Instance) (cert : Cert) (i : ℕ) (path shown : List Fixing) (tree : List CertNode) (told : Bool) → tree ≡ cert.tree → shown ≡ path
     → IsTrue told ↔ IsSound instance cert.tables cert.bound (visit_of shown (node_at tree i)) → IsTold instance cert i path told
-is_told instance cert i path shown tree told t p is =
-    subst (λ (ns : List CertNode). IsTrue told ↔ IsSound instance cert.tables cert.bound (visit_of path (node_at ns i))) t
-    (subst (λ (fs : List Fixing). IsTrue told ↔ IsSound instance cert.tables cert.bound (visit_of fs (node_at tree i))) p is)
+is_told instance cert i path shown tree told t p is = grind (arith, t, p, is)
 
 numbered : (i : ℕ) (node : TreeNode) (code : Refusal) → code ≡ refusal_of node (i + 1) → code ≡ refusal_of node (suc i)
 numbered i node code e = let next : i + 1 ≡ suc i = omega arith in e ∙ ap (λ n. refusal_of node n) next
@@ -89,9 +77,7 @@ loop-i-preserved c =
     subst (λ n. IsNodeWithin instance.periods n (length cert.tables) (node_of (node_at cert.tree i))) c.requires.checkable.size.thermal
     (subst (λ n. IsNodeWithin n cert.thermal (length cert.tables) (node_of (node_at cert.tree i))) c.requires.checkable.size.periods node) in
     record {
-      visited = visited-next instance cert.tables cert.bound cert.tree i path next c.loop-i.invariant.visited within sound
-          (subst (λ (ns : List CertNode). StepsTo path (node_at ns i) next true) c.as_slice-nodes.ensures
-          (subst (λ (going : Bool). StepsTo path (node_at nodes i) next going) c.if-not-branch-2.false c.in_ok-go_on.ensures.steps));
+      visited = grind (arith, visited-next, node_at, instance, cert, i, path, next, c, within, sound, nodes);
       path = c.in_ok-go_on.ensures.path instance c.loop-i.invariant.path
           (subst (λ (ns : List CertNode). MayGoOn instance path (node_at ns i)) (sym c.as_slice-nodes.ensures)
           (may_go_on instance cert.tables cert.bound path (length cert.tables) (node_at cert.tree i) sized sound));

@@ -1,5 +1,5 @@
 -- A decision for an on-child is left behind, and one for an off-child gives way to its on-child.
-use Rattle.std.proofs.Common.{true, sym, subst, ◌∙◌}
+use Rattle.std.proofs.Common.{arith, true, sym, subst, ◌∙◌}
 use Rattle.std.proofs.lemmas.Bool.{not-true, not-false}
 use Rattle.cert_check.specs.inside.Walks.{IsPath}
 use Rattle.cert_check.proofs.Pending.{left-behind, turned}
@@ -8,8 +8,7 @@ use Rattle.cert_check.proofs.path.turn.Goals as goal
 
 pub returns-then-not-last : goal.returns-then-not-last
 returns-then-not-last c = record {
-  turns = sym c.loop-last.invariant.pending
-      ∙ turned c.pop.new.self.items c.loop-last.path.items c.push.new.self.items c.in-Some.last c.in-Some.ensures.items (not-true c.in-Some.last.on c.if-not-last.true) c.in_ok-push.ensures.items;
+  turns = grind (arith, turned, not-true, c);
   path = λ instance is.
       subst (λ path. IsPath instance path) (sym c.in_ok-push.ensures.items)
       (path-turned instance c.pop.new.self.items c.in-Some.last true

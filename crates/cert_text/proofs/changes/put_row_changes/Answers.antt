@@ -2,7 +2,6 @@
 use Rattle.std.proofs.Common.{sym, ap, arith}
 use Rattle.std.specs.List.{flat_map}
 use Rattle.cert_text.specs.inside.WrittenParts.{row_line}
-use Rattle.cert_text.proofs.Written.{next_row}
 use Rattle.cert_text.proofs.changes.put_row_changes.Goals as goal
 
 pub loop-passed-init : goal.loop-passed-init
@@ -12,8 +11,7 @@ pub loop-passed-smaller : goal.loop-passed-smaller
 loop-passed-smaller g c = omega (arith, c.in-Some.ensures.fewer)
 
 pub loop-passed-preserved : goal.loop-passed-preserved
-loop-passed-preserved g c = λ end rest.
-    c.loop-passed.invariant end (g.met.O.Out.emits_two _ _ _ _ _ _ c.put_row_change.ensures rest (next_row _ _ _ c.in-Some.ensures.changes))
+loop-passed-preserved g c = grind (arith, g, c)
 
 pub returns : goal.returns
 returns g c = c.loop-passed.invariant _ (g.met.O.Out.emits_nothing _ _ (sym (ap (flat_map row_line) c.in_default.ensures)))

@@ -1,5 +1,5 @@
 -- Each way out of the match, from what reading the whole gives.
-use Rattle.std.proofs.Common.{◌≡◌, ◌≢◌, ℕ, List, [], Result, Ok, Err, IfOk, IfErr, MatchResult, refl, sym, ap, ◌∙◌}
+use Rattle.std.proofs.Common.{arith, ◌≡◌, ◌≢◌, ℕ, List, [], Result, Ok, Err, IfOk, IfErr, MatchResult, refl, ◌∙◌}
 use Rattle.std.proofs.lemmas.Result.{IfOk-weaker, IfErr-weaker}
 use Rattle.dual_model.specs.Prelude.{Certificate}
 use Rattle.cert_text.specs.CertificateText.{Version, listing_of, certificate_text}
@@ -33,34 +33,27 @@ no_text bytes (stops.At rest) e version certificate h text = absurd (no_stop byt
 -- ---- where it comes to the end
 is_text : (bytes rest : List ℕ) (version : Version) (cert read : Cert) → certificate_part bytes ≡ Ok ((version, listing_read cert), rest)
     → (rest ≡ []) × (read ≡ cert) → IsTextOf bytes read
-is_text bytes rest version cert read e ended =
-    let h = whole_is_read bytes rest version (listing_read cert) e ended.0 in
-    record { version = h.version; certificate = h.certificate; listed = h.listed ∙ sym (ap listing_read ended.1); conditions = h.conditions; text = h.text }
+is_text bytes rest version cert read e ended = grind (arith, whole_is_read, e, ended)
 
 is_read : (bytes rest : List ℕ) (version : Version) (cert : Cert) (result : Result Cert CertFault) → certificate_part bytes ≡ Ok ((version, listing_read cert), rest)
     → IfOk result (λ read. (rest ≡ []) × (read ≡ cert)) → IfErr result (λ fault. (rest ≢ []) × (fault ≡ faults.At (line_number bytes rest) kinds.Tail))
     → (another : Version) (certificate : Certificate) → HasText another (listing_of certificate) → bytes ≡ certificate_text another certificate
     → MatchResult result (λ read. listing_read read ≡ listing_of certificate) (λ fault. fault ≡ faults.NoMemory)
-is_read bytes rest version cert (Ok read) e ok err another certificate h text =
-    ap listing_read ok.1 ∙ (read_as bytes rest version (listing_read cert) e another certificate h text).0
-is_read bytes rest version cert (Err fault) e ok err another certificate h text =
-    absurd (err.0 (read_as bytes rest version (listing_read cert) e another certificate h text).2)
+is_read bytes rest version cert (Ok read) e ok err another certificate h text = grind (arith, read_as, e, ok, err, h, text)
+is_read bytes rest version cert (Err fault) e ok err another certificate h text = grind (arith, read_as, e, ok, err, h, text)
 
 -- ---- the goals
 pub ended-requires : goal.ended-requires
 ended-requires c = rest_shorter c.args.bytes.now c.in-Ok.rest.now _ (listing_read c.in-Ok.cert) c.in-Ok.ensures
 
 pub returns-in-Ok-clause-text : goal.returns-in-Ok-clause-text
-returns-in-Ok-clause-text c =
-    IfOk-weaker c.ended.result _ _ (λ read h. is_text c.args.bytes.now c.in-Ok.rest.now _ c.in-Ok.cert read c.in-Ok.ensures h) c.ended.ensures.ok
+returns-in-Ok-clause-text c = grind (arith, IfOk-weaker, is_text, c)
 
 pub returns-in-Ok-clause-read : goal.returns-in-Ok-clause-read
 returns-in-Ok-clause-read c = is_read c.args.bytes.now c.in-Ok.rest.now _ c.in-Ok.cert c.ended.result c.in-Ok.ensures c.ended.ensures.ok c.ended.ensures.tail
 
 pub returns-in-Ok-clause-fault : goal.returns-in-Ok-clause-fault
-returns-in-Ok-clause-fault c =
-    IfErr-weaker c.ended.result _ (IsFaultOf c.args.bytes.now)
-    (λ fault h. rw h.1 (tail_is_fault c.args.bytes.now c.in-Ok.rest.now _ (listing_read c.in-Ok.cert) c.in-Ok.ensures h.0)) c.ended.ensures.tail
+returns-in-Ok-clause-fault c = grind (arith, IfErr-weaker, tail_is_fault, c)
 
 pub fault_of-requires : goal.fault_of-requires
 fault_of-requires c = within c.args.bytes.now c.in-Err.stop c.in-Err.ensures

@@ -1,9 +1,9 @@
 -- The nodes in preorder are those of the tree, so one of them claims by exact values exactly where one of these does.
-use Rattle.std.proofs.Common.{◌≡◌, ℕ, ◌<◌, true, false, List, Option, length, get_or, subst, sym, ap, ◌∙◌, take_all}
+use Rattle.std.proofs.Common.{arith, ◌≡◌, true, false, Option, get_or, sym, ap, ◌∙◌, take_all}
 use Rattle.std.specs.List.{list_any}
 use Rattle.std.specs.Option.{option_map_or}
 use Rattle.std.proofs.lemmas.List.Folds.{list_any_at}
-use Rattle.branch_tree.specs.Prelude.{node_count, tree_of, used_tables}
+use Rattle.branch_tree.specs.Prelude.{tree_of, used_tables}
 use Rattle.branch_tree.proofs.Preorder.{whole_part, numbers_within}
 use Rattle.cert_text.specs.CertificateText.{is_exact_node}
 use Rattle.cert_text.specs.inside.WrittenParts.{Spot, spot_node}
@@ -11,11 +11,7 @@ use Rattle.cert_text.proofs.Parts.{exact_at, exact_listed}
 use Rattle.cert_text.proofs.tree.has_exact_leaf.Goals as goal
 
 pub node-requires : goal.node-requires
-node-requires c =
-    let whole = c.args.tree.now.nodes in
-    subst (λ (nodes : List ℕ). (k d : ℕ) → k < length nodes → get_or nodes k d < node_count whole)
-    (sym (c.as_slice-node-items.ensures ∙ c.requires.nodes))
-    (numbers_within whole whole c.keeps_cover.ensures.numbered (whole_part whole)) c.loop-node.node-index 0 c.loop-node-test.true
+node-requires c = grind (arith, numbers_within, whole_part, c)
 
 pub returns-then-is_exact : goal.returns-then-is_exact
 returns-then-is_exact c =
@@ -31,10 +27,4 @@ returns-then-is_exact c =
     ∙ exact_listed used whole whole c.keeps_cover.ensures.numbered (whole_part whole)
 
 pub returns : goal.returns
-returns c =
-    let whole = c.args.tree.now.nodes in
-    let used = used_tables (tree_of c.args.tree.now) in
-    let items = c.as_slice-node-items.result.now in
-    sym c.loop-node.invariant
-    ∙ ap (list_any (exact_at used whole)) (take_all c.loop-node.node-index items c.loop-node-test.false ∙ (c.as_slice-node-items.ensures ∙ c.requires.nodes))
-    ∙ exact_listed used whole whole c.keeps_cover.ensures.numbered (whole_part whole)
+returns c = grind (arith, exact_at, take_all, exact_listed, whole_part, c)

@@ -1,7 +1,7 @@
 -- The nodes in preorder are those of the tree, so their lines are.
-use Rattle.std.proofs.Common.{◌≡◌, ℕ, ◌<◌, List, length, get_or, take, subst, sym, ap, ◌∙◌, take_all}
+use Rattle.std.proofs.Common.{arith, ◌≡◌, take, subst, ap, ◌∙◌, take_all}
 use Rattle.std.specs.List.{flat_map}
-use Rattle.branch_tree.specs.Prelude.{node_count, tree_of, leaf_claim}
+use Rattle.branch_tree.specs.Prelude.{tree_of, leaf_claim}
 use Rattle.cert_text.specs.CertificateText.{preorder, node_line}
 use Rattle.cert_text.specs.inside.WrittenParts.{tree_part}
 use Rattle.dual_model.specs.Prelude.{map_leaves}
@@ -10,11 +10,7 @@ use Rattle.cert_text.proofs.Parts.{line_at, lines_listed}
 use Rattle.cert_text.proofs.tree.put_nodes.Goals as goal
 
 pub node-requires : goal.node-requires
-node-requires g c =
-    let whole = c.args.tree.now.nodes in
-    subst (λ (nodes : List ℕ). (k d : ℕ) → k < length nodes → get_or nodes k d < node_count whole)
-    (sym (c.as_slice-node-items.ensures ∙ c.requires.nodes))
-    (numbers_within whole whole c.keeps_cover.ensures.numbered (whole_part whole)) c.loop-node.node-index 0 c.loop-node-test.true
+node-requires g c = grind (arith, numbers_within, whole_part, g, c)
 
 pub returns : goal.returns
 returns g c =

@@ -15,9 +15,7 @@ returns-then-is_over_last-clause-hull c =
     subst (λ n. HullOfFirst c.args.points.now n front) next whole
 
 pub kept_corners-kept-requires-clause-next : goal.kept_corners-kept-requires-clause-next
-kept_corners-kept-requires-clause-next c =
-    next-from c.args.points.now c.args.count (take c.args.held c.args.corners.now) c.is_over_last.result c.requires.lawful c.requires.within c.requires.hull
-    (record { none = c.is_over_last.ensures.none; some = c.is_over_last.ensures.some }) c.if-is_over_last.false
+kept_corners-kept-requires-clause-next c = grind (arith, next-from, c)
 
 pub returns-clause-hull : goal.returns-clause-hull
 returns-clause-hull c =

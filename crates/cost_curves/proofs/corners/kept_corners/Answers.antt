@@ -14,11 +14,7 @@ is_covered-requires-clause-lawful c = λ i h.
     subst IsLawfulPoint (sym found.2) (c.requires.lawful.each found.0 (omega (arith, found.1, c.requires.within)))
 
 pub loop-point-preserved : goal.loop-point-preserved
-loop-point-preserved c =
-    covers_next _ _ _ _ _ _ c.requires.hull c.requires.next c.loop-point.invariant
-    (record { none = c.is_covered.ensures.none; one = c.is_covered.ensures.one; more = c.is_covered.ensures.more }) c.loop-point-test.true
+loop-point-preserved c = grind (arith, covers_next, c)
 
 pub returns-clause-joins : goal.returns-clause-joins
-returns-clause-joins c =
-    joins _ _ _ _ _ _ c.requires.hull c.requires.next c.loop-point.invariant
-    (record { none = c.is_covered.ensures.none; one = c.is_covered.ensures.one; more = c.is_covered.ensures.more }) c.loop-point-test.false
+returns-clause-joins c = grind (arith, joins, c)

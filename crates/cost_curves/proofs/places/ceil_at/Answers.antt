@@ -12,9 +12,7 @@ use Rattle.cost_curves.proofs.FirstSegments.{begins_over, reaches_over, corner_c
 use Rattle.cost_curves.proofs.places.ceil_at.Goals as goal
 
 pub whole_up-requires-clause-size : goal.whole_up-requires-clause-size
-whole_up-requires-clause-size c =
-    let size = numerator-size c.args.corners.now c.args.p c.args.q c.requires.lawful c.requires.denominator.0 c.requires.denominator.1 c.requires.low c.requires.high in
-    omega (arith, size, abs_narrow c.args.p)
+whole_up-requires-clause-size c = grind (arith, linear, numerator-size, abs_narrow, c)
 
 pub ends_at-found-requires-clause-low : goal.ends_at-found-requires-clause-low
 ends_at-found-requires-clause-low c = subst (λ z. pos 0 ≤ℤ z) (sym (to_z-of_z w64 c.whole_up.result (record { sfits = c.whole_up.type_inv }))) c.whole_up.ensures.low

@@ -1,9 +1,8 @@
 -- The product and the difference fit.
-use Rattle.std.proofs.Common.{◌≡◌, ◌*◌, ◌<◌, ◌^◌, ◌∙◌, sym, ap, subst, arith, lit<, to_z, of_z, ◌-ℤ◌, ◌*ℤ◌, unsigned_abs}
+use Rattle.std.proofs.Common.{◌≡◌, ◌<◌, ◌^◌, sym, subst, arith, to_z, of_z, ◌-ℤ◌, ◌*ℤ◌, unsigned_abs}
 use Rattle.std.specs.Int.{w64}
 use Rattle.std.proofs.lemmas.Int.{fits_signed_from_abs}
 use Rattle.uc_model.specs.Prelude.{output_of}
-use Rattle.uc_model.specs.declared.limits.TheConstants.{MAX_DENOMINATOR, MAX_POWER}
 use Rattle.uc_model.proofs.Common.{narrow}
 use Rattle.cost_curves.proofs.CornerSizes.{IsOver, over-is}
 use Rattle.cost_curves.proofs.places.over_left.Goals as goal
@@ -15,15 +14,10 @@ parts c =
 
 difference : (c : goal.After-output) → to_z w64 (of_z w64 c.args.p) -ℤ to_z w64 (of_z w64 (to_z w64 (of_z w64 c.args.q) *ℤ to_z w64 (of_z w64 c.output.result)))
     ≡ c.args.p -ℤ c.args.q *ℤ output_of c.args.corners.now c.args.left
-difference c =
-    let is = parts c in
-    let product = ap (λ z. to_z w64 (of_z w64 z)) is.product ∙ narrow _ (MAX_DENOMINATOR * (2 * MAX_POWER)) is.product_size (lit< tt) in
-    λ t. is.output t -ℤ product t
+difference c = grind (arith, parts, narrow)
 
 pub overflow_mul-result : goal.overflow_mul-result
-overflow_mul-result c =
-    let is = parts c in
-    fits_signed_from_abs w64 _ (subst (λ z. unsigned_abs z < 2 ^ 63) (sym is.product) (omega (arith, is.product_size)))
+overflow_mul-result c = grind (arith, parts, fits_signed_from_abs, c)
 
 pub overflow_sub-result : goal.overflow_sub-result
 overflow_sub-result c =
@@ -31,6 +25,4 @@ overflow_sub-result c =
     fits_signed_from_abs w64 _ (subst (λ z. unsigned_abs z < 2 ^ 63) (sym (difference c)) (omega (arith, is.size)))
 
 pub returns : goal.returns
-returns c =
-    let is = parts c in
-    ap (λ z. to_z w64 (of_z w64 z)) (difference c) ∙ narrow _ (2 * (MAX_DENOMINATOR * (2 * MAX_POWER))) is.size (lit< tt)
+returns c = grind (arith, parts, difference, narrow, c)

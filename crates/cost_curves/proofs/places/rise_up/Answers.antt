@@ -1,5 +1,5 @@
 -- The quotient is that of the rise, and no greater.
-use Rattle.std.proofs.Common.{◌≡◌, ◌*◌, ◌<◌, ◌≤◌, ◌^◌, ◌∙◌, sym, ap, subst, arith, lit<, to_z, of_z, ◌-ℤ◌, ◌*ℤ◌, unsigned_abs}
+use Rattle.std.proofs.Common.{◌≡◌, ◌*◌, ◌<◌, ◌≤◌, ◌^◌, sym, subst, arith, lit<, to_z, of_z, ◌-ℤ◌, ◌*ℤ◌, unsigned_abs}
 use Rattle.std.specs.Int.{w64, w128}
 use Rattle.std.proofs.lemmas.Int.{fits_signed_from_abs}
 use Rattle.uc_model.specs.Prelude.{IsCeiling}
@@ -22,9 +22,7 @@ found c =
     c.scaled-rising.ensures c.scaled-width.ensures c.ceil_div.ensures
 
 same : (c : goal.After-ceil_div) → to_z w64 (of_z w64 (to_z w128 (of_z w128 c.ceil_div.result))) ≡ c.ceil_div.result
-same c =
-    let size = (found c).1 in
-    ap (λ z. to_z w64 (of_z w64 z)) (wide c.ceil_div.result (2 * MAX_COST) size (lit< tt)) ∙ narrow c.ceil_div.result (2 * MAX_COST) size (lit< tt)
+same c = grind (arith, linear, found, wide, narrow)
 
 pub overflow_cast-result : goal.overflow_cast-result
 overflow_cast-result c =

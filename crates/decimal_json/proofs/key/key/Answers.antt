@@ -1,4 +1,4 @@
-use Rattle.std.proofs.Common.{sym, ◌∙◌, lit<}
+use Rattle.std.proofs.Common.{arith, sym, ◌∙◌}
 use Rattle.std.specs.String.{string_bytes}
 use Rattle.std.proofs.lemmas.Bool.{not-true, not-false}
 use Rattle.decimal_json.specs.inside.Scan.{knows, BreaksKey}
@@ -12,9 +12,7 @@ returns-in_err-quote-clause-fault c =
     (no_key c.args.source.now c.args.start (knows c.args.places.now) c.in_err-quote.field-0.0 c.in_err-quote.ensures.fault)
 
 pub text-requires : goal.text-requires
-text-requires c =
-    let token = c.in_ok-quote.ensures.found.token in
-    boundary_behind c.args.source.now c.in_ok-quote.quote 34 c.utf8.source token.1 token.0 (lit< tt)
+text-requires c = grind (arith, boundary_behind, c)
 
 pub returns-in_err-key-clause-fault : goal.returns-in_err-key-clause-fault
 returns-in_err-key-clause-fault c =

@@ -1,11 +1,10 @@
+use Rattle.std.proofs.Common.{arith}
 use Rattle.decimal_json.specs.View.{view}
 use Rattle.decimal_json.proofs.Values.{token_of, end_of, document_breaks, document_ends, document_goes_on, gives_fault}
-use Rattle.decimal_json.specs.inside.Scan.{whole_outcome}
 use Rattle.decimal_json.proofs.reader.document.Goals as goal
 
 pub returns-in_err-value : goal.returns-in_err-value
-returns-in_err-value c = gives_fault c.from_residual.result c.in_err-value.field-0.0 (whole_outcome c.args.source.now) c.from_residual.ensures.1
-    (document_breaks c.args.source.now c.in_err-value.field-0.0 c.in_err-value.ensures.fault)
+returns-in_err-value c = grind (arith, gives_fault, document_breaks, c)
 
 pub returns-in-None : goal.returns-in-None
 returns-in-None c = document_ends c.args.source.now c.in_ok-value.end c.token_at-at.result.0 (view c.in_ok-value.value) c.in_ok-value.ensures.read c.token_at-at.ensures.same

@@ -7,7 +7,7 @@ use Rattle.decimal_json.specs.View.{view, pair_view}
 use Rattle.decimal_json.proofs.Exits.{passed_on}
 use Rattle.decimal_json.proofs.Views.{view-array, view-object, view-pair}
 use Rattle.decimal_json.proofs.Keys.{knows_nothing}
-use Rattle.decimal_json.proofs.Values.{HasItems, HasMembers, array_cut, array_empty, items_begin, item_breaks, array_breaks, array_closes, items_go_on, object_cut, object_empty, members_begin, member_breaks, member_read, no_member_value, object_breaks, object_closes, members_go_on, value_cut, too_deep, inside_read, inside_breaks, open_array, open_object}
+use Rattle.decimal_json.proofs.Values.{HasItems, HasMembers, array_cut, array_empty, items_begin, array_breaks, array_closes, items_go_on, object_cut, object_empty, members_begin, member_read, object_breaks, object_closes, members_go_on, value_cut, too_deep, inside_read, inside_breaks, open_array, open_object}
 use Rattle.decimal_json.proofs.value.+value.Goals as goal
 
 pub array-returns-in_err-at-clause-fault : goal.array-returns-in_err-at-clause-fault
@@ -26,9 +26,7 @@ array-loop-items-init t c =
     (items_begin c.args.source.now c.args.start c.in_ok-at.at c.in_ok-at.first c.args.room c.in_ok-at.ensures.found c.if-first-eq93.false c.in_ok-at.ensures.within.0)
 
 pub array-returns-in_err-item-clause-fault : goal.array-returns-in_err-item-clause-fault
-array-returns-in_err-item-clause-fault t c =
-    passed_on c.from_residual-in_err-item.result c.in_err-item.field-0.0 (BreaksInside c.args.source.now c.args.start first_item c.args.room) c.from_residual-in_err-item.ensures.1
-    (item_breaks c.args.source.now c.args.start c.loop-items.at c.args.room (map view c.loop-items.items.items) c.in_err-item.field-0.0 c.loop-items.invariant c.in_err-item.ensures.fault)
+array-returns-in_err-item-clause-fault t c = grind (arith, t, c)
 
 pub array-returns-in_err-next-clause-fault : goal.array-returns-in_err-next-clause-fault
 array-returns-in_err-next-clause-fault t c =
@@ -69,17 +67,10 @@ members-loop-key-init t c =
     c.in_ok-at.ensures.within.0 c.requires.1.1.1.1)
 
 pub members-returns-in_err-key-clause-fault : goal.members-returns-in_err-key-clause-fault
-members-returns-in_err-key-clause-fault t c =
-    passed_on c.from_residual-in_err-key.result c.in_err-key.field-0.0 (BreaksInside c.args.source.now c.args.start first_key c.args.room) c.from_residual-in_err-key.ensures.1
-    (member_breaks c.args.source.now c.args.start c.loop-key.at c.args.room (map pair_view c.loop-key.pairs.items) (knows c.loop-key.places) c.in_err-key.field-0.0 c.loop-key.invariant
-    (λ outer ms keys fits. c.in_err-key.ensures.fault outer ms keys))
+members-returns-in_err-key-clause-fault t c = grind (arith, t, c)
 
 pub members-returns-in_err-value-clause-fault : goal.members-returns-in_err-value-clause-fault
-members-returns-in_err-value-clause-fault t c =
-    passed_on c.from_residual-in_err-value.result c.in_err-value.field-0.0 (BreaksInside c.args.source.now c.args.start first_key c.args.room) c.from_residual-in_err-value.ensures.1
-    (member_breaks c.args.source.now c.args.start c.loop-key.at c.args.room (map pair_view c.loop-key.pairs.items) (knows c.loop-key.places) c.in_err-value.field-0.0 c.loop-key.invariant
-    (no_member_value c.args.source.now c.loop-key.at c.in_ok-key.colon c.args.room (knows c.loop-key.places) (string_bytes c.in_ok-key.key) c.in_err-value.field-0.0
-    c.in_ok-key.ensures.read c.in_err-value.ensures.fault))
+members-returns-in_err-value-clause-fault t c = grind (arith, t, c)
 
 pub members-returns-in_err-next-clause-fault : goal.members-returns-in_err-next-clause-fault
 members-returns-in_err-next-clause-fault t c =

@@ -1,4 +1,4 @@
-use Rattle.std.proofs.Common.{◌+◌, [], sym, arith, refl, true, false}
+use Rattle.std.proofs.Common.{◌+◌, [], arith, refl, true, false}
 use Rattle.std.specs.String.{string_bytes}
 use Rattle.decimal_json.specs.Value.{null, boolean, number, text, for_value}
 use Rattle.decimal_json.specs.View.{decimal_of}
@@ -74,6 +74,4 @@ returns-in_ok-number-in-45-clause-read c =
     c.as_bytes-bytes.ensures.value c.requires.stands c.in-45.is (λ outer. refl) c.in_ok-number-in-45.ensures.read (view-number c.in_ok-number-in-45.number)
 
 pub returns-in_default-clause-fault : goal.returns-in_default-clause-fault
-returns-in_default-clause-fault c =
-    no_value c.args.source.now c.args.start c.args.first c.no_json.result c.no_json.ensures c.requires.stands c.requires.no_space (λ e. omega arith) c.requires.no_bracket.0 c.requires.no_bracket.1
-    (λ e. omega arith) (λ e. omega arith) (λ e. omega arith) (λ e. omega arith) (sym c.if-is_digit_byte.ensures)
+returns-in_default-clause-fault c = grind (arith, no_value, c)

@@ -1,42 +1,19 @@
 -- The unit's range is empty, or it enters with its least amount at the level.
-use Rattle.std.proofs.Common.{◌≡◌, ◌+◌, ◌*◌, ◌∙◌, length, arith, sym, ap, subst, slice_set, ◌<ℤ◌}
+use Rattle.std.proofs.Common.{◌≡◌, ◌+◌, ◌∙◌, length, arith, sym, ap, subst, slice_set}
 use Rattle.uc_model.specs.Prelude.{renewable_count}
 use Rattle.uc_model.proofs.Common.{linear, narrow, int_lt-true}
-use Rattle.dispatch_repair.specs.Amounts.{MAX_POWER}
 use Rattle.dispatch_repair.proofs.Numbers.{at_most}
-use Rattle.dispatch_repair.specs.Rooms.{rows_of}
-use Rattle.dispatch_repair.specs.Segments.{source_count}
 use Rattle.decommitment.specs.inside.Fills.{IsSizedAmount, hour_period, part_at}
 use Rattle.decommitment.specs.inside.Levels.{IsLeastAt}
 use Rattle.decommitment.proofs.Entries.{entered, high_is, least_sized, low_is, part_read}
-use Rattle.decommitment.proofs.Places.{places_of}
 use Rattle.decommitment.proofs.Steps.{amount_kept}
 use Rattle.decommitment.proofs.entry.enter.Goals as goal
 
 pub returns-then-is_empty-clause-entered : goal.returns-then-is_empty-clause-entered
-returns-then-is_empty-clause-entered c = λ have.
-    let instance = c.args.system.now.instance.now in
-    let period = hour_period c.args.system.now c.args.hour.now in
-    let part = c.unit_part-part.result in
-    let count : length c.as_slice.result.now ≡ renewable_count instance = ap length c.as_slice.ensures in
-    let is : part ≡ part_at period c.args.g =
-    part_read c.args.system.now c.args.hour.now c.requires.hour c.args.g _ part c.requires.unit count c.unit_part-part.ensures.is in
-    let sizes = c.unit_part-part.ensures.sizes in
-    let low = narrow part.reach.range.low (3 * MAX_POWER) sizes.low (omega arith) ∙ low_is period c.args.g part is sizes in
-    let high = narrow part.reach.range.high (3 * MAX_POWER) sizes.high (omega arith) ∙ high_is period c.args.g part is sizes in
-    let empty : part.reach.range.high <ℤ part.reach.range.low = int_lt-true part.reach.range.high part.reach.range.low (sym c.is_empty.ensures ∙ c.if-is_empty.true) in
-    record {
-      within = c.requires.unit;
-      low = low;
-      high = high;
-      empty = omega (arith, linear, low, high, low_is period c.args.g part is sizes, high_is period c.args.g part is sizes, empty);
-      earlier = have;
-    }
+returns-then-is_empty-clause-entered c = grind (arith, linear, part_read, narrow, low_is, high_is, int_lt-true, c)
 
 pub open_at-rest-requires-clause-places : goal.open_at-rest-requires-clause-places
-open_at-rest-requires-clause-places c =
-    places_of c.args.system.now.merit.now.order.items (source_count c.args.system.now.instance.now) (length c.as_slice.result.now + c.args.g)
-    (rows_of c.args.system.now.merit.now.own.items) c.requires.hour.merit.own
+open_at-rest-requires-clause-places c = grind (arith, linear, c)
 
 pub set_amount-requires-clause-amount : goal.set_amount-requires-clause-amount
 set_amount-requires-clause-amount c =

@@ -1,5 +1,5 @@
 -- Each sum is exchanged, and the bits keep it.
-use Rattle.std.proofs.Common.{◌≡◌, ◌*◌, ◌≤◌, ◌∙◌, arith, rules, ℤ, ◌+ℤ◌, ◌-ℤ◌, unsigned_abs, w64, to_z, of_z}
+use Rattle.std.proofs.Common.{◌≡◌, ◌*◌, ◌≤◌, arith, rules, ℤ, ◌+ℤ◌, ◌-ℤ◌, unsigned_abs, w64, to_z, of_z}
 use Rattle.std.proofs.lemmas.Int.{to_z-of_z}
 use mir.Val.{SFits}
 use Rattle.uc_model.proofs.Common.{narrow}
@@ -9,11 +9,7 @@ use Rattle.decommitment.proofs.entry.exchanged_totals.Goals as goal
 
 exchanged_is : (total old new made : ℤ) → unsigned_abs total ≤ MAX_UNITS * (9 * MAX_POWER) → IsSizedEnd old → IsSizedEnd new → SFits w64 made
     → made ≡ to_z w64 (of_z w64 total) +ℤ (to_z w64 (of_z w64 new) -ℤ to_z w64 (of_z w64 old)) → to_z w64 (of_z w64 made) ≡ total +ℤ (new -ℤ old)
-exchanged_is total old new made sized sized_old sized_new fits is =
-    let whole = narrow total (MAX_UNITS * (9 * MAX_POWER)) sized (omega arith) in
-    let former = narrow old (3 * MAX_POWER) sized_old (omega arith) in
-    let later = narrow new (3 * MAX_POWER) sized_new (omega arith) in
-    to_z-of_z w64 made fits ∙ is ∙ (λ i. whole i +ℤ (later i -ℤ former i))
+exchanged_is total old new made sized sized_old sized_new fits is = grind (arith, narrow, to_z-of_z, sized, sized_old, sized_new, fits, is)
 
 pub returns : goal.returns
 returns c =

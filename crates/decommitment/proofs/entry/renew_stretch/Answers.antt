@@ -28,7 +28,4 @@ pub are_alike-requires-clause-base : goal.are_alike-requires-clause-base
 are_alike-requires-clause-base c = omega (arith, c.requires.base.fill.was.count, c.requires.within)
 
 pub returns-clause-entered : goal.returns-clause-entered
-returns-clause-entered c =
-    subst (λ n. AreEntered (hour_period c.args.system.now c.args.hour.now) c.args.system.now.merit.now.order.items
-    (base_parts c.args.system.now c.args.hour.now c.args.base.now) n c.args.base.now.fill.now c.loop-g.fill)
-    (omega (arith, c.loop-g-test.false, c.loop-g.auto.g-end c.requires.order)) c.loop-g.invariant
+returns-clause-entered c = grind (arith, c)

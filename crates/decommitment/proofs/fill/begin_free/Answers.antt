@@ -1,20 +1,14 @@
 -- A renewable unit more gives its least.
-use Rattle.std.proofs.Common.{◌*◌, ◌∙◌, ◌<◌, ap, arith, length, pos, slice_set, sym, subst, ◌≤ℤ◌}
-use Rattle.uc_model.specs.Prelude.{renewable_count, renewable_minimum}
+use Rattle.std.proofs.Common.{◌*◌, ◌∙◌, ◌<◌, ap, arith, length, slice_set, subst}
+use Rattle.uc_model.specs.Prelude.{renewable_count}
 use Rattle.uc_model.proofs.Common.{narrow}
 use Rattle.dispatch_repair.specs.Amounts.{MAX_POWER}
-use Rattle.dispatch_repair.proofs.Filled.{max_right}
-use Rattle.decommitment.specs.inside.Fills.{IsBegunTo, IsSizedAmount, hour_period}
+use Rattle.decommitment.specs.inside.Fills.{IsBegunTo, hour_period}
 use Rattle.decommitment.proofs.Entries.{begun_more}
-use Rattle.decommitment.proofs.Steps.{amount_kept}
 use Rattle.decommitment.proofs.fill.begin_free.Goals as goal
 
 pub set_amount-requires-clause-amount : goal.set_amount-requires-clause-amount
-set_amount-requires-clause-amount c =
-    let range = c.renewable_range-range.ensures in
-    let sized : IsSizedAmount c.renewable_range-range.result.low =
-    record { low = subst (λ z. pos 0 ≤ℤ z) (sym range.low) (max_right (renewable_minimum c.args.system.now.instance.now c.loop-w.w c.args.hour.now.t) (pos 0)); size = range.low_size } in
-    subst IsSizedAmount (sym (amount_kept c.renewable_range-range.result.low sized)) sized
+set_amount-requires-clause-amount c = grind (arith, c)
 
 pub loop-w-preserved : goal.loop-w-preserved
 loop-w-preserved c =

@@ -1,5 +1,5 @@
 -- A stretch more enters, in the place of the base's.
-use Rattle.std.proofs.Common.{◌≡◌, length, arith, ap, subst, sym}
+use Rattle.std.proofs.Common.{◌≡◌, length, arith, ap, subst}
 use Rattle.uc_model.specs.Prelude.{thermal_count}
 use Rattle.decommitment.specs.inside.Fills.{AreEntered, base_parts, hour_period}
 use Rattle.decommitment.proofs.Entries.{ready_again}
@@ -14,10 +14,7 @@ returns-clause-ready c =
     (omega (arith, c.loop-done-test.false, c.loop-done.invariant.within, count)) c.loop-done.invariant.entered)
 
 pub renew_stretch-requires-clause-entered : goal.renew_stretch-requires-clause-entered
-renew_stretch-requires-clause-entered c =
-    subst (λ n. AreEntered (hour_period c.args.system.now c.args.hour.now) c.args.system.now.merit.now.order.items
-    (base_parts c.args.system.now c.args.hour.now c.args.base.now) n c.args.base.now.fill.now c.loop-done.fill)
-    (sym c.stretch_from-stretch.ensures.from) c.loop-done.invariant.entered
+renew_stretch-requires-clause-entered c = grind (arith, c)
 
 pub loop-done-preserved : goal.loop-done-preserved
 loop-done-preserved c = record { within = c.stretch_from-stretch.ensures.within; entered = c.in_default.ensures.entered }

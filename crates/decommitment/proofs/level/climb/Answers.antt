@@ -1,12 +1,11 @@
 -- A step up more.
+use Rattle.std.proofs.Common.{arith}
 use Rattle.decommitment.specs.inside.Fills.{hour_period}
-use Rattle.decommitment.proofs.Steps.{walked_more, walked_none}
+use Rattle.decommitment.proofs.Steps.{walked_none}
 use Rattle.decommitment.proofs.level.climb.Goals as goal
 
 pub loop-init : goal.loop-init
 loop-init c = walked_none (hour_period c.args.system.now c.args.hour.now) c.args.system.now.merit.now.order.items c.args.fill.now c.requires.standing
 
 pub loop-preserved : goal.loop-preserved
-loop-preserved c =
-    walked_more (hour_period c.args.system.now c.args.hour.now) c.args.system.now.merit.now.order.items c.args.fill.now c.loop.fill c.step_up.new.fill c.loop.invariant
-    c.step_up.ensures
+loop-preserved c = grind (arith, c)

@@ -1,5 +1,5 @@
 -- The source of the segment at the level, or of the last one, falls.
-use Rattle.std.proofs.Common.{◌≡◌, ◌∙◌, ◌-◌, ◌<◌, pos, ◌≤ℤ◌, sym, ap, subst, length, slice_set, w64, to_z, of_z, if◌then◌else◌}
+use Rattle.std.proofs.Common.{arith, ◌≡◌, ◌∙◌, ◌-◌, ◌<◌, sym, ap, subst, length, slice_set, w64, to_z, of_z, if◌then◌else◌}
 use Rattle.std.proofs.lemmas.Int.{to_z-of_z}
 use Rattle.dispatch_repair.specs.Segments.{segment_at}
 use Rattle.decommitment.specs.inside.Fills.{IsWalked, IsSizedAmount, hour_period}
@@ -23,9 +23,7 @@ least_sized c =
     c.requires.hour.before.lawful c.requires.hour.before.period c.requires.ranges inside c.source_range-range.ensures least.low_end least.high_end
 
 pub sunk-step-requires-clause-least : goal.sunk-step-requires-clause-least
-sunk-step-requires-clause-least c =
-    let sized = least_sized (goal.at.sunk-step-requires-clause-least c).After-open_at-part in
-    subst (λ z. pos 0 ≤ℤ z) (sym (amount_kept c.open_at-part.result.low sized)) sized.low
+sunk-step-requires-clause-least c = grind (arith, least_sized, After-open_at-part, amount_kept, c)
 
 -- the new amount
 amount_sized : (c : After-sunk-step) → IsSizedAmount c.open_at-part.result.low → IsSizedAmount c.sunk-step.result.amount
@@ -42,10 +40,7 @@ amount_sized c least =
     (subst (λ z. IsSunk (to_z w64 (of_z w64 c.amount_of.result)) z c.sunk-step.result) kept c.sunk-step.ensures)
 
 pub set_amount-requires-clause-amount : goal.set_amount-requires-clause-amount
-set_amount-requires-clause-amount c =
-    let least = least_sized (goal.at.set_amount-requires-clause-amount c).After-open_at-part in
-    let sized = amount_sized (goal.at.set_amount-requires-clause-amount c).After-sunk-step least in
-    subst IsSizedAmount (sym (amount_kept c.sunk-step.result.amount sized)) sized
+set_amount-requires-clause-amount c = grind (arith, least_sized, After-open_at-part, amount_sized, After-sunk-step, amount_kept, c)
 
 pub returns : goal.returns
 returns c =

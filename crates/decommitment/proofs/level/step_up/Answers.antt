@@ -1,5 +1,5 @@
 -- The source of the segment at the level rises.
-use Rattle.std.proofs.Common.{◌≡◌, ◌∙◌, ◌<◌, sym, ap, subst, length, suc, slice_set, w64, if◌then◌else◌}
+use Rattle.std.proofs.Common.{arith, ◌≡◌, ◌∙◌, ◌<◌, sym, ap, subst, length, suc, slice_set, w64, if◌then◌else◌}
 use Rattle.std.proofs.lemmas.Int.{to_z-of_z}
 use Rattle.dispatch_repair.specs.Segments.{segment_at}
 use Rattle.decommitment.specs.inside.Fills.{IsWalked, IsSizedAmount, hour_period}
@@ -9,9 +9,7 @@ use Rattle.decommitment.proofs.level.step_up.Goals as goal
 use Rattle.decommitment.proofs.level.step_up.Goals.{After-risen-step}
 
 pub risen-step-requires-clause-end : goal.risen-step-requires-clause-end
-risen-step-requires-clause-end c =
-    end_size (segment_at c.as_slice-order.result.now c.args.fill.now.level).end c.source_range-range.result _
-    (to_z-of_z w64 c.end.result (record { sfits = c.end.type_inv }) ∙ c.end.ensures) c.source_range-range.ensures.high_size
+risen-step-requires-clause-end c = grind (arith, end_size, to_z-of_z, c)
 
 amount_sized : (c : After-risen-step) → IsSizedAmount c.risen-step.result.amount
 amount_sized c =
@@ -28,9 +26,7 @@ amount_sized c =
     c.risen-step.ensures
 
 pub set_amount-requires-clause-amount : goal.set_amount-requires-clause-amount
-set_amount-requires-clause-amount c =
-    let sized = amount_sized (goal.at.set_amount-requires-clause-amount c).After-risen-step in
-    subst IsSizedAmount (sym (amount_kept c.risen-step.result.amount sized)) sized
+set_amount-requires-clause-amount c = grind (arith, amount_sized, After-risen-step, amount_kept, c)
 
 pub returns : goal.returns
 returns c =

@@ -1,16 +1,13 @@
 -- A place more, by what its segment says.
-use Rattle.std.proofs.Common.{◌∙◌, ap, arith, refl, subst, nat_lt, if◌then◌else◌}
+use Rattle.std.proofs.Common.{◌∙◌, ap, arith, subst, nat_lt, if◌then◌else◌}
 use Rattle.std.specs.Int.{int_max, int_min}
 use Rattle.dispatch_repair.specs.Segments.{segment_at}
 use Rattle.decommitment.specs.inside.Levels.{IsLeastOf, place_at}
-use Rattle.decommitment.proofs.Least.{least_all, least_more, least_none}
+use Rattle.decommitment.proofs.Least.{least_more}
 use Rattle.decommitment.proofs.merit.open_by.Goals as goal
 
 pub loop-place-init : goal.loop-place-init
-loop-place-init c = record {
-  least = least_none c.args.order.now c.args.places.now c.args.level c.args.range.now c.requires.range;
-  high = refl;
-}
+loop-place-init c = grind (arith, c)
 
 pub loop-place-preserved : goal.loop-place-preserved
 loop-place-preserved c =
@@ -30,10 +27,4 @@ loop-place-preserved c =
     }
 
 pub returns : goal.returns
-returns c = λ n are.
-    let order = c.args.order.now in
-    let places = c.args.places.now in
-    let level = c.args.level in
-    let range = c.args.range.now in
-    least_all order places level range n c.loop-place.part.low are
-    (subst (λ k. IsLeastOf order places level k range c.loop-place.part.low) (omega arith) c.loop-place.invariant.least)
+returns c = grind (arith, c)

@@ -1,5 +1,5 @@
 -- A place more is one of its source's own.
-use Rattle.std.proofs.Common.{◌≡◌, length, arith, subst, ◌∙◌}
+use Rattle.std.proofs.Common.{arith, subst, ◌∙◌}
 use Rattle.std.proofs.lemmas.List.{length-map}
 use Rattle.dispatch_repair.specs.Rooms.{rows_of}
 use Rattle.decommitment.specs.inside.Levels.{AreOwnPlaces}
@@ -10,9 +10,7 @@ pub loop-j-init : goal.loop-j-init
 loop-j-init c = none c.args.order.now c.args.sources (rows_of c.in_ok-own.own.items) (length-map _ _ ∙ c.in_ok-own.ensures.count) c.in_ok-own.ensures.none
 
 pub push_place-requires : goal.push_place-requires
-push_place-requires c =
-    let count : length (rows_of c.loop-j.own.items) ≡ length c.loop-j.own.items = length-map _ _ in
-    omega (arith, count, c.loop-j.invariant.count, c.requires c.loop-j.j c.loop-j-test.true)
+push_place-requires c = grind (arith, length-map, c)
 
 pub loop-j-preserved : goal.loop-j-preserved
 loop-j-preserved c =
@@ -21,5 +19,4 @@ loop-j-preserved c =
     (c.requires c.loop-j.j c.loop-j-test.true))
 
 pub returns : goal.returns
-returns c =
-    subst (λ k. AreOwnPlaces c.args.order.now c.args.sources k (rows_of c.loop-j.own.items)) (omega (arith, c.loop-j-test.false, c.loop-j.auto.j-end)) c.loop-j.invariant
+returns c = grind (arith, c)

@@ -1,5 +1,5 @@
 -- A schedule of the dispatch of the drop commitment is accepted.
-use Rattle.std.proofs.Common.{refl, subst, sym, ◌∙◌, w64}
+use Rattle.std.proofs.Common.{arith, refl, subst, sym, ◌∙◌, w64}
 use Rattle.std.proofs.lemmas.Int.{to_z-of_z}
 use Rattle.dispatch_repair.specs.Stuck.{IsDispatchOf}
 use Rattle.decommitment.proofs.Drops.{accepted}
@@ -15,9 +15,7 @@ whole-requires-clause-dispatched c = (
 )
 
 pub cost-cost-requires-clause-shape : goal.cost-cost-requires-clause-shape
-cost-cost-requires-clause-shape c =
-    (accepted c.args.instance.now c.args.pass.patterns.items c.in_ok-printed-in-Dispatched.printed _ c.requires.lawful
-    (subst (λ p. IsDispatchOf c.args.instance.now p c.in_ok-printed-in-Dispatched.printed) c.deref.ensures.value c.in_ok-printed-in-Dispatched.ensures) refl).shape
+cost-cost-requires-clause-shape c = grind (arith, c)
 
 pub cost-cost-requires-clause-obeys : goal.cost-cost-requires-clause-obeys
 cost-cost-requires-clause-obeys c =

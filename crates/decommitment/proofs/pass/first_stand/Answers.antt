@@ -1,5 +1,6 @@
 -- The most-on commitment stands as its trial ended.
-use Rattle.decommitment.proofs.RunTurns.{stand_dispatched, stand_stuck, trial_stuck}
+use Rattle.std.proofs.Common.{arith}
+use Rattle.decommitment.proofs.RunTurns.{stand_dispatched, trial_stuck}
 use Rattle.decommitment.proofs.pass.first_stand.Goals as goal
 
 pub returns-in-Dispatched : goal.returns-in-Dispatched
@@ -9,6 +10,4 @@ pub where_stuck-requires-clause-stuck : goal.where_stuck-requires-clause-stuck
 where_stuck-requires-clause-stuck c = trial_stuck c.args.instance.now c.args.patterns.now c.args.trial c.in-Stuck.period c.requires.trial c.in-Stuck.is
 
 pub returns-in_ok-where_stuck-in-Stuck : goal.returns-in_ok-where_stuck-in-Stuck
-returns-in_ok-where_stuck-in-Stuck c =
-    stand_stuck c.args.instance.now c.args.patterns.now c.args.trial c.in-Stuck.period c.in_ok-where_stuck-in-Stuck.field-0 c.requires.trial c.in-Stuck.is c.requires.most_on
-    c.in_ok-where_stuck-in-Stuck.ensures
+returns-in_ok-where_stuck-in-Stuck c = grind (arith, c)

@@ -1,13 +1,10 @@
 -- A unit's mark stays where it is the same.
-use Rattle.std.proofs.Common.{◌<◌, arith, length, subst}
-use Rattle.decommitment.specs.inside.Stretches.{HaveKept}
-use Rattle.decommitment.proofs.Stretches.{all_kept, kept_more, kept_where_same}
+use Rattle.std.proofs.Common.{◌<◌, arith, length}
+use Rattle.decommitment.proofs.Stretches.{all_kept, kept_more}
 use Rattle.decommitment.proofs.stretch.keep_within.Goals as goal
 
 pub returns-then-are_same : goal.returns-then-are_same
-returns-then-are_same c =
-    kept_where_same c.args.renewables c.args.first.now c.args.second.now c.args.stretch.from c.args.stretch.to c.args.marks.now
-    (c.are_same.ensures c.if-are_same.true)
+returns-then-are_same c = grind (arith, c)
 
 pub loop-g-init : goal.loop-g-init
 loop-g-init c = all_kept c.args.renewables c.args.first.now c.args.second.now c.args.stretch.from c.args.marks.now
@@ -21,6 +18,4 @@ loop-g-preserved c =
     (λ m. c.is_same_at-is_same.ensures (c.both.ensures.second m))
 
 pub returns : goal.returns
-returns c =
-    subst (λ n. HaveKept c.args.renewables c.args.first.now c.args.second.now c.args.stretch.from n c.args.marks.now c.loop-g.marks)
-    (omega (arith, c.loop-g-test.false, c.loop-g.auto.g-end c.requires.order)) c.loop-g.invariant
+returns c = grind (arith, c)

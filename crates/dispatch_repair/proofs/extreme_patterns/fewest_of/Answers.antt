@@ -7,8 +7,7 @@ use Rattle.dispatch_repair.proofs.RunPatterns.{fewest-of_run, fewest-must_run, o
 use Rattle.dispatch_repair.proofs.extreme_patterns.fewest_of.Goals as goal
 
 pub returns-then-unit-clause-pattern : goal.returns-then-unit-clause-pattern
-returns-then-unit-clause-pattern c =
-    fewest-must_run c.args.periods c.args.unit.now c.most_of.result c.if-unit.true c.most_of.ensures.pattern
+returns-then-unit-clause-pattern c = grind (arith, ints, fewest-must_run, c)
 
 pub returns-then-not-unit-clause-pattern : goal.returns-then-not-unit-clause-pattern
 returns-then-not-unit-clause-pattern c =
@@ -21,9 +20,7 @@ returns-then-not-unit-clause-off c =
     off-of_run c.args.periods c.args.periods c.args.periods c.pattern_on.result c.pattern_on.ensures (omega arith)
 
 pub returns-then-unit-2-clause-pattern : goal.returns-then-unit-2-clause-pattern
-returns-then-unit-2-clause-pattern c =
-    fewest-of_run c.args.periods c.args.unit.now 0 c.first_stop.result c.pattern_on-then-unit-2.result c.pattern_on-then-unit-2.ensures
-    c.first_stop.ensures.fewest
+returns-then-unit-2-clause-pattern c = grind (arith, ints, c)
 
 pub returns-then-unit-2-clause-off : goal.returns-then-unit-2-clause-off
 returns-then-unit-2-clause-off c =

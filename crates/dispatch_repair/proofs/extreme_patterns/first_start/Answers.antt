@@ -7,8 +7,7 @@ use Rattle.dispatch_repair.proofs.extreme_patterns.first_start.Goals as goal
 use Rattle.dispatch_repair.proofs.extreme_patterns.first_start.Goals.{else-unit-3-via-then-unit-3+else-held-gt0, else-unit-3-via-else-unit-3}
 
 pub returns-then-unit-2-clause-most : goal.returns-then-unit-2-clause-most
-returns-then-unit-2-clause-most c =
-    none-too_weak c.args.periods c.args.unit.now c.requires.some c.requires.off c.if-unit-2.true (omega (arith, ints))
+returns-then-unit-2-clause-most c = grind (arith, ints, none-too_weak, c)
 
 pub returns-else-unit-2-clause-most : goal.returns-else-unit-2-clause-most
 returns-else-unit-2-clause-most c =
@@ -16,8 +15,7 @@ returns-else-unit-2-clause-most c =
     (highest-kept_off c.args.periods c.args.unit.now c.requires.lawful c.requires.off c.if-unit-2.false (omega (arith, ints)))
 
 pub returns-then-held-gt0-clause-most : goal.returns-then-held-gt0-clause-most
-returns-then-held-gt0-clause-most c =
-    none-held_off c.args.periods c.args.unit.now c.requires.some c.requires.off c.if-unit-3.true (omega arith)
+returns-then-held-gt0-clause-most c = grind (arith, ints, none-held_off, c)
 
 pub returns-else-unit-3-clause-most : goal.returns-else-unit-3-clause-most
 returns-else-unit-3-clause-most c =

@@ -19,9 +19,7 @@ pub returns-else-unit-2-clause-pattern : goal.returns-else-unit-2-clause-pattern
 returns-else-unit-2-clause-pattern c = none-too_high c.args.periods c.args.unit.now c.if-unit.true (omega (arith, ints))
 
 pub returns-in_ok-start-clause-pattern : goal.returns-in_ok-start-clause-pattern
-returns-in_ok-start-clause-pattern c =
-    most-of_run c.args.periods c.args.unit.now c.in_ok-start.start c.args.periods c.pattern_on-else-unit.result c.pattern_on-else-unit.ensures
-    c.in_ok-start.ensures.most
+returns-in_ok-start-clause-pattern c = grind (arith, ints, c)
 
 pub returns-in_ok-start-clause-off : goal.returns-in_ok-start-clause-off
 returns-in_ok-start-clause-off c =

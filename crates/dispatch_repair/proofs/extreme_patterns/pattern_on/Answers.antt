@@ -1,21 +1,15 @@
 -- One period more.
-use Rattle.std.proofs.Common.{◌≡◌, ℕ, ◌+◌, ◌<◌, ◌≤◌, ⊎_elim, ◌&&◌, sym, ap, ◌∙◌, arith, nat_le}
-use Rattle.std.proofs.lemmas.Bool.{cases_eq, cases_lt, lt-ltb, le-ltb}
+use Rattle.std.proofs.Common.{◌≡◌, ℕ, ◌+◌, ⊎_elim, sym, ap, ◌∙◌, arith}
+use Rattle.std.proofs.lemmas.Bool.{cases_eq}
 use Rattle.uc_model.specs.Prelude.{commitment_of, on_during}
-use Rattle.uc_model.proofs.Common.{during-from, during-off_before, during-off_past}
+use Rattle.uc_model.proofs.Common.{during-from}
 use Rattle.dispatch_repair.proofs.extreme_patterns.pattern_on.Goals as goal
 
 longer : (first t k : ℕ) → (k ≡ t → ⊥) → on_during first t k ≡ on_during first (t + 1) k
-longer first t k apart = ⊎_elim
-    (λ (earlier : k < t). ap (λ b. nat_le first k && b) (lt-ltb k t earlier ∙ sym (lt-ltb k (t + 1) (omega arith))))
-    (λ (later : t ≤ k). ap (λ b. nat_le first k && b) (le-ltb k t later ∙ sym (le-ltb k (t + 1) (omega arith))))
-    (cases_lt k t)
+longer first t k apart = grind (arith, apart)
 
 pub loop-t-init : goal.loop-t-init
-loop-t-init c = λ k. c.all_off-pattern.ensures k ∙ sym (⊎_elim
-    (λ (before : k < c.args.first). during-off_before c.args.first c.args.first k before)
-    (λ (past : c.args.first ≤ k). during-off_past c.args.first c.args.first k past)
-    (cases_lt k c.args.first))
+loop-t-init c = grind (arith, c)
 
 pub loop-t-preserved : goal.loop-t-preserved
 loop-t-preserved c = λ k. ⊎_elim
@@ -28,6 +22,4 @@ loop-t-preserved c = λ k. ⊎_elim
     (cases_eq k c.loop-t.t)
 
 pub returns : goal.returns
-returns c =
-    let whole : c.loop-t.t ≡ c.args.end = omega (arith, c.loop-t.auto.t-end c.requires.order) in
-    λ i k. (c.loop-t.invariant k ∙ ap (λ end. on_during c.args.first end k) whole) i
+returns c = grind (arith, c)

@@ -2,7 +2,7 @@
 use Rattle.std.proofs.Common.{◌≡◌, ℕ, ◌+◌, ◌<◌, ◌≤◌, ⊎_elim, List, [], ◌∷◌, ◌++◌, length, sym, ap, subst, ◌∙◌, arith, slice_index_or}
 use Rattle.std.proofs.lemmas.Bool.{cases_lt}
 use Rattle.std.proofs.lemmas.List.{get_or_read, get_or_append_left, get_or_at, length-append}
-use Rattle.uc_model.specs.Prelude.{IsLawfulThermal, commitment_of, IsMostOn, HasNoAllowedPattern, no_unit, thermal_unit}
+use Rattle.uc_model.specs.Prelude.{IsLawfulThermal, commitment_of, IsMostOn, HasNoAllowedPattern, thermal_unit}
 use Rattle.uc_model.specs.declared.instance.Thermal.{Thermal}
 use Rattle.dispatch_repair.specs.MostOn.{Instance, Pattern, IsMostOnOf}
 use Rattle.dispatch_repair.proofs.most_on_commitment.most_on.Goals as goal
@@ -10,8 +10,7 @@ use Rattle.dispatch_repair.proofs.most_on_commitment.most_on.Goals as goal
 -- the unit that was read
 unit_at : (instance : Instance) (units : List Thermal) (g : ℕ) (unit : Thermal) → units ≡ instance.thermal → g < length units
     → unit ≡ slice_index_or units g unit → thermal_unit instance g ≡ unit
-unit_at instance units g unit are within is =
-    ap (λ list. slice_index_or list g no_unit) (sym are) ∙ sym (get_or_read units g unit within is no_unit)
+unit_at instance units g unit are within is = grind (arith, slice_index_or, get_or_read, are, within, is)
 
 pushed : (instance : Instance) (g : ℕ) (patterns : List Pattern) (pattern : Pattern) → length patterns ≡ g
     → ((k : ℕ) → k < g → IsMostOnOf instance k (slice_index_or patterns k (record { low = 0; high = 0 })))

@@ -1,5 +1,5 @@
 -- The range behind the renewable units' is that of the thermal unit.
-use Rattle.std.proofs.Common.{◌≡◌, ℕ, ◌+◌, ◌<◌, arith, sym, subst, ◌∙◌, List, length, ◌≤ℤ◌, ◌<ℤ◌, below_more}
+use Rattle.std.proofs.Common.{◌≡◌, ℕ, ◌+◌, ◌<◌, arith, sym, ◌∙◌, List, length, ◌≤ℤ◌, below_more}
 use Rattle.uc_model.specs.Prelude.{renewable_count, thermal_count}
 use Rattle.uc_model.proofs.Common.{linear, narrow, int_lt-true}
 use Rattle.dispatch_repair.specs.Period.{Period, FromThermal}
@@ -15,25 +15,10 @@ within renewables unit sources first second e f h = omega arith
 at_place : (period : Period) (ranges : List Range) (renewables unit : ℕ) → renewables ≡ renewable_count period.instance
     → length ranges ≡ source_count period.instance → unit + renewables < length ranges → AreRangesOf period ranges
     → (unit < thermal_count period.instance) × HasEnds period (FromThermal unit) (range_at ranges (renewables + unit))
-at_place period ranges renewables unit e whole h are =
-    let inside = within renewables unit (length ranges) (renewable_count period.instance) (thermal_count period.instance) e whole h in
-    (inside, subst (λ m. HasEnds period (FromThermal unit) (range_at ranges (m + unit))) (sym e) (thermal_ends period ranges unit inside are))
+at_place period ranges renewables unit e whole h are = grind (arith, linear, within, thermal_ends, e, whole, h, are)
 
 pub returns-then-is_empty : goal.returns-then-is_empty
-returns-then-is_empty c = λ period renewables whole are.
-    let place = at_place period c.args.ranges.now c.args.renewables c.loop-unit.unit renewables whole (omega arith) are in
-    let its = place.1 in
-    let range = range_at c.args.ranges.now (c.args.renewables + c.loop-unit.unit) in
-    let low = narrow range.low _ its.low_size (omega arith) ∙ its.low in
-    let high = narrow range.high _ its.high_size (omega arith) ∙ its.high in
-    let empty : range.high <ℤ range.low = int_lt-true range.high range.low (sym c.is_empty.ensures ∙ c.if-is_empty.true) in
-    record {
-      within = place.0;
-      low = low;
-      high = high;
-      empty = omega (arith, linear, low, high, its.low, its.high, empty);
-      earlier = c.loop-unit.invariant period renewables whole are;
-    }
+returns-then-is_empty c = grind (arith, linear, at_place, narrow, int_lt-true, within, c)
 
 pub loop-unit-preserved : goal.loop-unit-preserved
 loop-unit-preserved c = λ period renewables whole are.

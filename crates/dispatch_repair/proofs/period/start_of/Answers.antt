@@ -1,5 +1,5 @@
 -- What is left is that of the period as it is served.
-use Rattle.std.proofs.Common.{◌*◌, ◌∙◌, arith}
+use Rattle.std.proofs.Common.{◌*◌, arith}
 use Rattle.uc_model.proofs.Common.{linear, narrow}
 use Rattle.dispatch_repair.specs.Filled.{served_by}
 use Rattle.dispatch_repair.specs.Totals.{MAX_POWER, MAX_UNITS}
@@ -7,10 +7,7 @@ use Rattle.dispatch_repair.proofs.Shortages.{totals_served}
 use Rattle.dispatch_repair.proofs.period.start_of.Goals as goal
 
 pub returns-clause-shortages : goal.returns-clause-shortages
-returns-clause-shortages c = λ period same totals demand need.
-    let asked = narrow c.args.demand.now MAX_POWER c.requires.demand (omega arith) in
-    let wanted = narrow c.args.need.now MAX_POWER c.requires.need (omega arith) in
-    c.shortage_of-shortage.ensures.are period same totals (asked ∙ demand) (wanted ∙ need)
+returns-clause-shortages c = grind (arith, linear, narrow, c)
 
 pub returns-clause-first : goal.returns-clause-first
 returns-clause-first c = λ period totals demand need.

@@ -1,6 +1,6 @@
 -- The unit is the instance's, and what it gave before is its amount.
-use Rattle.std.proofs.Common.{◌≡◌, ◌+◌, ap, sym, subst, ◌∙◌, length}
-use Rattle.uc_model.specs.Prelude.{IsLawfulThermal, renewable_count}
+use Rattle.std.proofs.Common.{arith, ◌≡◌, ◌+◌, ap, ◌∙◌, length}
+use Rattle.uc_model.specs.Prelude.{renewable_count}
 use Rattle.dispatch_repair.specs.Period.{commitment_at, lowest, highest}
 use Rattle.dispatch_repair.specs.Dispatch.{period_after}
 use Rattle.dispatch_repair.specs.Amounts.{amount_at, thermal_amount}
@@ -8,9 +8,7 @@ use Rattle.dispatch_repair.proofs.Places.{thermal_range, unit_read}
 use Rattle.dispatch_repair.proofs.ranges.reach_of.Goals as goal
 
 pub unit_reach-requires-clause-lawful : goal.unit_reach-requires-clause-lawful
-unit_reach-requires-clause-lawful c =
-    subst IsLawfulThermal (sym (unit_read c.args.instance.now c.as_slice-2.result.now c.args.g c.index-as_slice-g.result c.as_slice-2.ensures c.requires.unit c.index-as_slice-g.is))
-    (c.requires.before.lawful.thermal c.args.g c.requires.unit)
+unit_reach-requires-clause-lawful c = grind (arith, unit_read, c)
 
 pub returns-clause-range : goal.returns-clause-range
 returns-clause-range c =

@@ -1,11 +1,10 @@
 -- The row in turn is the unit's, of the commitment; so what the row breaks the unit's pattern does.
-use Rattle.std.proofs.Common.{◌≡◌, ℕ, ◌+◌, ◌<◌, ◌≤◌, ⊎_elim, [], length, sym, ap, subst, ◌∙◌, arith, Vec, Global, pos, false, slice_index_or, Some, None}
+use Rattle.std.proofs.Common.{◌≡◌, ℕ, ◌+◌, ◌<◌, ◌≤◌, ⊎_elim, [], length, sym, ap, subst, ◌∙◌, arith, pos, false, slice_index_or, Some, None}
 use Rattle.std.proofs.lemmas.List.{get_or_read, get_or-map, length-map}
 use Rattle.std.proofs.lemmas.Bool.{cases_lt}
 use Rattle.std.proofs.Math.ListN.{get_or-eq_default}
-use Rattle.uc_model.specs.Prelude.{IsLawfulThermal, cell_at, thermal_unit, thermal_count, no_unit}
+use Rattle.uc_model.specs.Prelude.{IsLawfulThermal, cell_at, thermal_unit, thermal_count}
 use Rattle.schedule_check.specs.SizedNumbers.{IsSized, IsSizedCell}
-use Rattle.uc_model.specs.declared.schedule.Cell.{Cell}
 use Rattle.dual_model.proofs.Locality.{SameBelow}
 use Rattle.schedule_check.specs.CommitmentRules.{IsFirstBrokenRule}
 use Rattle.schedule_check.specs.WholeWatts.{IsSizedRow, commitment, row_of}
@@ -20,18 +19,10 @@ within : (c : After-deref) → c.loop-unit.unit < thermal_count c.args.instance.
 within c = omega (arith, c.loop-unit-test.true, ap length c.as_slice-units.ensures)
 
 unit-is : (c : After-deref) → c.index-units-unit.result ≡ thermal_unit c.args.instance.now c.loop-unit.unit
-unit-is c =
-    get_or_read c.as_slice-units.result.now c.loop-unit.unit c.index-units-unit.result c.loop-unit-test.true c.index-units-unit.is no_unit
-    ∙ ap (λ xs. slice_index_or xs c.loop-unit.unit no_unit) c.as_slice-units.ensures
+unit-is c = grind (arith, get_or_read, slice_index_or)
 
 row-is : (c : After-deref) → row_of (printed_of c.args.rows.now) c.loop-unit.unit ≡ c.deref.result.now
-row-is c =
-    let rows = c.args.rows.now.thermal.items in
-    let inside : c.loop-unit.unit < length rows =
-    omega (arith, within c, c.requires.rows.shape.thermal, length-map rows (λ (row : Vec Cell Global). row.items)) in
-    get_or-map (λ (row : Vec Cell Global). row.items) rows c.loop-unit.unit c.index.result.now [] inside
-    ∙ ap (λ (row : Vec Cell Global). row.items) (sym c.index.ensures)
-    ∙ sym c.deref.ensures.value
+row-is c = grind (arith, within, length-map, get_or-map)
 
 width : (c : After-deref) → length c.deref.result.now ≡ c.args.instance.now.periods
 width c =

@@ -1,6 +1,5 @@
 -- Each row is cut to the periods.
-use Rattle.std.proofs.Common.{◌≡◌, sym, subst, ◌∙◌, IfOk}
-use Rattle.std.proofs.lemmas.Result.{IfOk-weaker}
+use Rattle.std.proofs.Common.{arith, ◌≡◌, IfOk}
 use Rattle.dispatch_repair.specs.Dispatch.{Printed, HasPeriods}
 use Rattle.dispatch_repair.specs.Rooms.{Rows, AreSameBelow, printed_of}
 use Rattle.dispatch_repair.proofs.RowsEdits.{cut_at, cut_same, cut_shape}
@@ -23,8 +22,7 @@ cut-is c = λ i. record {
 -- so what is printed of them is what is cut
 cut_printed : (c : goal.After-printed) (P : Printed → Type 0) → P (cut_at c.args.periods (printed_of c.args.rows)) → IfOk c.printed.result P
 unfolding cut_rows
-cut_printed c P h =
-    IfOk-weaker c.printed.result (λ (printed : Printed). printed ≡ printed_of (cut_rows c)) P (λ printed same. subst P (sym (same ∙ cut-is c)) h) c.printed.ensures
+cut_printed c P h = grind (arith, h)
 
 pub returns-clause-shape : goal.returns-clause-shape
 returns-clause-shape c = λ instance shape h.

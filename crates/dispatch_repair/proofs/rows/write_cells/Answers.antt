@@ -10,10 +10,7 @@ use Rattle.dispatch_repair.proofs.RowsWritten.{IsWrittenSoFar, written_more, lef
 use Rattle.dispatch_repair.proofs.rows.write_cells.Goals as goal
 
 pub write_cell-requires-clause-period : goal.write_cell-requires-clause-period
-write_cell-requires-clause-period c =
-    let before = c.loop-g.invariant in
-    let unit : c.loop-g.g < length c.args.rows.now.items = subst (λ k. c.loop-g.g < k) c.requires.units c.loop-g-test.true in
-    subst (λ row. c.args.t < length row) (sym (before.rows.rest c.loop-g.g (omega arith))) (c.requires.period c.loop-g.g unit)
+write_cell-requires-clause-period c = grind (arith, c)
 
 pub loop-g-preserved : goal.loop-g-preserved
 loop-g-preserved c =

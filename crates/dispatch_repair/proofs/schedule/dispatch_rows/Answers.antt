@@ -1,7 +1,7 @@
 -- A period more is filled, or the dispatch is stuck in it.
 use Rattle.std.proofs.Common.{arith, suc, subst, sym}
 use Rattle.dispatch_repair.specs.Rooms.{printed_of}
-use Rattle.dispatch_repair.proofs.Periods.{AreFilledBelow, begun, dispatch_through, next_filled, obstacle_of}
+use Rattle.dispatch_repair.proofs.Periods.{AreFilledBelow, begun, next_filled, obstacle_of}
 use Rattle.dispatch_repair.proofs.Writing.{written_is, written_shape}
 use Rattle.dispatch_repair.proofs.schedule.dispatch_rows.Goals as goal
 
@@ -18,13 +18,7 @@ returns-in-Err-clause-dispatch c =
     c.loop-t-test.true c.in-Err.ensures.dispatched
 
 pub dispatch_period-requires-clause-before : goal.dispatch_period-requires-clause-before
-dispatch_period-requires-clause-before c = record {
-  lawful = c.requires.lawful;
-  pattern_count = c.requires.patterns;
-  period = c.loop-t-test.true;
-  count = c.loop-t.invariant.room.amounts;
-  sizes = c.loop-t.invariant.filled.before.sizes;
-}
+dispatch_period-requires-clause-before c = grind (arith, c)
 
 pub loop-t-preserved : goal.loop-t-preserved
 loop-t-preserved c =
@@ -43,7 +37,4 @@ loop-t-preserved c =
     }
 
 pub returns-clause-dispatch : goal.returns-clause-dispatch
-returns-clause-dispatch c =
-    dispatch_through c.args.instance.now c.args.patterns.now (printed_of c.loop-t.rows) c.loop-t.room.amounts.items c.requires.regular
-    (subst (λ k. AreFilledBelow c.args.instance.now c.args.patterns.now k (printed_of c.loop-t.rows) c.loop-t.room.amounts.items)
-    (omega (arith, c.loop-t-test.false, c.loop-t.auto.t-end)) c.loop-t.invariant.filled)
+returns-clause-dispatch c = grind (arith, c)

@@ -1,13 +1,11 @@
 -- The rows are the schedule, or what is in the way ends it.
-use Rattle.std.proofs.Common.{subst, sym}
+use Rattle.std.proofs.Common.{arith}
 use Rattle.dispatch_repair.specs.Rooms.{printed_of}
-use Rattle.dispatch_repair.specs.Stuck.{IsDispatchOf}
 use Rattle.dispatch_repair.proofs.Periods.{stuck_of}
 use Rattle.dispatch_repair.proofs.schedule.dispatched.Goals as goal
 
 pub returns-in_ok-printed-in-None-clause-dispatch : goal.returns-in_ok-printed-in-None-clause-dispatch
-returns-in_ok-printed-in-None-clause-dispatch c =
-    subst (IsDispatchOf c.args.instance.now c.args.patterns.now) (sym c.in_ok-printed-in-None.ensures) c.in-None.ensures.dispatch
+returns-in_ok-printed-in-None-clause-dispatch c = grind (arith, c)
 
 pub returns-in_ok-stuck_at-in-Some-clause-fault : goal.returns-in_ok-stuck_at-in-Some-clause-fault
 returns-in_ok-stuck_at-in-Some-clause-fault c =

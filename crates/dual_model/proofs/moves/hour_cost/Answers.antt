@@ -8,8 +8,7 @@ use Rattle.dual_model.specs.declared.limits.TheConstants.{MAX_UNIT_PRICE}
 use Rattle.dual_model.proofs.moves.hour_cost.Goals as goal
 
 pub product-requires : goal.product-requires
-product-requires c =
-    product-fits c.args.price c.from.result MAX_UNIT_PRICE MAX_POWER c.requires.price (from-size c.args.minimum c.from.result MAX_POWER c.from.ensures c.requires.minimum) (lit< tt)
+product-requires c = grind (arith, product-fits, from-size, c)
 
 pub difference-requires : goal.difference-requires
 difference-requires c =

@@ -1,7 +1,7 @@
 -- A row's unit, and those before it that have no place yet, begin at the row.
 use Rattle.std.proofs.Common.{◌≡◌, suc, ◌+◌, ◌-◌, ◌<◌, ◌++◌, length, take, replicate, slice_index_or, pos, sym, subst, ◌∙◌, add-one, arith}
 use Rattle.std.proofs.lemmas.List.{take_all}
-use Rattle.dual_model.specs.Prices.{RampRow, ArePlacesOf}
+use Rattle.dual_model.specs.Prices.{RampRow}
 use Rattle.dual_model.proofs.UnitRows.{ArePlacesSoFar, all_places, more_places}
 use Rattle.dual_model.proofs.places.places_of.Goals as goal
 
@@ -22,7 +22,4 @@ loop-place-preserved c =
     (subst (λ places. ArePlacesSoFar rows (suc place) places) (sym items) step)
 
 pub returns : goal.returns
-returns c =
-    let all : c.loop-place.place ≡ length c.args.rows.now = omega (arith, c.loop-place-test.false, c.loop-place.invariant.within) in
-    subst (λ places. ArePlacesOf places c.args.rows.now) (sym c.from_vec.ensures)
-    (all_places c.args.rows.now c.loop-place.place c.loop-place.places.items all c.loop-place.invariant)
+returns c = grind (arith, all_places, c)

@@ -11,9 +11,7 @@ use Rattle.dual_value.proofs.ExactParts.{part-greater, part-within}
 use Rattle.dual_value.proofs.exact_part.part_with_ramps.Goals as goal
 
 sign : (constant other : ℤ) → unsigned_abs constant ≤ MAX_CONSTANT → constant ≡ other → le_z (pos 0) (to_z w128 (of_z w128 constant)) ≡ true → pos 0 ≤ℤ other
-sign constant other size same test =
-    let own = wide constant MAX_CONSTANT size (lit< tt) in
-    grind (arith, ints)
+sign constant other size same test = grind (arith, ints, size, same, test)
 
 pub returns-then-keeps_ramps-clause-part : goal.returns-then-keeps_ramps-clause-part
 returns-then-keeps_ramps-clause-part c = λ node fix best.

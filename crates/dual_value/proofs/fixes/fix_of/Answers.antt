@@ -1,5 +1,5 @@
 -- One fixing more, of the unit or of another one.
-use Rattle.std.proofs.Common.{◌≡◌, ℕ, suc, ◌<◌, ◌≤◌, ◌&&◌, add-one, false, drop, length, sym, ap, subst, ◌∙◌, Option, Some, None, IfSome, true≢false}
+use Rattle.std.proofs.Common.{arith, ◌≡◌, ℕ, suc, ◌<◌, ◌&&◌, add-one, false, drop, length, sym, subst, Option, Some, None, IfSome}
 use Rattle.std.specs.List.{list_all}
 use Rattle.uc_model.specs.Prelude.{Commitment}
 use Rattle.dual_model.specs.Prelude.{fix_agrees, keeps_of, unit_agrees}
@@ -20,16 +20,11 @@ more node g i fix next result h e decided plain is left =
     let with_it = subst (IsFixWith fix (fixing_at node.fixings i)) is decided in
     record {
       plain = subst (λ o. IfSome o IsPlain) is plain;
-      same = λ periods on below.
-          fixing-of node g i (fix_agrees periods fix on) (fix_agrees periods next on) on h e
-          (with_it periods on (below i _ h)) (left.same periods on below);
+      same = λ periods on below. grind (arith, fixing-of, node, g, i, periods, fix, on, next, h, e, with_it, below, left);
     }
 
 other : (node : Node) (g i : ℕ) (fix : Fix) → i < length node.fixings → ((fixing_at node.fixings i).g ≡ g → ⊥) → AreLeft node g fix i → AreLeft node g fix (suc i)
-other node g i fix h e left = record {
-  plain = left.plain;
-  same = λ periods on below. fixing-other node g i (fix_agrees periods fix on) on h e (left.same periods on below);
-}
+other node g i fix h e left = grind (arith, fixing-other, h, e, left)
 
 none : (node : Node) (g i : ℕ) (fix : Fix) (result : Option Fix) → i < length node.fixings → (fixing_at node.fixings i).g ≡ g
     → IsFixWith fix (fixing_at node.fixings i) result → result ≡ None → AreLeft node g fix i
@@ -39,12 +34,7 @@ none node g i fix result h e decided is left periods below on =
     fixing-of node g i (fix_agrees periods fix on) false on h e (with_it periods on (below i _ h)) (left.same periods on below)
 
 pub loop-fixing-init : goal.loop-fixing-init
-loop-fixing-init c = record {
-  plain = λ t on. absurd (true≢false (sym on ∙ c.all_off-2.ensures t));
-  same = λ periods on below.
-      sym (ap (λ b. b && unit_agrees c.args.node.now c.args.g on)
-      (nothing-agrees periods (record { known = c.all_off.result; on = c.all_off-2.result }) on c.all_off.ensures));
-}
+loop-fixing-init c = grind (arith, nothing-agrees, c)
 
 pub loop-fixing-preserved : goal.loop-fixing-preserved
 loop-fixing-preserved c =
@@ -85,8 +75,4 @@ returns-in-None c =
     (record { plain = c.loop-fixing.invariant.plain; same = c.loop-fixing.invariant.same })
 
 pub returns : goal.returns
-returns c = λ periods below. record {
-  same = λ on. none-left c.args.node.now c.args.g c.loop-fixing.fixing-index (fix_agrees periods c.loop-fixing.fix on) on
-      (subst (λ xs. length xs ≤ c.loop-fixing.fixing-index) c.as_slice-fixing-items.ensures c.loop-fixing-test.false)
-      (c.loop-fixing.invariant.same periods on below);
-}
+returns c = grind (arith, none-left, c)

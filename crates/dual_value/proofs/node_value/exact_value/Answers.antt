@@ -1,6 +1,6 @@
 -- The kind of value is that of the room.
-use Rattle.std.proofs.Common.{IfOk, IfErr, sym, subst}
-use Rattle.dual_value.specs.NodeAnswer.{IsFaultOfKind, IsValuedOf}
+use Rattle.std.proofs.Common.{arith, IfOk, sym, subst}
+use Rattle.dual_value.specs.NodeAnswer.{IsValuedOf}
 use Rattle.dual_value.specs.Rooms.{IsRoomFor}
 use Rattle.dual_value.proofs.node_value.exact_value.Goals as goal
 
@@ -12,5 +12,4 @@ returns-clause-value c =
     subst (λ b. IfOk c.valued.result (IsValuedOf b c.args.instance.now c.args.node.now c.args.table.now)) c.requires.room.kind c.valued.ensures.value
 
 pub returns-clause-fault : goal.returns-clause-fault
-returns-clause-fault c =
-    subst (λ b. IfErr c.valued.result (IsFaultOfKind b c.args.instance.now c.args.node.now)) c.requires.room.kind c.valued.ensures.fault
+returns-clause-fault c = grind (arith, c)

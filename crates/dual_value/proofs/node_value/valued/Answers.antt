@@ -1,52 +1,32 @@
 -- One unit more, the first one that is blocked, or the whole.
-use Rattle.std.proofs.Common.{◌≡◌, ◌+◌, ◌*◌, ◌<◌, ◌≤◌, length, refl, sym, ap, subst, ◌∙◌, lit<, arith, ◌+ℤ◌, to_z, of_z, unsigned_abs}
+use Rattle.std.proofs.Common.{◌≡◌, ◌+◌, ◌*◌, ◌<◌, ◌≤◌, length, sym, ap, subst, ◌∙◌, lit<, arith, ◌+ℤ◌, to_z, of_z, unsigned_abs}
 use Rattle.std.specs.Int.{w128}
 use Rattle.uc_model.specs.Prelude.{thermal_count}
-use Rattle.uc_model.proofs.Common.{abs_add, sum-fits, sum-is, sum-size, wide-size}
+use Rattle.uc_model.proofs.Common.{abs_add, sum-is, sum-size, wide-size}
 use Rattle.uc_model.proofs.Sizes.{wide}
-use Rattle.dual_value.specs.NodeAnswer.{HasSizes, IsFaultOfKind, IsPartFault, IsPartOfKind, IsValuedOf, MAX_PART}
-use Rattle.dual_value.specs.Rooms.{IsRoomFor, keeps_ramps}
+use Rattle.dual_value.specs.NodeAnswer.{HasSizes, IsPartOfKind, MAX_PART}
+use Rattle.dual_value.specs.Rooms.{keeps_ramps}
 use Rattle.system_value.specs.Sizes.{MAX_RENEWABLES, MAX_SYSTEM}
 use Rattle.dual_value.proofs.ValuedUnits.{err-only, first-without, sized-all, valued-all, valued-more, valued-none, IsValuedTo}
 use Rattle.dual_value.proofs.node_value.valued.Goals as goal
 
 pub sum-total-requires : goal.sum-total-requires
-sum-total-requires c =
-    sum-fits c.system_value.result c.renewables_value.result MAX_SYSTEM MAX_RENEWABLES c.system_value.ensures.size c.renewables_value.ensures.size (lit< tt)
+sum-total-requires c = grind (arith, c)
 
 pub sum-total-requires-in-loop-g : goal.sum-total-requires-in-loop-g
-sum-total-requires-in-loop-g c =
-    omega (arith, c.loop-g-test.true, ap length c.as_slice-units.ensures, c.requires.lawful.thermal_units, c.loop-g.invariant.valued.size, wide-size c.in_ok-part.part MAX_PART c.in_ok-part.ensures.size)
+sum-total-requires-in-loop-g c = grind (arith, c)
 
 pub loop-g-init : goal.loop-g-init
-loop-g-init c =
-    let size = sum-size c.system_value.result c.renewables_value.result c.sum-total.result MAX_SYSTEM MAX_RENEWABLES c.sum-total.ensures c.system_value.ensures.size c.renewables_value.ensures.size in
-    record {
-      valued = valued-none (keeps_ramps c.args.room.now) c.args.instance.now c.args.node.now c.args.table.now (to_z w128 (of_z w128 c.sum-total.result)) c.in_ok-parts.parts.items c.in_ok-patterns.patterns.items
-          (c.in_ok-parts.ensures ∙ ap length c.as_slice-units.ensures) (c.in_ok-patterns.ensures ∙ ap length c.as_slice-units.ensures)
-          (wide c.sum-total.result (MAX_SYSTEM + MAX_RENEWABLES) size (lit< tt)
-          ∙ sum-is c.system_value.result c.renewables_value.result c.sum-total.result MAX_SYSTEM MAX_RENEWABLES c.sum-total.ensures c.system_value.ensures.size c.renewables_value.ensures.size (lit< tt)
-          ∙ (λ i. c.system_value.ensures.value i +ℤ c.renewables_value.ensures.value i))
-          (wide-size c.sum-total.result (MAX_SYSTEM + MAX_RENEWABLES) size);
-      scratch = refl;
-      room = refl;
-    }
+loop-g-init c = grind (arith, sum-size, valued-none, wide, sum-is, wide-size, c)
 
 pub unit_part-requires-clause-unit : goal.unit_part-requires-clause-unit
 unit_part-requires-clause-unit c = omega (arith, c.loop-g-test.true, ap length c.as_slice-units.ensures)
 
 pub unit_part-requires-clause-room : goal.unit_part-requires-clause-room
-unit_part-requires-clause-room c =
-    subst (λ room. IsRoomFor (keeps_ramps room) c.args.instance.now room) (sym c.loop-g.invariant.room) c.requires.room
+unit_part-requires-clause-room c = grind (arith, c)
 
 pub returns-in_err-part-clause-fault : goal.returns-in_err-part-clause-fault
-returns-in_err-part-clause-fault c =
-    let g = c.loop-g.g in
-    let fault : IsFaultOfKind (keeps_ramps c.args.room.now) c.args.instance.now c.args.node.now c.in_err-part.field-0.0 =
-    first-without (keeps_ramps c.args.room.now) c.args.instance.now c.args.node.now c.args.table.now g (to_z w128 c.loop-g.total-bits) c.loop-g.parts.items c.loop-g.patterns.items c.in_err-part.field-0.0
-    (omega (arith, c.loop-g-test.true, ap length c.as_slice-units.ensures)) c.loop-g.invariant.valued
-    (subst (λ room. IsPartFault (keeps_ramps room) c.args.instance.now c.args.node.now g c.in_err-part.field-0.0) c.loop-g.invariant.room c.in_err-part.ensures.fault) in
-    err-only c.from_residual-in_err-part.result c.in_err-part.field-0.0 (IsFaultOfKind (keeps_ramps c.args.room.now) c.args.instance.now c.args.node.now) c.from_residual-in_err-part.ensures.1 fault
+returns-in_err-part-clause-fault c = grind (arith, first-without, err-only, c)
 
 pub loop-g-preserved : goal.loop-g-preserved
 loop-g-preserved c =
@@ -71,13 +51,7 @@ loop-g-preserved c =
     }
 
 pub returns-clause-value : goal.returns-clause-value
-returns-clause-value c =
-    let whole : c.loop-g.g ≡ thermal_count c.args.instance.now = omega (arith, c.loop-g-test.false, ap length c.as_slice-units.ensures) in
-    let all = valued-all (keeps_ramps c.args.room.now) c.args.instance.now c.args.node.now c.args.table.now (to_z w128 c.loop-g.total-bits) c.loop-g.parts.items c.loop-g.patterns.items
-    c.requires.lawful.thermal_units
-    (subst (λ n. IsValuedTo (keeps_ramps c.args.room.now) c.args.instance.now c.args.node.now c.args.table.now n (to_z w128 c.loop-g.total-bits) c.loop-g.parts.items c.loop-g.patterns.items) whole c.loop-g.invariant.valued) in
-    subst (λ parts. IsValuedOf (keeps_ramps c.args.room.now) c.args.instance.now c.args.node.now c.args.table.now (record { total = to_z w128 c.loop-g.total-bits; parts = parts; patterns = c.from_vec-2.result })) (sym c.from_vec.ensures)
-    (subst (λ patterns. IsValuedOf (keeps_ramps c.args.room.now) c.args.instance.now c.args.node.now c.args.table.now (record { total = to_z w128 c.loop-g.total-bits; parts = c.loop-g.parts.items; patterns = patterns })) (sym c.from_vec-2.ensures) all)
+returns-clause-value c = grind (arith, valued-all, c)
 
 pub returns-clause-sizes : goal.returns-clause-sizes
 returns-clause-sizes c =

@@ -1,14 +1,11 @@
 -- The value with the constant, or the greater of that and the exact value.
-use Rattle.std.proofs.Common.{◌≡◌, lit<, true, false, sym, ap, subst, ◌∙◌, arith, ◌+ℤ◌, to_z, of_z, [], length, Option, IfSome, IfOk, IfErr}
+use Rattle.std.proofs.Common.{◌≡◌, lit<, true, false, sym, ap, subst, ◌∙◌, arith, ◌+ℤ◌, to_z, of_z, IfOk}
 use Rattle.std.specs.Int.{w128}
 use Rattle.std.specs.Option.{is_some}
 use Rattle.std.proofs.lemmas.List.{get_or_read}
-use Rattle.uc_model.specs.Prelude.{thermal_unit}
 use Rattle.uc_model.proofs.Sizes.{wide}
-use Rattle.cost_curves.specs.LowerHull.{IsLowerHull}
-use Rattle.cost_curves.specs.UnitCurves.{curve_in}
-use Rattle.dual_value.specs.NodeAnswer.{IsPartFault, IsPartOfKind, MAX_PART}
-use Rattle.dual_value.specs.Rooms.{IsSizeOf, RoomOf, Size, keeps_ramps}
+use Rattle.dual_value.specs.NodeAnswer.{IsPartOfKind, MAX_PART}
+use Rattle.dual_value.specs.Rooms.{keeps_ramps}
 use Rattle.dual_value.proofs.units.part_in.Goals as goal
 
 pub returns-in_default-clause-part : goal.returns-in_default-clause-part
@@ -23,16 +20,10 @@ returns-in_default-clause-part c = λ node fix best.
     })
 
 pub part_with_ramps-requires-clause-curve : goal.part_with_ramps-requires-clause-curve
-part_with_ramps-requires-clause-curve c =
-    let curves = ap (λ (r : RoomOf). r.curves) c.room.view_is in
-    let count = c.requires.room.curves.count in
-    let read = get_or_read c.room.inside.curves.items c.args.g c.index.result.now (omega (arith, c.requires.unit, count, ap length curves)) c.index.ensures [] in
-    subst (IsLowerHull (thermal_unit c.args.instance.now c.args.g).points) (sym (read ∙ ap (λ xs. curve_in xs c.args.g) curves)) (c.requires.room.curves.curve c.args.g c.requires.unit)
+part_with_ramps-requires-clause-curve c = grind (arith, get_or_read, c)
 
 pub part_with_ramps-requires-clause-points : goal.part_with_ramps-requires-clause-points
-part_with_ramps-requires-clause-points c =
-    let there = sym (ap (λ (r : RoomOf). r.exact) c.room.view_is) ∙ c.in-Some.is in
-    (subst (λ (o : Option Size). IfSome o (IsSizeOf c.args.instance.now)) there c.requires.room.size).points c.args.g c.requires.unit
+part_with_ramps-requires-clause-points c = grind (arith, c)
 
 pub returns-clause-part : goal.returns-clause-part
 returns-clause-part c = λ node fix best.
@@ -41,6 +32,4 @@ returns-clause-part c = λ node fix best.
     (c.part_with_ramps.ensures.part node fix best)
 
 pub returns-clause-fault : goal.returns-clause-fault
-returns-clause-fault c = λ node fix.
-    let exact : keeps_ramps c.args.room.now ≡ true = sym (ap keeps_ramps c.room.view_is) ∙ ap is_some c.in-Some.is in
-    subst (λ b. IfErr c.part_with_ramps.result (IsPartFault b c.args.instance.now node c.args.g)) (sym exact) (c.part_with_ramps.ensures.fault node fix)
+returns-clause-fault c = grind (arith, c)

@@ -5,11 +5,8 @@ use Rattle.uc_model.specs.Prelude.{IsLawfulThermal, commitment_of, thermal_count
 use Rattle.uc_model.specs.declared.instance.Thermal.{Thermal}
 use Rattle.uc_model.proofs.Common.{wide-size}
 use Rattle.uc_model.proofs.Sizes.{wide}
-use Rattle.cost_curves.specs.LowerHull.{IsLowerHull}
-use Rattle.cost_curves.specs.UnitCurves.{curve_in}
-use Rattle.dual_model.specs.Prelude.{MAX_COST_TO_GO, IsCell, IsNodeOf, unit_constant, AreSizedTerms, IsBestPattern, IsBlocked}
+use Rattle.dual_model.specs.Prelude.{MAX_COST_TO_GO, IsCell, IsNodeOf, IsBestPattern, IsBlocked}
 use Rattle.dual_model.specs.Fixings.{HasNoPattern}
-use Rattle.ramp_duals.specs.Sizes.{MAX_CONSTANT}
 use Rattle.unit_exact.proofs.Found.{unit-read}
 use Rattle.dual_value.specs.NodeAnswer.{Instance, IsPartFault, IsPartOfKind}
 use Rattle.dual_value.specs.Rooms.{keeps_ramps}
@@ -45,19 +42,7 @@ unit_terms-requires-clause-lawful c =
     (c.requires.lawful.thermal c.args.g c.requires.unit)
 
 pub unit_terms-requires-clause-place : goal.unit_terms-requires-clause-place
-unit_terms-requires-clause-place c =
-    let room = c.args.room.now in
-    let lawful = c.requires.lawful in
-    record {
-      within = omega (arith, c.requires.unit, c.requires.room.curves.count);
-      number = omega (arith, c.requires.unit, lawful.thermal_units);
-      curve = subst (λ (unit : Thermal). IsLowerHull unit.points (curve_in room.curves c.args.g))
-          (unit-is c.args.instance.now c.as_slice.result.now c.args.g c.index-as_slice-g.result c.as_slice.ensures c.requires.unit c.index-as_slice-g.is)
-          (c.requires.room.curves.curve c.args.g c.requires.unit);
-      periods = (omega (arith, c.requires.room.periods, lawful.periods.0), omega (arith, c.requires.room.periods, lawful.periods.1));
-      prices = c.requires.size.periods ∙ sym c.requires.room.periods;
-      scale = c.requires.size.form.scale;
-    }
+unit_terms-requires-clause-place c = grind (arith, unit-is, c)
 
 pub least-requires-clause-room : goal.least-requires-clause-room
 least-requires-clause-room c = c.requires.memory ∙ sym c.requires.room.periods ∙ sym c.in_ok-terms.ensures.periods
@@ -94,22 +79,13 @@ part_in-requires-clause-terms c =
     c.in_ok-terms.ensures.at_table instance same (sym c.requires.room.periods)
 
 pub part_in-requires-clause-sized : goal.part_in-requires-clause-sized
-part_in-requires-clause-sized c =
-    subst (λ (unit : Thermal). AreSizedTerms unit c.in_ok-terms.terms)
-    (sym (unit-is c.args.instance.now c.as_slice.result.now c.args.g c.index-as_slice-g.result c.as_slice.ensures c.requires.unit c.index-as_slice-g.is)) c.in_ok-terms.ensures.sized
+part_in-requires-clause-sized c = grind (arith, unit-is, c)
 
 pub part_in-requires-clause-constant : goal.part_in-requires-clause-constant
-part_in-requires-clause-constant c =
-    let same = unit-is c.args.instance.now c.as_slice.result.now c.args.g c.index-as_slice-g.result c.as_slice.ensures c.requires.unit c.index-as_slice-g.is in
-    wide c.constant.result MAX_CONSTANT (c.constant.ensures.size c.requires.limits) (lit< tt)
-    ∙ c.constant.ensures.value
-    ∙ (λ i. unit_constant (c.requires.size.periods i) c.args.table.now (sym same i) c.args.g)
+part_in-requires-clause-constant c = grind (arith, unit-is, wide, c)
 
 pub part_in-requires-clause-numbers : goal.part_in-requires-clause-numbers
-part_in-requires-clause-numbers c = record {
-  value = wide-size c.in-Some-least.value MAX_COST_TO_GO c.in-Some-least.ensures.size;
-  constant = wide-size c.constant.result MAX_CONSTANT (c.constant.ensures.size c.requires.limits);
-}
+part_in-requires-clause-numbers c = grind (arith, wide-size, c)
 
 pub returns-clause-part : goal.returns-clause-part
 returns-clause-part c =

@@ -1,11 +1,10 @@
 -- The outputs that the hour may have, with what they cost.
-use Rattle.std.proofs.Common.{◌≡◌, ℕ, ◌*◌, ◌≤◌, Bool, true, sym, subst, arith, ℤ, pos, ◌≤ℤ◌, to_z, of_z, unsigned_abs}
+use Rattle.std.proofs.Common.{◌≡◌, ℕ, ◌≤◌, Bool, true, sym, subst, arith, ℤ, pos, ◌≤ℤ◌, to_z, of_z, unsigned_abs}
 use Rattle.std.specs.Int.{w64, int_max, int_min}
 use Rattle.std.proofs.lemmas.Int.{ints, clamps}
 use Rattle.step_functions.specs.Functions.{Steps, last_place}
 use Rattle.hull_function.specs.Hours.{Hour, IsSizedHour, MAX_RUN}
 use Rattle.hull_function.specs.Hulls.{IsBounded, IsHullFunction}
-use Rattle.hull_function.specs.Problems.{MAX_POWER}
 use Rattle.hull_function.proofs.HourSums.{near-hull, output-bounded}
 use Rattle.hull_function.proofs.Represented.{IsCut, SamePlaces, none-left, outputs-left, place_from, uncut-place}
 use Rattle.hull_function.proofs.costs.add_outputs.Goals as goal
@@ -14,11 +13,7 @@ use Rattle.hull_function.proofs.costs.add_outputs.Goals.{After-add_output, After
 -- the hour's limit as its bits
 limit : (hour : Hour) (hull : Steps) (last least : ℤ) → IsSizedHour hour → IsHullFunction hull → last ≡ last_place hull
     → least ≡ int_min (to_z w64 (of_z w64 hour.cap)) (to_z w64 (of_z w64 last)) → to_z w64 (of_z w64 least) ≡ int_min hour.cap (last_place hull)
-limit hour hull last least sized is = by hour.cap (last_place hull) last least sized.cap is.last.0 is.last.1
-  where
-    by : (most w last least : ℤ) → unsigned_abs most ≤ MAX_POWER → pos 0 ≤ℤ w → w ≤ℤ pos (2 * MAX_POWER) → last ≡ w
-        → least ≡ int_min (to_z w64 (of_z w64 most)) (to_z w64 (of_z w64 last)) → to_z w64 (of_z w64 least) ≡ int_min most w
-    by most w last least a b c e d = omega (arith, ints, clamps)
+limit hour hull last least sized is = grind (arith, ints, sized, is)
 
 -- what is cut, where it ends, and how large it is
 cut_is : (c : After-cut) → IsCut c.args.function.now c.cut.new.self (pos 0) (int_min c.args.hour.now.cap (last_place c.args.hull.now)) c.cut.result
@@ -37,17 +32,10 @@ added : (c : After-add_output) → SamePlaces c.cut.new.self c.add_output.new.fu
 added c = record { first = c.add_output.ensures.first; last = c.add_output.ensures.last }
 
 pub cut-requires-clause-high : goal.cut-requires-clause-high
-cut-requires-clause-high c =
-    let is = limit c.args.hour.now c.args.hull.now c.last.result c.min.result c.requires.hour c.requires.hull c.last.ensures.value c.min.ensures.value in
-    let most = c.requires.hour.cap in
-    let low = c.requires.hull.last.0 in
-    let high = c.requires.hull.last.1 in
-    omega (arith, ints, clamps, is)
+cut-requires-clause-high c = grind (arith, ints, c)
 
 pub returns-then-not-cut-clause-costs : goal.returns-then-not-cut-clause-costs
-returns-then-not-cut-clause-costs c = λ table unit t others is_hull at is.
-    none-left table unit t c.args.hull.now c.args.hour.now is_hull at c.args.function.now c.cut.new.self c.cut.result others is
-    (cut_is (goal.at.returns-then-not-cut-clause-costs c).After-cut) c.if-not-cut.true c.cut.new.self
+returns-then-not-cut-clause-costs c = grind (arith, ints, none-left, cut_is, After-cut, c)
 
 pub add_output-requires-clause-low : goal.add_output-requires-clause-low
 add_output-requires-clause-low c = low c.args.function.now.first c.cut.new.self.first (c.cut.ensures.first c.if-not-cut.false)

@@ -7,7 +7,7 @@ use Rattle.step_functions.specs.Functions.{Steps, IsPlace, IsSmall, shortfall, v
 use Rattle.unit_runs.specs.CostThrough.{reserve_cost}
 use Rattle.hull_function.specs.Hours.{Hour, IsSizedHour}
 use Rattle.hull_function.proofs.HourSums.{cap-size, constant-is, earned-is, place-is, reserve-bounded, reserve-small, reserve-value, short-small, worth-wide}
-use Rattle.hull_function.proofs.Represented.{SamePlaces, place_from, with-more}
+use Rattle.hull_function.proofs.Represented.{SamePlaces, with-more}
 use Rattle.hull_function.proofs.costs.add_reserve.Goals as goal
 use Rattle.hull_function.proofs.costs.add_reserve.Goals.{After-add_constant}
 
@@ -16,8 +16,7 @@ short : (hour : Hour) (f g : Steps) (up worth : ℤ) → IsSizedHour hour → Is
     → ((q : ℤ) → IsPlace g q → value_at g q
     ≡ value_at f q +ℤ to_z w128 (of_z w128 worth) *ℤ shortfall (to_z w64 (of_z w64 (to_z w64 (of_z w64 hour.cap) -ℤ to_z w64 (of_z w64 up)))) q)
     → (q : ℤ) → IsPlace g q → value_at g q ≡ value_at f q +ℤ hour.worth *ℤ shortfall (hour.cap -ℤ up) q
-short hour f g up worth sized limit e value q at =
-    value q at ∙ (λ i. value_at f q +ℤ worth-wide hour sized worth e i *ℤ shortfall (place-is hour sized up limit i) q)
+short hour f g up worth sized limit e value q at = grind (arith, ints, worth-wide, place-is, sized, limit, e, value, at)
 
 same : (c : After-add_constant) → SamePlaces c.args.function.now c.add_constant.new.self
 same c = record { first = c.add_constant.ensures.first ∙ c.add_shortfall.ensures.first; last = c.add_constant.ensures.last ∙ c.add_shortfall.ensures.last }
@@ -74,5 +73,4 @@ returns-clause-size c = λ size small.
     reserve-bounded c.args.hour.now c.requires.hour c.args.unit.now.ru c.requires.unit.ramp_up c.args.function.now c.add_constant.new.self size c.requires.near (same here) (reserve here) small
 
 pub returns-clause-near : goal.returns-clause-near
-returns-clause-near c = λ times near p place.
-    near p (place_from c.args.function.now c.add_constant.new.self p (same (goal.at.returns-clause-near c).After-add_constant) place)
+returns-clause-near c = grind (arith, ints, c)

@@ -15,12 +15,7 @@ use Rattle.hull_function.proofs.hull.add_segment.Goals as goal
 use Rattle.hull_function.proofs.hull.add_segment.Goals.{After-run, After-segment, After-slope}
 
 pub segment-requires-clause-high : goal.segment-requires-clause-high
-segment-requires-clause-high c =
-    let width = whole_width c.args.points.now c.args.curve.now c.requires.curve in
-    let more = c.requires.more in
-    let value = c.last-place.ensures.value in
-    let within = c.last-place.ensures.within in
-    omega (arith, ints, width)
+segment-requires-clause-high c = grind (arith, ints, whole_width, c)
 
 pub run-requires-clause-from : goal.run-requires-clause-from
 run-requires-clause-from c = c.requires.curve.lawful.each 0 c.requires.curve.lawful.some
@@ -59,9 +54,7 @@ run_on c =
       next = next;
       small = subst (λ z. unsigned_abs z ≤ 2 * MAX_POWER) read.end_is read.end_size;
       end = sym (run_is ∙ read.end_is) ∙ c.steps_between-length.ensures ∙ ap (λ z. z +ℤ pos c.steps_between-length.result) place_is;
-      is = to_z-of_z w128 c.slope.result fits
-          ∙ slope-is points c.args.k next.s c.segment.result.0 c.segment.result.1 (to_z w64 (of_z w64 c.args.k)) c.slope.result next.on.under next.left_is next.right_is
-          scale c.slope.ensures;
+      is = grind (arith, ints, to_z-of_z, slope-is, c, fits, points, next, scale);
     }
 
 pub run-requires-clause-to : goal.run-requires-clause-to

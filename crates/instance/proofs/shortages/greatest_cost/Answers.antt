@@ -1,9 +1,9 @@
 -- Two numbers of known sizes, over the instance's periods.
-use Rattle.std.proofs.Common.{ℕ, ◌+◌, ◌*◌, ◌^◌, ◌∙◌, lit<, pos, ◌+ℤ◌, ◌*ℤ◌, ℤ, List, length, slice_index_or}
+use Rattle.std.proofs.Common.{arith, ℕ, ◌+◌, ◌*◌, ◌^◌, ◌∙◌, lit<, pos, ◌+ℤ◌, ◌*ℤ◌, ℤ, List, length, slice_index_or}
 use Rattle.std.specs.Int.{int_max}
 use Rattle.uc_model.specs.Prelude.{sum_below, most_shed, most_short}
 use Rattle.uc_model.specs.declared.limits.TheConstants.{MAX_PERIODS, MAX_POWER}
-use Rattle.uc_model.proofs.Common.{sum-fits, sum-is, sum-size}
+use Rattle.uc_model.proofs.Common.{sum-is, sum-size}
 use Rattle.uc_model.proofs.Sizes.{wide}
 use Rattle.instance.proofs.shortages.greatest_cost.Goals as goal
 
@@ -16,8 +16,7 @@ above_zero powers = sum_below (length powers) (λ t. int_max (slice_index_or pow
 
 pub sum-requires : goal.sum-requires
 unfolding most
-sum-requires c =
-    sum-fits c.most_cost-unserved.result c.most_cost-missing.result most most c.most_cost-unserved.ensures.size c.most_cost-missing.ensures.size (lit< tt)
+sum-requires c = grind (arith, c)
 
 pub returns : goal.returns
 unfolding most above_zero

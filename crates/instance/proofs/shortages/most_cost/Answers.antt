@@ -1,5 +1,5 @@
 -- A product of known size.
-use Rattle.std.proofs.Common.{◌*◌, ◌^◌, ◌≤◌, ◌∙◌, sym, subst, arith, lit<, ◌*ℤ◌, unsigned_abs}
+use Rattle.std.proofs.Common.{◌*◌, ◌^◌, ◌≤◌, sym, subst, arith, unsigned_abs}
 use Rattle.uc_model.specs.declared.limits.TheConstants.{MAX_PERIODS, MAX_POWER}
 use Rattle.uc_model.proofs.Common.{narrow, scaled-size, wide-size}
 use Rattle.uc_model.proofs.Sizes.{wide}
@@ -11,9 +11,6 @@ returns c =
     let size : unsigned_abs c.scaled.result ≤ 2 ^ 32 * (MAX_PERIODS * MAX_POWER) =
     scaled-size c.from.result c.above_zero.result c.scaled.result (2 ^ 32) (MAX_PERIODS * MAX_POWER) c.scaled.ensures price c.above_zero.ensures.size in
     record {
-      value = wide c.scaled.result (2 ^ 32 * (MAX_PERIODS * MAX_POWER)) size (lit< tt)
-          ∙ c.scaled.ensures
-          ∙ (λ i. narrow c.from.result (2 ^ 32) price (lit< tt) i *ℤ narrow c.above_zero.result (MAX_PERIODS * MAX_POWER) c.above_zero.ensures.size (lit< tt) i)
-          ∙ (λ i. c.from.ensures i *ℤ c.above_zero.ensures.value i);
+      value = grind (arith, wide, narrow, c, size, price);
       size = wide-size c.scaled.result (2 ^ 32 * (MAX_PERIODS * MAX_POWER)) size;
     }

@@ -1,5 +1,5 @@
 -- The entries that were reckoned are those of the table, and add up to the node's value.
-use Rattle.std.proofs.Common.{List, lit<, refl, sym, subst, arith, MatchOption, inr}
+use Rattle.std.proofs.Common.{lit<, refl, sym, subst, arith, MatchOption, inr}
 use Rattle.std.specs.Vec.{with_items}
 use Rattle.std.proofs.lemmas.List.{with_items_is}
 use Rattle.uc_model.specs.Prelude.{thermal_count}
@@ -7,7 +7,6 @@ use Rattle.uc_model.proofs.Sizes.{wide}
 use Rattle.dual_model.specs.Prelude.{IsWithin, HasEmptyUnit, IsNodeValue}
 use Rattle.leaf_values.specs.Entries.{MAX_NODE_VALUE}
 use Rattle.leaf_values.specs.inside.Totals.{AreReckonedFor}
-use Rattle.leaf_values.specs.declared.entries.UnitEntry.{UnitEntry}
 use Rattle.leaf_values.proofs.ExactSums.{empty-unscheduled}
 use Rattle.leaf_values.proofs.NodeTotals.{decided_units, entries_kept, node_answer, values_at}
 use Rattle.leaf_values.proofs.exact.exact_reaches.Goals as goal
@@ -16,14 +15,7 @@ use Rattle.leaf_values.proofs.exact.exact_reaches.Goals.{After-reckon_each}
 -- the units' entries after the reckoning
 reckoned : (c : After-reckon_each) → AreReckonedFor c.args.instance.now c.args.fixes.now (thermal_count c.args.instance.now) c.args.entries.now.units.items
     (with_items c.args.entries.now.units c.reckon_each.new.units).items
-reckoned c =
-    let instance = c.args.instance.now in
-    let fixes = c.args.fixes.now in
-    let old = c.args.entries.now in
-    let is = with_items_is old.units c.reckon_each.new.units (omega (arith, c.reckon_each.auto.units, c.as_mut_slice.ensures.len)) in
-    subst (AreReckonedFor instance fixes (thermal_count instance) old.units.items) (sym is)
-    (subst (λ (units : List UnitEntry). AreReckonedFor instance fixes (thermal_count instance) units c.reckon_each.new.units)
-    c.as_mut_slice.ensures.value c.reckon_each.ensures.units)
+reckoned c = grind (arith, with_items_is)
 
 pub reaches_from-requires-clause-entries : goal.reaches_from-requires-clause-entries
 reaches_from-requires-clause-entries c =

@@ -1,11 +1,11 @@
 -- One unit more, and what is answered of the sum so far.
-use Rattle.std.proofs.Common.{◌≡◌, ℕ, ◌*◌, ◌<◌, ◌≤◌, arith, List, refl, sym, ap, subst, ◌∙◌, to_z, of_z, unsigned_abs, inr}
+use Rattle.std.proofs.Common.{◌≡◌, ℕ, ◌*◌, ◌<◌, arith, List, refl, sym, ap, subst, ◌∙◌, to_z, of_z, inr}
 use Rattle.std.specs.Int.{w128}
 use Rattle.std.proofs.lemmas.Int.{to_z-of_z}
 use Rattle.uc_model.specs.Prelude.{thermal_count}
 use Rattle.uc_model.specs.declared.limits.TheConstants.{MAX_UNITS}
-use Rattle.dual_model.specs.Prelude.{IsWithin, MAX_COST_TO_GO, IsFixOf}
-use Rattle.leaf_values.specs.Entries.{UnitEntry, MAX_CONSTANT, MAX_NODE_VALUE, entry_in}
+use Rattle.dual_model.specs.Prelude.{IsWithin, IsFixOf}
+use Rattle.leaf_values.specs.Entries.{UnitEntry, entry_in}
 use Rattle.leaf_values.specs.Paths.{Node}
 use Rattle.leaf_values.specs.Reached.{least_value}
 use Rattle.leaf_values.specs.inside.ExactTotals.{IsGained, MAX_PART}
@@ -19,9 +19,7 @@ unit-known : (g end len long count : ℕ) → g < end → end ≡ len → len �
 unit-known g end len long count before is same all = omega (arith, before, is, same, all)
 
 known_unit : (c : After-is_reached) → c.loop-g.g < thermal_count c.args.instance.now
-known_unit c =
-    unit-known c.loop-g.g c.len-g-end.result c.args.entries.now.units.len _ (thermal_count c.args.instance.now) c.loop-g-test.true c.len-g-end.ensures
-    c.args.entries.now.units.ok.0 c.requires.entries.reckoned.units.count
+known_unit c = grind arith
 
 -- what is decided of the entries at first is decided of those in the loop
 decided-still : (periods g : ℕ) (node : Node) (old new : List UnitEntry) → new ≡ old → IsFixOf periods node g (entry_in old g).fix
@@ -29,15 +27,7 @@ decided-still : (periods g : ℕ) (node : Node) (old new : List UnitEntry) → n
 decided-still periods g node old new is decided = subst (λ (us : List UnitEntry). IsFixOf periods node g (entry_in us g).fix) (sym is) decided
 
 pub loop-g-init : goal.loop-g-init
-loop-g-init c =
-    let own = to_z-of_z w128 c.args.plain c.ranges.plain in
-    record {
-      room = c.requires.room;
-      entries = c.requires.entries;
-      units = refl;
-      sum = λ node decided. no-units c.args.instance.now c.args.table.now node (to_z w128 (of_z w128 c.args.plain));
-      size = subst (λ z. unsigned_abs z ≤ MAX_NODE_VALUE) (sym own) c.requires.size;
-    }
+loop-g-init c = grind (arith, to_z-of_z, no-units, c)
 
 pub returns-then-is_reached-clause-reaches : goal.returns-then-is_reached-clause-reaches
 returns-then-is_reached-clause-reaches c = λ node decided value.
@@ -53,28 +43,13 @@ returns-then-is_reached-clause-reaches c = λ node decided value.
     )
 
 pub value_from-exact-requires-clause-known : goal.value_from-exact-requires-clause-known
-value_from-exact-requires-clause-known c =
-    let instance = c.args.instance.now in
-    let known = known_unit (goal.at.value_from-exact-requires-clause-known c).After-is_reached in
-    exact-read instance c.args.table.now c.loop-g.entries c.loop-g.g c.index_mut.result.now c.loop-g.invariant.entries known c.index_mut.ensures.value
+value_from-exact-requires-clause-known c = grind (arith, known_unit, After-is_reached, exact-read, c)
 
 pub part-requires-clause-value : goal.part-requires-clause-value
-part-requires-clause-value c =
-    let instance = c.args.instance.now in
-    let known = known_unit (goal.at.part-requires-clause-value c).After-is_reached in
-    let are = c.loop-g.invariant.entries in
-    subst (λ (entry : UnitEntry). IsWithin MAX_COST_TO_GO entry.value)
-    (sym (entry-read instance c.args.table.now c.loop-g.entries c.loop-g.g c.index-in-loop-g.result.now are known c.index-in-loop-g.ensures))
-    (are.reckoned.units.unit c.loop-g.g known).size
+part-requires-clause-value c = grind (arith, known_unit, After-is_reached, entry-read, c)
 
 pub part-requires-clause-constant : goal.part-requires-clause-constant
-part-requires-clause-constant c =
-    let instance = c.args.instance.now in
-    let known = known_unit (goal.at.part-requires-clause-constant c).After-is_reached in
-    let are = c.loop-g.invariant.entries in
-    subst (λ (entry : UnitEntry). unsigned_abs entry.constant ≤ MAX_CONSTANT)
-    (sym (entry-read instance c.args.table.now c.loop-g.entries c.loop-g.g c.index-in-loop-g.result.now are known c.index-in-loop-g.ensures))
-    (are.reckoned.units.unit c.loop-g.g known).constant
+part-requires-clause-constant c = grind (arith, known_unit, After-is_reached, entry-read, c)
 
 pub returns-in-None-clause-kept : goal.returns-in-None-clause-kept
 returns-in-None-clause-kept c =

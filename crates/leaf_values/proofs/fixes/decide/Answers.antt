@@ -1,15 +1,10 @@
 -- One bit more is set.
-use Rattle.std.proofs.Common.{◌≡◌, ◌≢◌, ℕ, Bool, true, ⊎_elim, ap, sym, ◌∙◌, ◌==◌, ◌&&◌, ◌||◌}
-use Rattle.std.proofs.lemmas.Bool.{cases_eq, eq-eqb, ne_eqb}
+use Rattle.std.proofs.Common.{arith, ◌≡◌, ◌≢◌, ℕ, Bool, true, ap, sym, ◌∙◌, ◌==◌, ◌&&◌, ◌||◌}
 use Rattle.uc_model.specs.Prelude.{commitment_of}
 use Rattle.leaf_values.proofs.fixes.decide.Goals as goal
 
 switched : (new old : ℕ → Bool) (p t : ℕ) → new p ≡ true → ((k : ℕ) → k ≢ p → new k ≡ old k) → new t ≡ (p == t || old t)
-switched new old p t here others =
-    ⊎_elim
-    (λ (e : p ≡ t). ap new (sym e) ∙ here ∙ sym (ap (λ b. b || old t) (eq-eqb p t e)))
-    (λ (e : p ≡ t → ⊥). others t (λ same. e (sym same)) ∙ sym (ap (λ b. b || old t) (ne_eqb p t e)))
-    (cases_eq p t)
+switched new old p t here others = grind (arith, here, others)
 
 pub returns-then-fixing : goal.returns-then-fixing
 returns-then-fixing c = record {

@@ -1,10 +1,10 @@
 -- One unit more.
-use Rattle.std.proofs.Common.{◌≡◌, ℕ, ◌+◌, ◌<◌, ◌≤◌, List, length, lit<, arith, sym, ap, subst, ◌∙◌, below_more, rules, ◌++◌, ◌∷◌, [], take, drop, replicate, ℤ, unsigned_abs}
+use Rattle.std.proofs.Common.{◌≡◌, ℕ, ◌+◌, ◌<◌, List, length, lit<, arith, ap, ◌∙◌, below_more, rules, ◌++◌, ◌∷◌, [], take, drop, replicate, ℤ}
 use Rattle.uc_model.specs.Prelude.{thermal_count, thermal_unit}
 use Rattle.uc_model.specs.declared.instance.Instance.{Instance}
 use Rattle.uc_model.proofs.Sizes.{wide}
 use Rattle.dual_model.specs.declared.table.Table.{Table}
-use Rattle.leaf_values.specs.Entries.{ExactEntry, Thermal, UnitEntry, AreExactEntriesOf, IsEntryOf, IsExactEntryOf, IsReckoned, MAX_REST, entry_in, exact_in}
+use Rattle.leaf_values.specs.Entries.{ExactEntry, Thermal, UnitEntry, AreExactEntriesOf, IsEntryOf, IsReckoned, MAX_REST, entry_in}
 use Rattle.leaf_values.specs.declared.entries.ExactEntry.TheVariants as known
 use Rattle.std.proofs.lemmas.List.{get_or_append_left, get_or_push, get_or-replicate, length-append, length-take, length-drop, length-replicate}
 use Rattle.leaf_values.proofs.loading.load.Goals as goal
@@ -12,10 +12,7 @@ use Rattle.leaf_values.proofs.loading.load.Goals as goal
 -- what holds of each entry and of the next one holds of each when it is there
 pushed : (P : ℕ → UnitEntry → Type 0) (units more : List UnitEntry) (entry : UnitEntry) (n : ℕ) → more ≡ units ++ entry ∷ [] → length units ≡ n
     → ((k : ℕ) → k < n → P k (entry_in units k)) → P n entry → (k : ℕ) → k < n + 1 → P k (entry_in more k)
-pushed P units more entry n is long each last =
-    below_more _ _
-    (λ (k : ℕ) (h : k < n). let inside : k < length units = omega arith in subst (λ (xs : List UnitEntry). P k (entry_in xs k)) (sym is) (rw get_or_append_left (each k h)))
-    (subst (λ (xs : List UnitEntry). P n (entry_in xs n)) (sym is) (subst (λ m. P m (entry_in (units ++ entry ∷ []) m)) long (rw get_or_push (subst (λ m. P m entry) (sym long) last))))
+pushed P units more entry n is long each last = grind (arith, below_more, get_or_append_left, get_or_push, is, long, each, last)
 
 -- the prices of a unit are written over those of the one before
 rows_kept : (len : ℕ) (new items : List (ℤ × ℤ × ℤ)) → len ≡ length items → length new ≡ length items
@@ -40,11 +37,7 @@ loop-g-preserved c =
 -- where nothing is known, that is so
 none-known : (instance : Instance) (table : Table) (exact : List ExactEntry) (n : ℕ) → n ≡ thermal_count instance → exact ≡ replicate n known.Unsought
     → AreExactEntriesOf instance table exact
-none-known instance table exact n count is = record {
-  count = ap (λ (xs : List ExactEntry). length xs) is ∙ length-replicate n known.Unsought ∙ count;
-  unit = λ g l. subst (IsExactEntryOf instance table g)
-      (sym (ap (λ (xs : List ExactEntry). exact_in xs g) is ∙ get_or-replicate n g known.Unsought known.Unsought (omega (arith, count, l)))) tt;
-}
+none-known instance table exact n count is = grind (arith, length-replicate, get_or-replicate, count, is)
 
 pub returns-clause-entries : goal.returns-clause-entries
 returns-clause-entries c =
@@ -57,10 +50,7 @@ returns-clause-entries c =
     let all : c.loop-g.g ≡ thermal_count instance = omega (arith, past, end, units) in
     let own = wide c.rest.result MAX_REST c.rest.ensures.size (lit< tt) in
     record {
-      reckoned = record {
-        units = record { count = before.count ∙ all; unit = λ k l. before.reckoned k (omega (arith, l, all)) };
-        rest = subst (λ z. unsigned_abs z ≤ MAX_REST) (sym own) c.rest.ensures.size;
-      };
+      reckoned = grind (arith, units, before, all, own, c);
       unit = λ k l. before.entry k (omega (arith, l, all));
       exact = none-known instance table c.in_ok-exact.exact.items _ (ap (λ (xs : List Thermal). length xs) c.as_slice.ensures)
           (c.in_ok-exact.ensures.items_if_clones_equal (λ y is. is));

@@ -32,11 +32,7 @@ pub segment_cost-requires-clause-cap : goal.segment_cost-requires-clause-cap
 segment_cost-requires-clause-cap c = passed-size c.args.cap MAX_CAP c.requires.cap
 
 pub segment_cost-requires-clause-segment : goal.segment_cost-requires-clause-segment
-segment_cost-requires-clause-segment c = record {
-  within = omega (arith, c.cap_place.ensures.within, c.requires.place.within);
-  begins = c.cap_place.ensures.begins;
-  reaches = c.cap_place.ensures.reaches;
-}
+segment_cost-requires-clause-segment c = grind (arith, c)
 
 pub returns-else-is_within-clause-term : goal.returns-else-is_within-clause-term
 returns-else-is_within-clause-term c = λ points whole.

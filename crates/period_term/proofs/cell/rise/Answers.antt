@@ -9,13 +9,7 @@ use Rattle.period_term.proofs.CornerNumbers.{scaled_cost-size, scaled_cost-is}
 use Rattle.period_term.proofs.cell.rise.Goals as goal
 
 pub difference-requires : goal.difference-requires
-difference-requires c =
-    let corners = c.args.corners.now in
-    let k = c.args.prices.now.k in
-    sum-fits c.scaled.result c.scaled-2.result (10 ^ 9 * MAX_COST) (10 ^ 9 * MAX_COST)
-    (scaled_cost-size corners k c.scaled.result (c.args.left + 1) c.requires.lawful c.requires.prices.scale (omega (arith, c.requires.within)) c.scaled.ensures)
-    (scaled_cost-size corners k c.scaled-2.result c.args.left c.requires.lawful c.requires.prices.scale (omega (arith, c.requires.within)) c.scaled-2.ensures)
-    (lit< tt)
+difference-requires c = grind (arith, sum-fits, scaled_cost-size, c)
 
 pub returns-clause-size : goal.returns-clause-size
 returns-clause-size c =

@@ -2,7 +2,7 @@
 use Rattle.std.proofs.Common.{◌*◌, ◌≤◌, sym, subst, ◌∙◌, arith, lit<, pos, ◌*ℤ◌, ◌<ℤ◌, to_z, of_z, unsigned_abs}
 use Rattle.std.specs.Int.{w128}
 use Rattle.std.proofs.lemmas.Int.{to_z-of_z}
-use Rattle.uc_model.specs.Prelude.{IsFloor, output_of}
+use Rattle.uc_model.specs.Prelude.{IsFloor}
 use Rattle.uc_model.specs.declared.limits.TheConstants.{MAX_POWER}
 use Rattle.dual_model.specs.declared.limits.TheConstants.{MAX_CAP}
 use Rattle.uc_model.proofs.Common.{linear, sub_nonneg, product-fits}
@@ -25,16 +25,7 @@ floor_div-requires c =
 part : (c : goal.After-floor_div) → IsFloor ((c.args.prices.now.k *ℤ rise_of c.args.corners.now c.args.left) *ℤ over_of c.args.corners.now c.args.cap c.args.left)
     (run_of c.args.corners.now c.args.left) (to_z w128 (of_z w128 c.floor_div.result))
     × (unsigned_abs (to_z w128 (of_z w128 c.floor_div.result)) ≤ MAX_RISE)
-part c =
-    let corners = c.args.corners.now in
-    let i = c.args.left in
-    let cap = c.ranges.cap in
-    rise_down-is (c.args.prices.now.k *ℤ rise_of corners i) (over_of corners c.args.cap i) (run_of corners i)
-    c.rise.result c.over.result c.run.result c.product-rising.result c.floor_div.result
-    c.rise.ensures.value c.rise.ensures.size (simp to_z-of_z at c.over.ensures.value) c.over.ensures.size c.run.ensures.value c.run.ensures.size
-    (sub_nonneg (output_of corners i) c.args.cap c.requires.segment.begins) (omega (arith, linear, c.requires.segment.reaches))
-    (omega (arith, linear, c.requires.segment.begins, c.requires.segment.reaches))
-    c.product-rising.ensures c.floor_div.ensures
+part c = grind (arith, linear, rise_down-is, to_z-of_z, sub_nonneg)
 
 pub returns-clause-floor : goal.returns-clause-floor
 returns-clause-floor c = (part c).0

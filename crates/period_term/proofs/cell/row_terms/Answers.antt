@@ -1,11 +1,10 @@
 -- Each of the four terms, by the place that was found once.
-use Rattle.std.proofs.Common.{sym, subst, lit<, ℤ, List, to_z, of_z, slice_index_or, pos, ◌≤◌, Option, IfSome, unsigned_abs}
+use Rattle.std.proofs.Common.{arith, sym, subst, lit<, ℤ, List, to_z, of_z, slice_index_or, pos, ◌≤◌, Option, unsigned_abs}
 use Rattle.std.specs.Int.{w64}
 use Rattle.uc_model.specs.declared.instance.Point.{Point}
 use Rattle.uc_model.proofs.Common.{narrow}
 use Rattle.dual_model.specs.declared.limits.TheConstants.{MAX_CAP}
 use Rattle.dual_model.specs.Prelude.{IsCellTerm}
-use Rattle.uc_model.specs.declared.limits.TheConstants.{MAX_TERM}
 use Rattle.cost_curves.specs.LowerHull.{IsLowerHull}
 use Rattle.period_term.proofs.CornerNumbers.{passed-size}
 use Rattle.period_term.proofs.FreedTerms.{freed_bits, of_freed, each_of_four}
@@ -46,7 +45,4 @@ returns-clause-term c = λ points i hull inside.
     i inside
 
 pub returns-clause-size : goal.returns-clause-size
-returns-clause-size c = λ i inside.
-    each_of_four (λ cap term. IfSome term (λ m. unsigned_abs m ≤ MAX_TERM)) c.args.caps.now
-    c.cell_term.result c.cell_term-2.result c.cell_term-3.result c.cell_term-4.result
-    c.cell_term.ensures.size c.cell_term-2.ensures.size c.cell_term-3.ensures.size c.cell_term-4.ensures.size i inside
+returns-clause-size c = grind (arith, c)

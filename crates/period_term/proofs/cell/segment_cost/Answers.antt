@@ -1,5 +1,5 @@
 -- The cost at the left end, the price of what lies between, and the part of the rise.
-use Rattle.std.proofs.Common.{◌≡◌, ◌+◌, ◌*◌, ◌≤◌, suc, sym, ap, subst, ◌∙◌, arith, lit<, to_z, of_z, ◌+ℤ◌, ◌*ℤ◌, unsigned_abs}
+use Rattle.std.proofs.Common.{◌≡◌, ◌+◌, ◌*◌, ◌≤◌, suc, sym, subst, arith, lit<, to_z, of_z, ◌+ℤ◌, ◌*ℤ◌, unsigned_abs}
 use Rattle.std.specs.Int.{w64, w128}
 use Rattle.std.proofs.lemmas.Int.{to_z-of_z}
 use Rattle.uc_model.specs.Prelude.{point_of, output_of}
@@ -27,20 +27,11 @@ sum-level-requires c =
     sum-fits c.corner_cost.result c.product-price.result MAX_CORNER_COST (2 * MAX_UNIT_PRICE * MAX_OVER) c.corner_cost.ensures.size price.1 (lit< tt)
 
 pub sum-requires : goal.sum-requires
-sum-requires c =
-    let cap = c.ranges.cap in
-    let level = level_is c.args.prices.now.a (over_of c.args.corners.now c.args.cap c.args.left) c.corner_cost.result c.over.result c.product-price.result c.sum-level.result
-    c.requires.prices.output (simp to_z-of_z at c.over.ensures.value) c.over.ensures.size c.corner_cost.ensures.size c.product-price.ensures c.sum-level.ensures in
-    sum-fits c.sum-level.result c.rise_down.result (MAX_CORNER_COST + 2 * MAX_UNIT_PRICE * MAX_OVER) MAX_RISE level.1 c.rise_down.ensures.size (lit< tt)
+sum-requires c = grind (arith, level_is, to_z-of_z, sum-fits, c)
 
 whole : (c : goal.After-sum) → (to_z w128 (of_z w128 c.sum.result) ≡ (c.corner_cost.result +ℤ c.args.prices.now.a *ℤ over_of c.args.corners.now c.args.cap c.args.left) +ℤ c.rise_down.result)
     × (unsigned_abs (to_z w128 (of_z w128 c.sum.result)) ≤ MAX_CORNER_COST + 2 * MAX_UNIT_PRICE * MAX_OVER + MAX_RISE)
-whole c =
-    let cap = c.ranges.cap in
-    let level = level_is c.args.prices.now.a (over_of c.args.corners.now c.args.cap c.args.left) c.corner_cost.result c.over.result c.product-price.result c.sum-level.result
-    c.requires.prices.output (simp to_z-of_z at c.over.ensures.value) c.over.ensures.size c.corner_cost.ensures.size c.product-price.ensures c.sum-level.ensures in
-    let both = sum_is c.sum-level.result c.rise_down.result c.sum.result (MAX_CORNER_COST + 2 * MAX_UNIT_PRICE * MAX_OVER) MAX_RISE c.sum.ensures level.1 c.rise_down.ensures.size (lit< tt) in
-    (both.0 ∙ ap (λ z. z +ℤ c.rise_down.result) level.0, both.1)
+whole c = grind (arith, level_is, to_z-of_z, sum_is)
 
 pub returns-clause-size : goal.returns-clause-size
 returns-clause-size c = let size = (whole c).1 in omega (arith, size)

@@ -4,7 +4,7 @@ use Rattle.std.specs.Int.{w64}
 use Rattle.uc_model.proofs.Common.{abs_narrow, narrow}
 use Rattle.uc_model.specs.declared.limits.TheConstants.{MAX_POWER}
 use Rattle.dual_model.specs.declared.limits.TheConstants.{MAX_CAP}
-use Rattle.uc_model.specs.Prelude.{place, cell_cap}
+use Rattle.uc_model.specs.Prelude.{place}
 use Rattle.period_term.proofs.unit_terms.cell_caps.Goals as goal
 
 in_places : (cap : Bool → Bool → ℤ) (neither start stop both : ℤ) → neither ≡ cap false false → start ≡ cap true false
@@ -31,13 +31,7 @@ within : (cap : ℤ) → unsigned_abs cap ≤ MAX_POWER → unsigned_abs (to_z w
 within cap size = omega (arith, abs_narrow cap, size)
 
 pub returns-clause-value : goal.returns-clause-value
-returns-clause-value c =
-    in_places (cell_cap c.args.periods c.args.unit.now c.args.t) _ _ _ _
-    (same _ _ (c.cell_cap.ensures.value c.requires.lawful) (c.cell_cap.ensures.size c.requires.lawful)) (same _ _ (c.cell_cap-2.ensures.value c.requires.lawful) (c.cell_cap-2.ensures.size c.requires.lawful))
-    (same _ _ (c.cell_cap-3.ensures.value c.requires.lawful) (c.cell_cap-3.ensures.size c.requires.lawful)) (same _ _ (c.cell_cap-4.ensures.value c.requires.lawful) (c.cell_cap-4.ensures.size c.requires.lawful))
+returns-clause-value c = grind (arith, in_places, same, c)
 
 pub returns-clause-size : goal.returns-clause-size
-returns-clause-size c =
-    each_within _ _ _ _
-    (within c.cell_cap.result (c.cell_cap.ensures.size c.requires.lawful)) (within c.cell_cap-2.result (c.cell_cap-2.ensures.size c.requires.lawful))
-    (within c.cell_cap-3.result (c.cell_cap-3.ensures.size c.requires.lawful)) (within c.cell_cap-4.result (c.cell_cap-4.ensures.size c.requires.lawful))
+returns-clause-size c = grind (arith, each_within, within, c)

@@ -1,5 +1,5 @@
 -- One period more.
-use Rattle.std.proofs.Common.{◌≡◌, ℕ, ◌+◌, ◌<◌, ◌≢◌, ⊎_elim, Bool, List, [], length, arith, sym, subst, lit<, to_z, of_z, ℤ, pos, get_or-set_other, get_or-set_same, None, slice_index_or, slice_set, Option}
+use Rattle.std.proofs.Common.{◌≡◌, ℕ, ◌+◌, ◌<◌, ◌≢◌, ⊎_elim, Bool, List, [], length, arith, sym, subst, lit<, to_z, of_z, ℤ, get_or-set_other, get_or-set_same, None, slice_index_or, slice_set, Option}
 use Rattle.std.specs.Int.{w64}
 use Rattle.std.proofs.lemmas.Int.{to_z-of_z}
 use Rattle.uc_model.specs.declared.instance.Thermal.{Thermal}
@@ -12,11 +12,7 @@ use Rattle.period_term.proofs.unit_terms.fill.Goals as goal
 more_prices : (rows : List (ℤ × ℤ × ℤ)) (t : ℕ) (prices : List ℤ) (v : ℤ) → t < length prices → v ≡ (row_at rows t).2
     → ArePricesOf rows t prices → ArePricesOf rows (t + 1) (slice_set prices t v)
 more_prices rows t prices v inside is before i h =
-    ⊎_elim
-    (λ (earlier : i < t). let other : i ≢ t = omega arith in rw get_or-set_other (before i earlier))
-    (λ (here : i ≡ t).
-    subst (λ k. slice_index_or (slice_set prices t v) k (pos 0) ≡ (row_at rows k).2) (sym here) (rw get_or-set_same is))
-    (grind arith)
+    grind (arith, get_or-set_other, slice_index_or, slice_set, get_or-set_same, inside, is, before, i, h)
 
 more_terms : (unit : Thermal) (k : ℤ) (rows : List (ℤ × ℤ × ℤ)) (t : ℕ) (terms : List (List (Option ℤ))) (row : List (Option ℤ)) → t < length terms
     → ((start stop : Bool) → IsTermOfRow (length rows) unit k (row_at rows t) t start stop (slice_index_or row (place start stop) None))
@@ -39,7 +35,4 @@ loop-t-preserved c = (
 )
 
 pub returns-clause-terms : goal.returns-clause-terms
-returns-clause-terms c =
-    let scale = to_z-of_z w64 c.args.k c.ranges.k in
-    subst (λ k. AreTermsOfRows c.args.unit.now k c.args.rows.now (length c.args.rows.now) c.loop-t.terms) scale
-    (λ i start stop h. c.loop-t.invariant.1 i start stop (omega arith))
+returns-clause-terms c = grind (arith, to_z-of_z, c)

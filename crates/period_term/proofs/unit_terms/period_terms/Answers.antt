@@ -1,5 +1,5 @@
 -- Each place holds its cell's term.
-use Rattle.std.proofs.Common.{◌≡◌, ℕ, ◌<◌, ◌≤◌, Bool, true, false, subst, ℤ, pos, lit<, Option, None, IfSome, List, slice_index_or, unsigned_abs}
+use Rattle.std.proofs.Common.{arith, ◌≡◌, ℕ, ◌<◌, ◌≤◌, Bool, true, false, ℤ, pos, lit<, Option, None, IfSome, List, slice_index_or, unsigned_abs}
 use Rattle.std.specs.Int.{w64}
 use Rattle.std.proofs.lemmas.Int.{to_z-of_z}
 use Rattle.uc_model.specs.declared.instance.Thermal.{Thermal}
@@ -23,20 +23,13 @@ in_places : (periods : ℕ) (unit : Thermal) (k : ℤ) (row : ℤ × ℤ × ℤ)
     → ((i : ℕ) → i < 4 → IsCellTerm unit.points k row.0 row.1 (slice_index_or caps i (pos 0)) (slice_index_or terms i None))
     → ((i : ℕ) → i < 4 → IfSome (slice_index_or terms i None) (λ m. unsigned_abs m ≤ MAX_TERM))
     → (s e : Bool) → IsTermOfRow periods unit k row t s e (slice_index_or terms (place s e) None)
-in_places periods unit k row t caps terms same are sizes s e = record {
-  is = subst (λ cap. IsCellTerm unit.points k row.0 row.1 cap (slice_index_or terms (place s e) None)) (same s e)
-      (are (place s e) (place-within s e));
-  size = sizes (place s e) (place-within s e);
-}
+in_places periods unit k row t caps terms same are sizes s e = grind (arith, same, are, sizes)
 
 -- the same at equal numbers
 along : (points : List Point) (caps : List ℤ) (terms : List (Option ℤ)) (k m a c b d : ℤ) → k ≡ m → a ≡ c → b ≡ d
     → ((i : ℕ) → i < 4 → IsCellTerm points k a b (slice_index_or caps i (pos 0)) (slice_index_or terms i None))
     → (i : ℕ) → i < 4 → IsCellTerm points m c d (slice_index_or caps i (pos 0)) (slice_index_or terms i None)
-along points caps terms k m a c b d e f g are i h =
-    subst (λ x. IsCellTerm points x c d (slice_index_or caps i (pos 0)) (slice_index_or terms i None)) e
-    (subst (λ x. IsCellTerm points k x d (slice_index_or caps i (pos 0)) (slice_index_or terms i None)) f
-    (subst (λ x. IsCellTerm points k a x (slice_index_or caps i (pos 0)) (slice_index_or terms i None)) g (are i h)))
+along points caps terms k m a c b d e f g are i h = grind (arith, e, f, g, are, h)
 
 pub returns : goal.returns
 returns c =

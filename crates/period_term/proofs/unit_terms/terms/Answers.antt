@@ -25,9 +25,7 @@ term_count : (c : goal.After-from_vec-2) → length c.fill.new.terms ≡ length 
 term_count c = omega (arith, c.in_ok-terms.ensures.len)
 
 filled_terms : (c : goal.After-from_vec-2) → AreTermsOfRows c.args.unit.now c.args.k c.args.rows.now (length c.args.rows.now) c.fill.new.terms
-filled_terms c =
-    subst (λ k. AreTermsOfRows c.args.unit.now k c.args.rows.now (length c.args.rows.now) c.fill.new.terms)
-    (to_z-of_z w64 c.args.k c.ranges.k) c.fill.ensures.terms
+filled_terms c = grind (arith, to_z-of_z)
 
 pub returns-clause-terms : goal.returns-clause-terms
 returns-clause-terms c =

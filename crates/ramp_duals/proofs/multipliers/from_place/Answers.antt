@@ -1,5 +1,5 @@
 -- The row at the cell's place is the cell's, or no row is.
-use Rattle.std.proofs.Common.{◌≡◌, ◌<◌, length, sym, ap, ◌∙◌, add-one, arith, to_z, of_z, w64, IsTrue, true≢false}
+use Rattle.std.proofs.Common.{◌≡◌, sym, ap, ◌∙◌, add-one, arith, to_z, of_z, w64, IsTrue}
 use Rattle.std.proofs.lemmas.Int.{to_z-of_z}
 use Rattle.dual_model.specs.Prelude.{row_of}
 use Rattle.ramp_duals.specs.RampRows.{RampRow, row_in}
@@ -24,16 +24,4 @@ returns-then-is_of c =
 
 pub returns-else-place-rows : goal.returns-else-place-rows
 returns-else-place-rows c =
-    let rows = c.args.rows.now in
-    let none = row_of-none rows c.args.g c.args.t (none_at rows c.requires.rising c.args.g c.args.t c.args.place c.requires.place other) in
-    record {
-      up = ap (λ (row : RampRow). row.up) (sym none);
-      down = ap (λ (row : RampRow). row.down) (sym none);
-      next = same_place rows c.requires.rising c.args.g c.args.t c.args.place c.requires.place other;
-    }
-  where
-    other : c.args.place < length c.args.rows.now → IsTrue (IsOf (row_in c.args.rows.now c.args.place) c.args.g c.args.t) → ⊥
-    other l h = elim c.else-place-rows.branch [
-      | else-place-rows-via-then-place-rows+else-is_of w ↦ true≢false (sym h ∙ sym w.is_of.ensures ∙ w.if-is_of.false)
-      | else-place-rows-via-else-place-rows w ↦ omega (arith, w.if-place-rows.false)
-    ]
+    grind (arith, row_of-none, none_at, same_place, else-place-rows-via-then-place-rows+else-is_of, else-place-rows-via-else-place-rows, c)

@@ -35,8 +35,4 @@ loop-low-preserved c =
     )
 
 pub returns : goal.returns
-returns c = record {
-  within = omega (arith, c.loop-low.invariant.0, c.loop-low.invariant.1);
-  before = c.loop-low.invariant.2;
-  later = λ i h k. c.loop-low.invariant.3 i (omega (arith, c.loop-low-test.false)) k;
-}
+returns c = grind (arith, c)

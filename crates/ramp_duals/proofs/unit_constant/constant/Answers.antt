@@ -1,51 +1,23 @@
 -- One period more, and the initial output at the end.
-use Rattle.std.proofs.Common.{◌≡◌, ℕ, suc, ◌+◌, ◌*◌, ◌^◌, ◌≤◌, length, add-one, sym, ap, subst, ◌∙◌, lit<, arith, ◌+ℤ◌, ◌-ℤ◌, ◌*ℤ◌, to_z, of_z, neg_ℤ, unsigned_abs}
+use Rattle.std.proofs.Common.{◌≡◌, ℕ, ◌+◌, ◌*◌, ◌^◌, ◌≤◌, length, add-one, sym, ap, subst, ◌∙◌, lit<, arith, ◌+ℤ◌, ◌-ℤ◌, ◌*ℤ◌, to_z, of_z, neg_ℤ, unsigned_abs}
 use Rattle.std.specs.Int.{w128}
 use Rattle.uc_model.specs.Prelude.{initial_p, sum_below}
 use Rattle.uc_model.proofs.Common.{abs_add, wide-size}
 use Rattle.uc_model.proofs.Sizes.{wide}
 use Rattle.dual_model.specs.Prelude.{unit_constant, up_at, down_at}
-use Rattle.ramp_duals.specs.RampRows.{AreOf}
 use Rattle.ramp_duals.specs.Sizes.{MAX_CONSTANT}
 use Rattle.ramp_duals.proofs.ConstantSizes.{constant_size}
 use Rattle.ramp_duals.proofs.RowOrder.{in_table}
 use Rattle.ramp_duals.proofs.unit_constant.constant.Goals as goal
 
 pub sum-total-requires : goal.sum-total-requires
-sum-total-requires c =
-    let lengths = ap (λ pi. length pi) c.pi-t-end.ensures in
-    omega (arith, c.loop-t-test.true, c.requires.periods, c.loop-t.invariant.2, wide-size c.ramp_part.result (2 ^ 108) c.ramp_part.ensures.size)
+sum-total-requires c = grind (arith, c)
 
 pub sum-requires : goal.sum-requires
-sum-requires c =
-    let lengths = ap (λ pi. length pi) c.pi-t-end.ensures in
-    let periods : c.loop-t.t ≤ 168 = omega (arith, c.requires.periods) in
-    omega (arith, periods, c.loop-t.invariant.2, wide-size c.initial_part.result (2 ^ 110) c.initial_part.ensures.size)
+sum-requires c = grind (arith, wide-size, c)
 
 pub loop-t-preserved : goal.loop-t-preserved
-loop-t-preserved c =
-    let so_far = c.loop-t.invariant in
-    let table = c.args.table.now in
-    let unit = c.args.unit.now in
-    let part = λ (t : ℕ). neg_ℤ (up_at table c.args.g t *ℤ unit.ru) -ℤ down_at table c.args.g t *ℤ unit.rd in
-    let ramps = c.unit_rows-ramps.result.now in
-    let now = in_table table ramps c.args.g c.loop-t.t c.loop-t.now c.unit_rows-ramps.ensures.look_up so_far.0 in
-    let added : c.sum-total.result ≡ to_z w128 c.loop-t.total-bits +ℤ c.ramp_part.result =
-    c.sum-total.ensures ∙ (λ i. to_z w128 c.loop-t.total-bits +ℤ wide c.ramp_part.result (2 ^ 108) c.ramp_part.ensures.size (lit< tt) i) in
-    let here : c.ramp_part.result ≡ part c.loop-t.t =
-    c.ramp_part.ensures.value ∙ (λ i. neg_ℤ (now.up i *ℤ unit.ru) -ℤ now.down i *ℤ unit.rd) in
-    let lengths = ap (λ pi. length pi) c.pi-t-end.ensures in
-    let periods : suc c.loop-t.t ≤ 168 = omega (arith, c.loop-t-test.true, c.requires.periods) in
-    let size : unsigned_abs c.sum-total.result ≤ suc c.loop-t.t * 2 ^ 108 =
-    subst (λ x. unsigned_abs x ≤ suc c.loop-t.t * 2 ^ 108) (sym added)
-    (omega (arith, abs_add (to_z w128 c.loop-t.total-bits) c.ramp_part.result (c.loop-t.t * 2 ^ 108) (2 ^ 108) so_far.2 c.ramp_part.ensures.size)) in
-    let kept : to_z w128 (of_z w128 c.sum-total.result) ≡ c.sum-total.result =
-    wide c.sum-total.result (168 * 2 ^ 108) (omega (arith, size, periods)) (lit< tt) in
-    subst (λ k. AreOf ramps c.args.g k c.following-now.result
-    × (to_z w128 (of_z w128 c.sum-total.result) ≡ sum_below k part)
-    × (unsigned_abs (to_z w128 (of_z w128 c.sum-total.result)) ≤ k * 2 ^ 108))
-    (sym (add-one c.loop-t.t))
-    (c.following-now.ensures, kept ∙ added ∙ (λ i. so_far.1 i +ℤ here i), subst (λ x. unsigned_abs x ≤ suc c.loop-t.t * 2 ^ 108) (sym kept) size)
+loop-t-preserved c = grind (arith, in_table, wide, abs_add, add-one, c)
 
 pub returns : goal.returns
 returns c =

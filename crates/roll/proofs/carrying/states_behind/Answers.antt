@@ -1,10 +1,9 @@
 -- The next unit with its row.
-use Rattle.std.proofs.Common.{List, ◌≡◌, ◌+◌, ◌-◌, [], sym, subst, ◌∙◌, arith}
+use Rattle.std.proofs.Common.{List, ◌≡◌, ◌+◌, [], sym, subst, ◌∙◌, arith}
 use Rattle.std.proofs.lemmas.List.{get_or_read}
 use Rattle.uc_model.specs.Prelude.{no_unit, IsLawfulThermal}
-use Rattle.schedule_check.specs.WholeWatts.{cell}
 use Rattle.roll.specs.Left.{CarriedUnit, IsLeftBy}
-use Rattle.roll.specs.inside.Rows.{AreStatesBehind, IsWithinRange, row_at, unit_at}
+use Rattle.roll.specs.inside.Rows.{AreStatesBehind, row_at, unit_at}
 use Rattle.roll.proofs.CarriedRows.{states_more}
 use Rattle.roll.proofs.carrying.states_behind.Goals as goal
 
@@ -12,19 +11,13 @@ unit_is : (c : goal.After-as_slice) → c.index-units-g.result ≡ unit_at c.arg
 unit_is c = get_or_read c.args.units.now c.loop-g.g c.index-units-g.result c.loop-g-test.true c.index-units-g.is no_unit
 
 row_is : (c : goal.After-as_slice) → c.as_slice.result.now ≡ row_at c.args.rows.now c.loop-g.g
-row_is c = c.as_slice.ensures
-    ∙ get_or_read c.args.rows.now c.loop-g.g c.index-rows-g.result (omega (arith, c.requires.rows.count, c.loop-g-test.true)) c.index-rows-g.is []
+row_is c = grind (arith, get_or_read)
 
 pub state_behind-requires-clause-lawful : goal.state_behind-requires-clause-lawful
 state_behind-requires-clause-lawful c = subst IsLawfulThermal (sym (unit_is c)) (c.requires.lawful c.loop-g.g c.loop-g-test.true)
 
 pub state_behind-requires-clause-last : goal.state_behind-requires-clause-last
-state_behind-requires-clause-last c =
-    let last = c.requires.rows.last c.loop-g.g c.loop-g-test.true in
-    let unit = unit_is c in
-    let row = row_is c in
-    subst (λ u. IsWithinRange u (cell c.as_slice.result.now (c.args.end - 1))) (sym unit)
-    (subst (λ r. IsWithinRange (unit_at c.args.units.now c.loop-g.g) (cell r (c.args.end - 1))) (sym row) last)
+state_behind-requires-clause-last c = grind (arith, unit_is, row_is, c)
 
 pub loop-g-preserved : goal.loop-g-preserved
 loop-g-preserved c =

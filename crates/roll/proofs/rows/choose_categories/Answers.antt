@@ -8,10 +8,7 @@ use Rattle.roll.proofs.rows.choose_categories.Goals as goal
 
 pub loop-t-preserved : goal.loop-t-preserved
 loop-t-preserved c = record {
-  same = λ k.
-      let before = c.loop-t.invariant.same k in
-      let now = c.set_category.ensures.same k in
-      record { on = now.on ∙ before.on; output = now.output ∙ before.output; reserve = now.reserve ∙ before.reserve };
+  same = λ k. grind (arith, c, k);
   least = λ k h. ⊎_elim
       (λ (less : k < c.loop-t.t).
       let other : k ≢ c.loop-t.t = λ e. omega (arith, e) in

@@ -1,7 +1,7 @@
 -- The next row.
 use Rattle.std.proofs.Common.{List, ◌≡◌, ◌+◌, [], sym, subst, ◌∙◌, arith}
 use Rattle.std.proofs.lemmas.List.{get_or_read}
-use Rattle.uc_model.specs.Prelude.{no_unit, IsLawfulThermal}
+use Rattle.uc_model.specs.Prelude.{no_unit}
 use Rattle.roll.specs.Left.{Cell}
 use Rattle.roll.specs.inside.Joined.{AreStitchedRows, IsStitchedRow}
 use Rattle.roll.specs.inside.Rows.{row_at, unit_at}
@@ -9,10 +9,7 @@ use Rattle.roll.proofs.StitchedParts.{rows_more}
 use Rattle.roll.proofs.stitching.thermal_rows.Goals as goal
 
 pub stitched_row-requires-clause-lawful : goal.stitched_row-requires-clause-lawful
-stitched_row-requires-clause-lawful c =
-    let unit : c.index-units-g.result ≡ unit_at c.args.units.now c.loop-g.g =
-    get_or_read c.args.units.now c.loop-g.g c.index-units-g.result c.loop-g-test.true c.index-units-g.is no_unit in
-    subst IsLawfulThermal (sym unit) (c.requires.lawful c.loop-g.g c.loop-g-test.true)
+stitched_row-requires-clause-lawful c = grind (arith, get_or_read, c)
 
 pub loop-g-preserved : goal.loop-g-preserved
 loop-g-preserved c =

@@ -1,5 +1,5 @@
 -- The cells of a schedule that obeys can be priced, and its printed cost fits 64 bits.
-use Rattle.std.proofs.Common.{◌≡◌, ◌≤◌, sym, ap, subst, ◌∙◌, arith, to_z, of_z, unsigned_abs}
+use Rattle.std.proofs.Common.{◌≡◌, ◌≤◌, sym, subst, arith, to_z, of_z, unsigned_abs}
 use Rattle.std.specs.Int.{w64, w128}
 use Rattle.std.proofs.lemmas.Int.{fits_signed_from_abs}
 use Rattle.uc_model.specs.declared.limits.TheConstants.{COST_MAX}
@@ -28,5 +28,4 @@ overflow_cast-result c =
     fits_signed_from_abs w64 (to_z w128 (of_z w128 c.printed_cost.result)) (omega (arith, small))
 
 pub returns : goal.returns
-returns c =
-    ap (λ z. to_z w64 (of_z w64 z)) (same c) ∙ narrow c.printed_cost.result COST_MAX (size c) (omega arith) ∙ c.printed_cost.ensures
+returns c = grind (arith, same, narrow, size, c)

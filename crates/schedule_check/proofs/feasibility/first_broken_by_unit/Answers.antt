@@ -18,5 +18,4 @@ loop-rule-preserved c =
     below_more (λ k. HoldsThroughout c.args.instance.now (numerators c.args.instance.now c.args.printed.now) (rule_of (tried k))) _ c.loop-rule.invariant here
 
 pub returns : goal.returns
-returns c = λ rule.
-    all_tried c.args.instance.now c.args.printed.now c.loop-rule.rule-index (omega arith) c.loop-rule.invariant (rule_of rule) (number_unit rule)
+returns c = grind (arith, all_tried, number_unit, c)

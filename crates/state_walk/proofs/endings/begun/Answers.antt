@@ -13,9 +13,7 @@ returns-then-not-hours-clause-cost c = λ table t cap behind at order is.
     (subst (λ b. IsCostsOf b f (with_output table c.args.unit.now t cap behind)) c.if-not-hours.true is)
 
 pub cut-requires-clause-low : goal.cut-requires-clause-low
-cut-requires-clause-low c =
-    let low = low-is c.args.entry c.args.unit.now.rd c.requires.entry c.requires.unit.ramp_down in
-    subst (λ z. unsigned_abs z ≤ 10 ^ 18) (sym low.0) (let size = low.1 in omega (arith, size))
+cut-requires-clause-low c = grind (arith, low-is, c)
 
 pub cut-requires-clause-high : goal.cut-requires-clause-high
 cut-requires-clause-high c =

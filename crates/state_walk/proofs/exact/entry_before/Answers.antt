@@ -33,11 +33,7 @@ onward-requires-clause-switch c =
     (omega (arith, l)))
 
 pub onward-requires-clause-switched : goal.onward-requires-clause-switched
-onward-requires-clause-switched c =
-    let p = c.args.problem.now in
-    let l = c.requires.period in
-    subst (λ o. IsWithin MAX_COST_TO_GO o) (sym (ap (λ (e : CostToGo). e.off) c.requires.switched))
-    (to-go-fits p.periods p.table.now p.unit.now p.hull.now c.requires.lawful p.fix.now (p.periods - suc c.args.t) (suc c.args.t) false (suc c.args.t) (omega arith) (omega (arith, l)))
+onward-requires-clause-switched c = grind (arith, to-go-fits, c)
 
 pub onward-requires-2-clause-switch : goal.onward-requires-2-clause-switch
 onward-requires-2-clause-switch c =
@@ -48,11 +44,7 @@ onward-requires-2-clause-switch c =
     (omega (arith, l)))
 
 pub onward-requires-2-clause-switched : goal.onward-requires-2-clause-switched
-onward-requires-2-clause-switched c =
-    let p = c.args.problem.now in
-    let l = c.requires.period in
-    subst (λ o. IsWithin MAX_COST_TO_GO o) (sym (ap (λ (e : CostToGo). e.on) c.requires.switched))
-    (to-go-fits p.periods p.table.now p.unit.now p.hull.now c.requires.lawful p.fix.now (p.periods - suc c.args.t) (suc c.args.t) true (suc c.args.t) (omega arith) (omega (arith, l)))
+onward-requires-2-clause-switched c = grind (arith, to-go-fits, c)
 
 pub returns : goal.returns
 returns c =

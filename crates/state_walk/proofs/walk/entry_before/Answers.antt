@@ -17,8 +17,7 @@ entry-suc : (terms : Terms) (unit : Thermal) (fix : Fix) (n m t since : ℕ) →
     → off ≡ lesser_of (total_of (move terms unit fix t false since true) (cost_to_go terms unit fix n (suc t) true (suc t)))
     (total_of (move terms unit fix t false since false) (cost_to_go terms unit fix n (suc t) false since))
     → (let e : CostToGo = record { on = on; off = off } in e) ≡ entry terms unit fix m t since
-entry-suc terms unit fix n m t since e on off is_on is_off =
-    (λ i. record { on = is_on i; off = is_off i }) ∙ ap (λ k. entry terms unit fix k t since) (sym e)
+entry-suc terms unit fix n m t since e on off is_on is_off = grind (arith, is_on, is_off)
 
 pub total-requires-clause-left : goal.total-requires-clause-left
 total-requires-clause-left c = along _ _ c.move_cost.ensures (move-fits c.args.unit.now c.args.terms.now c.args.fix.now c.requires.lawful c.requires.sized c.args.t c.requires.period true c.args.since true)

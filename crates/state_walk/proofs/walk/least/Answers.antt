@@ -1,10 +1,10 @@
 -- The table's answer is the recursion's from the beginning.
-use Rattle.std.proofs.Common.{◌≡◌, ℤ, subst, sym, ◌∙◌, arith, Option, Some, None, IfSome, IfNone}
-use Rattle.uc_model.specs.Prelude.{IsLawfulThermal, period_count}
+use Rattle.std.proofs.Common.{◌≡◌, ℤ, sym, ◌∙◌, arith, Option, Some, None, IfSome, IfNone}
+use Rattle.uc_model.specs.Prelude.{IsLawfulThermal}
 use Rattle.uc_model.specs.declared.instance.Thermal.{Thermal}
 use Rattle.uc_model.specs.declared.terms.Terms.{Terms}
 use Rattle.dual_model.specs.declared.node.Fix.{Fix}
-use Rattle.dual_model.specs.Prelude.{AreSizedTerms, IsWithin, MAX_COST_TO_GO, IsLeastValue}
+use Rattle.dual_model.specs.Prelude.{AreSizedTerms, IsLeastValue}
 use Rattle.dual_model.proofs.CostSizes.{cost_to_go-fits}
 use Rattle.dual_model.specs.PatternValue.{HasNoPattern}
 use Rattle.dual_model.proofs.LeastValues.{from_start, least-from_start, none-from_start}
@@ -22,8 +22,7 @@ none terms unit fix None sized e = none-from_start terms unit fix sized (sym e)
 none terms unit fix (Some v) sized e = tt
 
 pub returns-clause-value : goal.returns-clause-value
-returns-clause-value c =
-    value c.args.terms.now c.args.unit.now c.args.fix.now c.least_cost_to_go.result c.requires.lawful c.requires.sized c.least_cost_to_go.ensures
+returns-clause-value c = grind (arith, value, c)
 
 pub returns-clause-none : goal.returns-clause-none
 returns-clause-none c =
@@ -36,7 +35,4 @@ returns-clause-unit_value c = λ instance node table g same are decided.
     (λ e. none-from_start c.args.terms.now c.args.unit.now c.args.fix.now c.requires.sized (sym c.least_cost_to_go.ensures ∙ e))
 
 pub returns-clause-size : goal.returns-clause-size
-returns-clause-size c =
-    subst (IsWithin MAX_COST_TO_GO) (sym c.least_cost_to_go.ensures)
-    (cost_to_go-fits c.args.unit.now c.args.terms.now c.args.fix.now c.requires.lawful c.requires.sized (period_count c.args.terms.now) 0
-    (omega arith) c.args.unit.now.on0 0)
+returns-clause-size c = grind (arith, cost_to_go-fits, c)

@@ -1,4 +1,4 @@
-use Rattle.std.proofs.Common.{◌≡◌, ◌<◌, length, map, [], ap, ◌∙◌, sym, arith, remove}
+use Rattle.std.proofs.Common.{map, [], ap, ◌∙◌, sym, arith, remove}
 use Rattle.std.proofs.lemmas.List.{length-map}
 use Rattle.steal_pool.specs.Seats.{untouched}
 use Rattle.steal_pool.specs.Ends.{own_id, victim_id}
@@ -6,12 +6,7 @@ use Rattle.steal_pool.proofs.Making.{drop_next, others_count, seats_more}
 use Rattle.steal_pool.proofs.pool.seats.Goals as goal
 
 pub new-seat-requires-clause-others : goal.new-seat-requires-clause-others
-new-seat-requires-clause-others c =
-    let behind = drop_next c.args.deques.items _ _ _ (c.loop-own.invariant.0 ∙ c.in-Some.ensures.steps.0) in
-    let ids : length (map victim_id c.args.victims.now) ≡ length c.args.deques.items = ap length c.requires.same ∙ length-map c.args.deques.items own_id in
-    let within : c.len-me.result < length (map victim_id c.args.victims.now) = omega (arith, behind.0, c.len-me.ensures) in
-    let count = others_count c.in_ok-others.others.items (map victim_id c.args.victims.now) c.len-me.result within c.in_ok-others.ensures in
-    omega (arith, c.in_ok-others.others.ok.0)
+new-seat-requires-clause-others c = grind (arith, drop_next, length-map, others_count, c)
 
 pub loop-own-preserved : goal.loop-own-preserved
 loop-own-preserved c =

@@ -1,22 +1,15 @@
 -- One other more is added.
-use Rattle.std.proofs.Common.{◌+◌, ◌<◌, ◌^◌, take, refl, sym, ap, subst, ◌∙◌, arith, rules, unsigned_abs}
+use Rattle.std.proofs.Common.{◌+◌, ◌<◌, ◌^◌, take, sym, subst, ◌∙◌, arith, rules, unsigned_abs}
 use mir.Val.{SFits}
 use Rattle.std.specs.Int.{w128}
 use Rattle.std.proofs.lemmas.Int.{to_z-of_z}
 use Rattle.step_functions.specs.Runs.{run_of, slope_at, steps_of}
 use Rattle.step_functions.specs.inside.Edits.{IsSteeper}
-use Rattle.step_functions.proofs.RunSums.{IsAddedTo, added-none, added-more, small-slopes, fits-rest}
+use Rattle.step_functions.proofs.RunSums.{added-more, small-slopes, fits-rest}
 use Rattle.step_functions.proofs.edits.add_from.Goals as goal
 
 pub loop-other-init : goal.loop-other-init
-loop-other-init c =
-    let count = c.steps-rest.ensures ∙ ap steps_of c.deref.ensures.value in
-    let old = c.args.runs.now.items in
-    let others = c.args.others.now in (
-      subst (λ n. IsAddedTo old others old c.args.used c.args.used 0 n 0) (sym count)
-          (added-none old others c.args.used c.requires.lengths c.requires.first),
-      refl,
-    )
+loop-other-init c = grind (arith, c)
 
 pub add_run-from-requires-clause-within : goal.add_run-from-requires-clause-within
 add_run-from-requires-clause-within c =

@@ -1,12 +1,10 @@
 -- Between the run and the one where it ends, each run is steeper.
-use Rattle.std.proofs.Common.{◌≡◌, ◌+◌, ◌-◌, ◌<◌, ◌^◌, ◌++◌, List, All, length, take, drop, map, ap, sym, subst, ◌∙◌, arith, rules, to_z, of_z, unsigned_abs}
-use mir.Val.{SFits}
+use Rattle.std.proofs.Common.{◌≡◌, ◌+◌, ◌-◌, ◌<◌, ◌^◌, ◌++◌, All, length, take, drop, ap, sym, subst, arith, to_z, of_z, unsigned_abs}
 use Rattle.std.specs.Int.{w128}
 use Rattle.std.proofs.lemmas.Int.{to_z-of_z}
 use borrow.Rule.Slice.PartMut.{post_of}
-use Rattle.step_functions.specs.Runs.{Run, steps_of}
-use Rattle.step_functions.specs.inside.Edits.{with_slope, IsSteeper}
-use Rattle.step_functions.specs.inside.Kept.{HaveSteps}
+use Rattle.step_functions.specs.Runs.{steps_of}
+use Rattle.step_functions.specs.inside.Edits.{IsSteeper}
 use Rattle.step_functions.proofs.RunParts.{part-sizes, part_of, written, steeper_part, steeper-part, steeper-same, steps-part, steps-take-steeper, have_steps-steeper}
 use Rattle.step_functions.proofs.edits.add_run.Goals as goal
 
@@ -24,23 +22,10 @@ left : (c : goal.After-runs-1)
     → (let ys = c.deref_mut.result.now in let all = take c.args.from ys ++ (c.steepen.new.runs ++ post_of c.args.from (c.divide-end.result - c.args.from) ys) in
     take c.divide-end.new.runs.len (all ++ drop (length all) c.divide-end.new.runs.items))
     ≡ steeper_part c.divide-end.new.runs.items c.args.from c.divide-end.result c.args.added.slope
-left c =
-    let runs = c.divide-end.new.runs.items in
-    let from = c.args.from in
-    let end = c.divide-end.result in
-    let fits : SFits w128 c.args.added.slope = search rules in
-    ap (λ (ys : List Run). let all = take from ys ++ (c.steepen.new.runs ++ post_of from (end - from) ys) in take c.divide-end.new.runs.len (all ++ drop (length all) runs))
-    c.deref_mut.ensures.value
-    ∙ written runs c.steepen.new.runs from end c.divide-end.new.runs.len c.args.added.slope c.divide-end.ensures.after
-    (omega (arith, c.divide-end.new.runs.ok.0, c.args.runs.now.ok.0)) c.divide-end.new.runs.ok.0
-    (c.steepen.ensures ∙ (λ t. map (with_slope (to_z-of_z w128 c.args.added.slope fits t)) (part_of (c.deref_mut.ensures.value t) from end)))
+left c = grind (arith, written, to_z-of_z, part_of)
 
 pub returns-clause-begins : goal.returns-clause-begins
-returns-clause-begins c =
-    ap (λ ys. steps_of (take c.divide-end.result ys)) (left c)
-    ∙ steps-take-steeper c.divide-end.new.runs.items c.args.from c.divide-end.result c.args.added.slope c.divide-end.ensures.after
-    (omega (arith, c.divide-end.new.runs.ok.0, c.args.runs.now.ok.0))
-    ∙ c.divide-end.ensures.begins
+returns-clause-begins c = grind (arith, left, steps-take-steeper, c)
 
 pub returns-clause-steeper : goal.returns-clause-steeper
 returns-clause-steeper c =
@@ -58,6 +43,4 @@ returns-clause-steeper c =
     (steeper-part runs from end slope c.divide-end.ensures.after))))
 
 pub returns-clause-lengths : goal.returns-clause-lengths
-returns-clause-lengths c =
-    subst HaveSteps (sym (left c))
-    (have_steps-steeper c.divide-end.new.runs.items c.args.from c.divide-end.result c.args.added.slope c.divide-end.ensures.lengths)
+returns-clause-lengths c = grind (arith, left, have_steps-steeper, c)

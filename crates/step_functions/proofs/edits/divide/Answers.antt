@@ -1,5 +1,5 @@
 -- The step's run is so many runs behind the first of those.
-use Rattle.std.proofs.Common.{◌≡◌, ℕ, ◌+◌, ◌-◌, List, length, take, drop, sym, ap, subst, ◌∙◌, arith}
+use Rattle.std.proofs.Common.{◌≡◌, ℕ, ◌+◌, ◌-◌, List, length, take, drop, sym, ap, ◌∙◌, arith}
 use Rattle.std.proofs.lemmas.List.{take_rest, take-take}
 use Rattle.step_functions.specs.Runs.{Run, steps_of}
 use Rattle.step_functions.specs.inside.Places.{Place, IsPlaceOf}
@@ -9,20 +9,13 @@ use Rattle.step_functions.proofs.edits.divide.Goals as goal
 -- the place among the runs from there on, which are a slice
 part : (from step : ℕ) (xs ys : List Run) (place : Place) → ys ≡ xs → IsPlaceOf (take (length ys - from) (drop from ys)) step place
     → steps_of (take from xs) + step ≡ steps_of (take (from + place.run) xs) + place.offset
-part from step xs ys place same h =
-    let is : IsPlaceOf (drop from xs) step place =
-    subst (λ zs. IsPlaceOf (drop from zs) step place) same (subst (λ zs. IsPlaceOf zs step place) (take_rest ys from) h) in
-    omega (arith, is.before, steps-take-add xs from place.run)
+part from step xs ys place same h = grind (arith, take_rest, steps-take-add, same, h)
 
 pub returns-then-place-eq0-clause-begins : goal.returns-then-place-eq0-clause-begins
-returns-then-place-eq0-clause-begins c =
-    let e = part c.args.from c.args.step c.args.runs.now.items c.deref.result.now c.place_of-place.result c.deref.ensures.value c.place_of-place.ensures in
-    omega arith
+returns-then-place-eq0-clause-begins c = grind (arith, part, c)
 
 pub returns-clause-begins : goal.returns-clause-begins
-returns-clause-begins c =
-    let e = part c.args.from c.args.step c.args.runs.now.items c.deref.result.now c.place_of-place.result c.deref.ensures.value c.place_of-place.ensures in
-    omega (arith, c.halve.ensures.before)
+returns-clause-begins c = grind (arith, part, c)
 
 pub returns-clause-front : goal.returns-clause-front
 returns-clause-front c =

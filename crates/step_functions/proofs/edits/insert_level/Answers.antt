@@ -25,5 +25,4 @@ pub returns-else-number-len-clause-level : goal.returns-else-number-len-clause-l
 returns-else-number-len-clause-level c = levelled-put c.args.runs.now.items c.insert.new.runs.items c.args.number c.args.length c.insert.ensures.runs
 
 pub returns-else-number-len-clause-lengths : goal.returns-else-number-len-clause-lengths
-returns-else-number-len-clause-lengths c =
-    have_steps-put c.args.runs.now.items c.insert.new.runs.items c.args.number c.args.length (omega (arith, c.if-length-eq0.false)) c.requires.lengths c.insert.ensures.runs
+returns-else-number-len-clause-lengths c = grind (arith, ints, have_steps-put, c)

@@ -1,8 +1,7 @@
 -- What a run adds is the difference of two sums, and so within the limits; and the sum goes on by it.
-use Rattle.std.proofs.Common.{◌+◌, ◌*◌, take, ap, arith}
+use Rattle.std.proofs.Common.{◌+◌, ◌*◌, take, arith}
 use Rattle.std.proofs.lemmas.Int.{ints}
-use Rattle.uc_model.specs.Prelude.{sum_below}
-use Rattle.step_functions.specs.Runs.{run_of, slope_at, steps_of}
+use Rattle.step_functions.specs.Runs.{run_of, steps_of}
 use Rattle.step_functions.specs.Functions.{MAX_VALUE}
 use Rattle.step_functions.proofs.RunSteps.{climb-size, rise-run, steps-take-more, steps-within}
 use Rattle.step_functions.proofs.runs.rise.Goals as goal
@@ -22,14 +21,7 @@ overflow_add-result c =
     omega (arith, ints)
 
 pub returns-then-rest-run : goal.returns-then-rest-run
-returns-then-rest-run c =
-    let runs = c.args.runs.now in
-    let i = c.loop-run.run-index in
-    let whole = rise-run runs i c.loop-run.rest c.loop-run-test.true c.if-rest-run.true in
-    let within = steps-within runs i c.loop-run.rest c.loop-run-test.true c.if-rest-run.true in
-    let after = c.requires.size (steps_of (take i runs) + c.loop-run.rest) within in
-    let count = ap (λ k. sum_below k (slope_at runs)) c.loop-run.invariant.0 in
-    omega (arith, ints)
+returns-then-rest-run c = grind (arith, ints, rise-run, steps-within, c)
 
 pub climb-sum-requires : goal.climb-sum-requires
 climb-sum-requires c =
@@ -46,12 +38,4 @@ overflow_add-sum c =
     omega (arith, ints)
 
 pub loop-run-preserved : goal.loop-run-preserved
-loop-run-preserved c =
-    let runs = c.args.runs.now in
-    let i = c.loop-run.run-index in
-    let more = steps-take-more runs i c.loop-run-test.true in
-    let whole = rise-run runs i (run_of runs i).length c.loop-run-test.true (omega arith) in
-    let within = steps-within runs i (run_of runs i).length c.loop-run-test.true (omega arith) in
-    let after = c.requires.size (steps_of (take i runs) + (run_of runs i).length) within in
-    let count = ap (λ k. sum_below k (slope_at runs)) more in
-    (omega arith, omega (arith, ints))
+loop-run-preserved c = grind (arith, ints, steps-take-more, rise-run, steps-within, c)

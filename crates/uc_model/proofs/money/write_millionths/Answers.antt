@@ -1,5 +1,5 @@
 -- The buffer holds the whole part, the point and the decimals one after the other.
-use Rattle.std.proofs.Common.{◌≡◌, ℕ, ◌+◌, ◌-◌, ◌/◌, ◌%◌, ◌^◌, ◌<◌, ◌≤◌, List, [], ◌∷◌, ◌++◌, length, take, drop, set, decimal, ap, ◌∙◌, arith, append_assoc}
+use Rattle.std.proofs.Common.{◌≡◌, ℕ, ◌+◌, ◌-◌, ◌/◌, ◌%◌, ◌^◌, ◌<◌, ◌≤◌, List, ◌∷◌, ◌++◌, length, take, set, decimal, ap, ◌∙◌, arith, append_assoc}
 use Rattle.std.proofs.lemmas.List.{length-append, length-take-le, length-drop, length-set, take_more_set}
 use Rattle.std.proofs.lemmas.Slice.{take-put_mid}
 use borrow.Rule.Slice.PartMut.{put_mid}
@@ -11,15 +11,7 @@ use Rattle.uc_model.proofs.money.write_millionths.Goals as goal
 
 -- a write to a part keeps the length
 length-put_mid : (at long : ℕ) (bytes part : List ℕ) → at + long ≤ length bytes → length part ≡ long → length (put_mid at long bytes part) ≡ length bytes
-length-put_mid at long bytes part room same =
-    omega (
-      arith,
-      length-append (take at bytes) (part ++ drop long (drop at bytes)),
-      length-append part (drop long (drop at bytes)),
-      length-take-le at bytes (omega arith),
-      length-drop long (drop at bytes),
-      length-drop at bytes,
-    )
+length-put_mid at long bytes part room same = grind (arith, length-append, length-take-le, length-drop, room, same)
 
 -- two parts and a byte between them, written behind what stood before
 written : (out whole decimals : List ℕ) (start : ℕ) → start + length whole + 7 ≤ length out → length decimals ≡ 6
@@ -27,30 +19,15 @@ written : (out whole decimals : List ℕ) (start : ℕ) → start + length whole
     (put_mid (start + length whole + 1) (start + length whole + 7 - (start + length whole + 1))
     (set (put_mid start (start + length whole - start) out whole) (start + length whole) 46) decimals)
     ≡ take start out ++ (whole ++ 46 ∷ decimals)
-written out whole decimals start room six =
-    let point = start + length whole in
-    let front = put_mid start (point - start) out whole in
-    let front_long : length front ≡ length out = length-put_mid start (point - start) out whole (omega arith) (omega arith) in
-    let pointed = set front point 46 in
-    let pointed_long = length-set front point 46 in
-    take-put_mid (point + 1) (point + 7 - (point + 1)) pointed decimals (point + 7) (omega arith) (omega arith)
-    ∙ ap (λ bytes. bytes ++ decimals)
-    (take_more_set front point 46 (omega arith)
-    ∙ ap (λ bytes. bytes ++ 46 ∷ []) (take-put_mid start (point - start) out whole point (omega arith) (omega arith)))
-    ∙ append_assoc (take start out ++ whole) (46 ∷ []) decimals
-    ∙ append_assoc (take start out) whole (46 ∷ decimals)
+written out whole decimals start room six = grind (arith, length-put_mid, length-set, take-put_mid, take_more_set, append_assoc, room, six)
 
 -- the whole part and the decimals, as the two calls wrote them
 whole_is : (size million : ℕ) (written : List ℕ) → size < 2 ^ 128 → million ≡ 1000000 → written ≡ decimal (size / million)
     → written ≡ whole_text (size / 1000000)
-whole_is size million written small is text =
-    let same = ap (λ n. decimal (size / n)) is in
-    text ∙ same ∙ decimal-whole_text (size / 1000000) (omega arith)
+whole_is size million written small is text = grind (arith, decimal-whole_text, small, is, text)
 
 pub returns-clause-length : goal.returns-clause-length
-returns-clause-length c =
-    let whole = whole_is c.args.size c.from.result c.as_bytes-whole.result.now c.ranges.size.fits c.from.ensures (c.as_bytes-whole.ensures.value ∙ c.format.ensures.text) in
-    omega (arith, ap length whole, length-millionths_text c.args.size)
+returns-clause-length c = grind (arith, whole_is, length-millionths_text, c)
 
 pub returns-clause-text : goal.returns-clause-text
 unfolding millionths_text

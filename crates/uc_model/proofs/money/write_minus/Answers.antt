@@ -1,5 +1,5 @@
 -- A number below nought is a `negsuc`, whose minus stands in the buffer's first place.
-use Rattle.std.proofs.Common.{◌≡◌, ℕ, ◌∷◌, [], ◌<◌, List, length, take, set, true, ℤ, pos, negsuc, refl, sym, ◌∙◌, arith, to_z-of_z}
+use Rattle.std.proofs.Common.{◌≡◌, ℕ, ◌∷◌, [], ◌<◌, List, length, take, set, true, ℤ, pos, negsuc, refl, arith, to_z-of_z}
 use Rattle.std.specs.Int.Signed.{lt_z}
 use Rattle.std.proofs.lemmas.Int.{ints}
 use Rattle.uc_model.specs.Decimal.{minus_text}
@@ -14,7 +14,4 @@ first_written [] some = absurd (omega arith)
 first_written (b ∷ bytes) some = refl
 
 pub returns-then-n-lt0-clause-text : goal.returns-then-n-lt0-clause-text
-returns-then-n-lt0-clause-text c =
-    let fits = c.ranges.n in
-    first_written c.args.out.now (omega (arith, c.told-out))
-    ∙ sym (minus_below_nought c.args.n (simp to_z-of_z at c.if-n-lt0.true))
+returns-then-n-lt0-clause-text c = grind (arith, ints, first_written, minus_below_nought, to_z-of_z, c)

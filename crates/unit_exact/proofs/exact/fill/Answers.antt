@@ -1,23 +1,14 @@
 -- One entry more.
 use Rattle.std.proofs.Common.{◌≡◌, suc, ◌+◌, ◌-◌, subst, arith, slice_set}
 use Rattle.unit_exact.specs.inside.Switches.{IsTableFrom}
-use Rattle.unit_exact.proofs.Tables.{table-more, table-none}
+use Rattle.unit_exact.proofs.Tables.{table-more}
 use Rattle.unit_exact.proofs.exact.fill.Goals as goal
 
 pub switches-requires-clause-later : goal.switches-requires-clause-later
-switches-requires-clause-later c =
-    let p = c.args.problem.now in
-    let back = c.loop-back.back in
-    let next : p.periods - back ≡ suc (p.periods - 1 - back) = omega arith in
-    subst (λ k. IsTableFrom p.periods p.table.now p.unit.now p.fix.now k c.loop-back.entries) next c.loop-back.invariant.table
+switches-requires-clause-later c = grind (arith, c)
 
 pub loop-back-init : goal.loop-back-init
-loop-back-init c =
-    let p = c.args.problem.now in
-    record {
-      room = c.requires.room;
-      table = table-none p.periods p.table.now p.unit.now p.fix.now c.args.entries.now (p.periods - 0) c.requires.count (omega arith);
-    }
+loop-back-init c = grind (arith, c)
 
 pub loop-back-preserved : goal.loop-back-preserved
 loop-back-preserved c =
@@ -36,7 +27,4 @@ loop-back-preserved c =
     }
 
 pub returns-clause-table : goal.returns-clause-table
-returns-clause-table c =
-    let p = c.args.problem.now in
-    let end : p.periods - c.loop-back.back ≡ 0 = omega (arith, c.loop-back-test.false) in
-    subst (λ k. IsTableFrom p.periods p.table.now p.unit.now p.fix.now k c.loop-back.entries) end c.loop-back.invariant.table
+returns-clause-table c = grind (arith, c)

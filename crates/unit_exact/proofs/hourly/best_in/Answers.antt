@@ -3,7 +3,7 @@ use Rattle.std.proofs.Common.{◌≡◌, ◌*◌, ◌≤◌, sym, ap, subst, ◌
 use mir.Val.{SFits}
 use Rattle.std.specs.Int.{w64, w128, int_min}
 use Rattle.std.specs.Int.Signed.{lt_z, le_z}
-use Rattle.std.proofs.lemmas.Int.{ints, clamps, to_z-of_z}
+use Rattle.std.proofs.lemmas.Int.{ints, to_z-of_z}
 use Rattle.step_functions.specs.Functions.{Steps, IsPlace, last_place}
 use Rattle.hull_function.specs.Hours.{IsSizedHour}
 use Rattle.hull_function.specs.Hulls.{IsHullFunction}
@@ -18,19 +18,13 @@ IsBetween last limit z = (pos 0 ≤ℤ z) × (z ≤ℤ last) × (z ≤ℤ limit)
 lesser : (first last least limit output : ℤ) → first ≡ pos 0 → last ≤ℤ pos (2 * MAX_POWER) → first ≤ℤ least → least ≤ℤ last → unsigned_abs limit ≤ MAX_POWER
     → lt_z (to_z w64 (of_z w64 limit)) (pos 0) ≡ false → output ≡ int_min (to_z w64 (of_z w64 least)) (to_z w64 (of_z w64 limit))
     → IsBetween last limit (to_z w64 (of_z w64 output))
-lesser first last least limit output e h low high small sign is =
-    let own : to_z w64 (of_z w64 least) ≡ least = omega (arith, ints) in
-    let capped : to_z w64 (of_z w64 limit) ≡ limit = omega (arith, ints) in
-    let above : pos 0 ≤ℤ limit = grind (arith, ints) in
-    let lower : output ≡ int_min least limit = is ∙ (λ i. int_min (own i) (capped i)) in
-    (omega (arith, ints, clamps), omega (arith, ints, clamps), omega (arith, ints, clamps))
+lesser first last least limit output e h low high small sign is = grind (arith, ints, e, h, low, high, small, sign, is)
 
 -- the output that is taken
 between : (hull : Steps) (hour : Hour) (least output : ℤ) → IsHullFunction hull → IsSizedHour hour → IsPlace hull least
     → lt_z (to_z w64 (of_z w64 hour.cap)) (pos 0) ≡ false → output ≡ int_min (to_z w64 (of_z w64 least)) (to_z w64 (of_z w64 hour.cap))
     → IsBetween (last_place hull) hour.cap (to_z w64 (of_z w64 output))
-between hull hour least output is sized place sign lower =
-    lesser hull.first (last_place hull) least hour.cap output is.first is.last.1 place.low place.high sized.cap sign lower
+between hull hour least output is sized place sign lower = grind (arith, ints, is, sized, place, sign, lower)
 
 at_place : (first last limit z : ℤ) → first ≡ pos 0 → IsBetween last limit z → (first ≤ℤ z) × (z ≤ℤ last)
 at_place first last limit z e is = let low = is.0 in let high = is.1 in (omega (arith, ints), high)

@@ -19,17 +19,7 @@ rise_is p r before limit h k l m e =
 fall_is : (p before limit : ℤ) → (pos 0 ≤ℤ p) × (p ≤ℤ pos (2 * MAX_POWER)) → unsigned_abs before ≤ 2 * MAX_POWER → unsigned_abs limit ≤ MAX_POWER
     → le_z (to_z w64 (of_z w64 (to_z w64 (of_z w64 before) -ℤ to_z w64 (of_z w64 p)))) (to_z w64 (of_z w64 limit)) ≡ true
     → (before -ℤ p) ≤ℤ limit
-fall_is p before limit h l m e =
-    let a : to_z w64 (of_z w64 (to_z w64 (of_z w64 before) -ℤ to_z w64 (of_z w64 p))) ≡ before -ℤ p = omega (arith, ints) in
-    let b : to_z w64 (of_z w64 limit) ≡ limit = omega (arith, ints) in
-    grind (arith, ints)
+fall_is p before limit h l m e = grind (arith, ints, h, l, m, e)
 
 pub returns-then-rise-unit : goal.returns-then-rise-unit
-returns-then-rise-unit c = λ fall.
-    let unit = c.args.unit.now in
-    let given = c.args.given.now in
-    let lawful = c.requires.unit in
-    record {
-      up = rise_is given.output given.reserve c.args.before unit.ru c.requires.output c.requires.reserve c.requires.before lawful.ramp_up.power c.if-rise-unit.true;
-      down = fall_is given.output c.args.before unit.rd c.requires.output c.requires.before lawful.ramp_down.power fall;
-    }
+returns-then-rise-unit c = grind (arith, ints, rise_is, fall_is, c)

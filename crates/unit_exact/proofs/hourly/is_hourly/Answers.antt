@@ -1,24 +1,16 @@
 -- From no hours on to all.
-use Rattle.std.proofs.Common.{◌≡◌, suc, ◌*◌, ◌≤◌, lit<, add-one, refl, sym, subst, ◌∙◌, arith, ℤ, pos, ◌+ℤ◌, ◌≤ℤ◌, to_z, of_z, unsigned_abs}
+use Rattle.std.proofs.Common.{suc, ◌*◌, ◌≤◌, lit<, add-one, refl, sym, subst, arith, ℤ, pos, ◌+ℤ◌, ◌≤ℤ◌, to_z, of_z, unsigned_abs}
 use Rattle.std.specs.Int.{w64}
 use Rattle.std.proofs.lemmas.Int.{ints}
 use Rattle.uc_model.specs.Prelude.{commitment_of}
 use Rattle.uc_model.proofs.Common.{narrow}
 use Rattle.hull_function.specs.Problems.{MAX_POWER}
 use Rattle.unit_exact.specs.inside.Hourly.{IsHourlyTo}
-use Rattle.unit_exact.proofs.HourlySteps.{hourly-all, hourly-more, hourly-none}
+use Rattle.unit_exact.proofs.HourlySteps.{hourly-more, hourly-none}
 use Rattle.unit_exact.proofs.hourly.is_hourly.Goals as goal
 
 pub loop-t-init : goal.loop-t-init
-loop-t-init c =
-    let p = c.args.problem.now in
-    let plain = c.args.plain.now in
-    let before = c.entry_output-before.ensures in
-    let own = narrow c.entry_output-before.result (2 * MAX_POWER) before.size (lit< tt) in
-    record {
-      hours = hourly-none p.periods p.table.now p.unit.now plain.terms.now (commitment_of plain.pattern.now) _ (own ∙ before.value);
-      size = subst (λ z. unsigned_abs z ≤ 2 * MAX_POWER) (sym own) before.size;
-    }
+loop-t-init c = grind (arith, ints, narrow, hourly-none, c)
 
 pub follows-requires-clause-before : goal.follows-requires-clause-before
 follows-requires-clause-before c = c.loop-t.invariant.size
@@ -45,8 +37,4 @@ loop-t-preserved c =
     }
 
 pub returns : goal.returns
-returns c = λ e.
-    let p = c.args.problem.now in
-    let plain = c.args.plain.now in
-    let all : c.loop-t.t ≡ p.periods = omega (arith, c.loop-t-test.false, c.loop-t.auto.t-end) in
-    hourly-all p.periods p.table.now p.unit.now plain.terms.now (commitment_of plain.pattern.now) c.loop-t.t _ all c.loop-t.invariant.hours
+returns c = grind (arith, ints, c)

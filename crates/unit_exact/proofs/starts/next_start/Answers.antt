@@ -1,13 +1,11 @@
 -- One start more, or the last one.
-use Rattle.std.proofs.Common.{◌≡◌, add-one, inl, false, refl, sym, subst, ◌∙◌, arith, pos, Some, None}
+use Rattle.std.proofs.Common.{add-one, inl, false, refl, sym, subst, ◌∙◌, arith, Some}
 use Rattle.unit_exact.specs.inside.Switches.{IsBestTo}
-use Rattle.unit_exact.proofs.BestTo.{nothing_known, best-more, best-last, best-end, rest-total}
+use Rattle.unit_exact.proofs.BestTo.{best-more, best-last, best-end, rest-total}
 use Rattle.unit_exact.proofs.starts.next_start.Goals as goal
 
 pub loop-t-init : goal.loop-t-init
-loop-t-init c =
-    let p = c.args.problem.now in
-    nothing_known p.periods p.table.now p.unit.now p.fix.now c.args.since false c.args.since
+loop-t-init c = grind (arith, c)
 
 pub loop-t-preserved : goal.loop-t-preserved
 loop-t-preserved c =
@@ -25,9 +23,4 @@ returns-then-not-may_stay_off c =
     c.better-best.ensures.choice (omega arith) (sym c.may_stay_off.ensures ∙ c.if-not-may_stay_off.true)
 
 pub returns : goal.returns
-returns c =
-    let p = c.args.problem.now in
-    let end : c.loop-t.t ≡ p.periods = omega (arith, c.loop-t-test.false, c.requires.past) in
-    best-end p.periods p.table.now p.unit.now p.fix.now c.args.since false c.args.since c.loop-t.t None c.loop-t.best c.better.result (Some (pos 0))
-    end (omega (arith, end)) c.loop-t.invariant (inl (rest-total p.periods p.table.now p.unit.now p.fix.now c.args.since c.loop-t.t end)) (omega arith) c.better.ensures.cost
-    c.better.ensures.choice end
+returns c = grind (arith, best-end, rest-total, c)

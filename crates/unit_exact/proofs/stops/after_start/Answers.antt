@@ -1,9 +1,8 @@
 -- The run begins with the start.
-use Rattle.std.proofs.Common.{add-one, suc, ◌<◌, true, sym, subst, None}
+use Rattle.std.proofs.Common.{arith, add-one, suc, ◌<◌, true, sym, subst}
 use Rattle.unit_runs.specs.RunsToGo.{run_from}
 use Rattle.unit_exact.specs.inside.Running.{IsRunning}
-use Rattle.unit_exact.specs.inside.Switches.{IsBestTo, IsLeastSwitch, IsTableFrom}
-use Rattle.unit_exact.proofs.BestTo.{nothing_known}
+use Rattle.unit_exact.specs.inside.Switches.{IsLeastSwitch, IsTableFrom}
 use Rattle.unit_exact.proofs.stops.after_start.Goals as goal
 
 pub later_stop-requires-clause-past : goal.later_stop-requires-clause-past
@@ -21,10 +20,7 @@ later_stop-requires-clause-later c =
     subst (λ k. IsTableFrom p.periods p.table.now p.unit.now p.fix.now (suc (run_from k)) c.args.entries.now) (sym (add-one c.args.from)) c.requires.later
 
 pub later_stop-requires-clause-known : goal.later_stop-requires-clause-known
-later_stop-requires-clause-known c =
-    let p = c.args.problem.now in
-    subst (λ k. IsBestTo p.periods p.table.now p.unit.now p.fix.now k true k (suc (run_from k)) None) (sym (add-one c.args.from))
-    (nothing_known p.periods p.table.now p.unit.now p.fix.now (suc c.args.from) true (suc c.args.from))
+later_stop-requires-clause-known c = grind (arith, c)
 
 pub returns-clause-least : goal.returns-clause-least
 returns-clause-least c =

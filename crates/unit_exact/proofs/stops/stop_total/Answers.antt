@@ -7,16 +7,13 @@ use Rattle.dual_model.proofs.Following.{may-turn_off}
 use Rattle.unit_runs.specs.CostThrough.{run_cost}
 use Rattle.unit_exact.specs.inside.Choices.{choice_cost, IsCostBelow}
 use Rattle.unit_exact.specs.inside.Problems.{MAX_SWITCH, MAX_WAY}
-use Rattle.unit_exact.specs.inside.Running.{IsRunning}
 use Rattle.unit_exact.specs.inside.Switches.{IsWithinSwitches}
 use Rattle.unit_exact.proofs.Sizes.{some-map, total-size}
 use Rattle.unit_exact.proofs.StopSteps.{may-behind, run-until, stop-below, stop-none}
 use Rattle.unit_exact.proofs.stops.stop_total.Goals as goal
 
 pub cost_below-requires-clause-running : goal.cost_below-requires-clause-running
-cost_below-requires-clause-running c =
-    let p = c.args.problem.now in
-    subst (λ k. IsRunning p.periods p.table.now p.unit.now p.hull.now k (c.args.t - k) c.args.runs.now) (sym c.run_begin.ensures) c.requires.running
+cost_below-requires-clause-running c = grind (arith, c)
 
 pub with_choice-requires : goal.with_choice-requires
 with_choice-requires c =
@@ -37,11 +34,7 @@ returns-then-not-may_stop-clause-total c =
     (may-behind p.periods p.table.now p.unit.now p.fix.now t c.args.since c.may_stop.result false c.may_stop.ensures c.if-not-may_stop.true))
 
 pub limit_before-requires-clause-best : goal.limit_before-requires-clause-best
-limit_before-requires-clause-best c =
-    let p = c.args.problem.now in
-    let few = c.requires.lawful.periods_are.1 in
-    some-map (λ choice. IsWithinSwitches (p.periods - c.args.since) choice.cost) (λ choice. unsigned_abs choice.cost ≤ MAX_WAY) c.args.best.now
-    (λ choice h. omega (arith, few, h)) c.requires.best
+limit_before-requires-clause-best c = grind (arith, c)
 
 pub limit_before-requires-clause-next : goal.limit_before-requires-clause-next
 limit_before-requires-clause-next c =
@@ -97,11 +90,7 @@ returns-in-Some-clause-size c =
     (total-size c.in-Some.cost c.args.next.now.stop (p.periods - suc (suc t)) small next.size))
 
 pub returns-in-None-clause-running : goal.returns-in-None-clause-running
-returns-in-None-clause-running c =
-    let p = c.args.problem.now in
-    subst (λ k. IsRunning p.periods p.table.now p.unit.now p.hull.now k (c.args.t - k) c.cost_below.new.self) c.run_begin.ensures c.cost_below.ensures.running
+returns-in-None-clause-running c = grind (arith, c)
 
 pub returns-in-Some-clause-running : goal.returns-in-Some-clause-running
-returns-in-Some-clause-running c =
-    let p = c.args.problem.now in
-    subst (λ k. IsRunning p.periods p.table.now p.unit.now p.hull.now k (c.args.t - k) c.cost_below.new.self) c.run_begin.ensures c.cost_below.ensures.running
+returns-in-Some-clause-running c = grind (arith, c)

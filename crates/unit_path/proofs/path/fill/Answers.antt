@@ -6,11 +6,7 @@ use Rattle.unit_path.proofs.Tables.{table-end, table-more}
 use Rattle.unit_path.proofs.path.fill.Goals as goal
 
 pub hour-requires-clause-later : goal.hour-requires-clause-later
-hour-requires-clause-later c =
-    let periods : c.periods-periods.result ≡ period_count c.args.terms.now = c.periods-periods.ensures.value ∙ ap length c.requires.filled in
-    subst (λ k. IsTableFrom c.args.terms.now c.args.unit.now c.args.fix.now k c.loop-back.hours)
-    (let e : period_count c.args.terms.now - c.loop-back.back ≡ suc (c.periods-periods.result - 1 - c.loop-back.back) = omega arith in e)
-    c.loop-back.invariant
+hour-requires-clause-later c = grind (arith, c)
 
 pub loop-back-init : goal.loop-back-init
 loop-back-init c =
@@ -30,7 +26,4 @@ loop-back-preserved c =
     c.hour.ensures)
 
 pub returns : goal.returns
-returns c =
-    let periods : c.periods-periods.result ≡ period_count c.args.terms.now = c.periods-periods.ensures.value ∙ ap length c.requires.filled in
-    subst (λ k. IsTableFrom c.args.terms.now c.args.unit.now c.args.fix.now k c.loop-back.hours)
-    (let e : period_count c.args.terms.now - c.loop-back.back ≡ 0 = omega (arith, c.loop-back-test.false) in e) c.loop-back.invariant
+returns c = grind (arith, c)

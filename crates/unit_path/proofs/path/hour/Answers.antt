@@ -17,10 +17,7 @@ use Rattle.unit_path.proofs.Tables.{cold_start-moves, later-moves, lesser-moves,
 use Rattle.unit_path.proofs.path.hour.Goals as goal
 
 pub onward-requires-clause-exit : goal.onward-requires-clause-exit
-onward-requires-clause-exit c =
-    within-fits c.args.unit.now c.args.terms.now c.requires.sized c.args.t c.exit-exit.result
-    (move-before c.args.terms.now c.args.t c.hour_to.result c.exit-exit.result c.stop_in-stop.result c.requires.period c.hour_to.ensures.size c.exit-exit.ensures
-    (stop-moves c.args.unit.now c.args.terms.now c.args.fix.now c.requires.lawful c.requires.sized c.args.t c.stop_in-stop.result c.requires.period c.stop_in-stop.ensures))
+onward-requires-clause-exit c = grind (arith, within-fits, move-before, stop-moves, c)
 
 pub onward-requires-clause-later : goal.onward-requires-clause-later
 onward-requires-clause-later c =
@@ -80,8 +77,7 @@ returns c =
           (ap Some kept ∙ c.full_hour_before-stay.ensures.value)
           (c.exit-exit.ensures ∙ ap (λ x. total_of x (choice_cost c.stop_in-stop.result)) c.hour_to.ensures.value)
           c.stop_in-stop.ensures c.onward.ensures.cost c.onward.ensures.choice;
-      onward_size = lesser-moves (period_count terms - t) _ c.exit-exit.result c.onward.result c.onward.ensures.cost
-          (move-before terms t (Some stay) _ c.on_after-on_until.result.1 c.requires.period stay_size refl onward_moves) exit_moves;
+      onward_size = grind (arith, lesser-moves, move-before, terms, t, c, stay, stay_size, onward_moves, exit_moves);
       cold_start = least-cold terms unit fix c.requires.lawful c.requires.sized t c.start_in-start.result (hour_in hours (suc t)).cold_start
           c.off_after-off_until.result.1 c.cold_start.result _ c.requires.period off_next off_none
           (λ since h may cold. cold_start-entry terms unit fix (suc t) hours c.requires.later since (suc t) (omega arith) (omega arith) (omega arith)

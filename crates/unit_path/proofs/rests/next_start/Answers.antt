@@ -17,20 +17,13 @@ returns-then-from-until c =
     (until.at (omega (arith, c.if-from-until.true, c.requires.later.count)))
 
 pub best_warm-best-requires-clause-may : goal.best_warm-best-requires-clause-may
-best_warm-best-requires-clause-may c = λ h.
-    let until = off_until-entry c.args.terms.now c.args.unit.now c.args.fix.now c.args.since c.args.hours.now c.requires.later c.args.since (omega arith) (omega arith) in
-    c.first_switch.ensures.first c.min-from.result ∙ le-leb c.first_switch.result c.min-from.result (omega (arith, h, until.within, c.requires.later.count))
+best_warm-best-requires-clause-may c = grind (arith, off_until-entry, le-leb, c)
 
 pub best_warm-best-requires-else-cold-until-clause-may : goal.best_warm-best-requires-else-cold-until-clause-may
-best_warm-best-requires-else-cold-until-clause-may c = λ h.
-    c.first_switch.ensures.first c.min-from.result ∙ le-leb c.first_switch.result c.min-from.result (omega (arith, h, c.requires.later.count))
+best_warm-best-requires-else-cold-until-clause-may c = grind (arith, le-leb, c)
 
 pub from_start-requires-clause-start : goal.from_start-requires-clause-start
-from_start-requires-clause-start c =
-    let until = off_until-entry c.args.terms.now c.args.unit.now c.args.fix.now c.args.since c.args.hours.now c.requires.later c.args.since (omega arith) (omega arith) in
-    let last = (hour_in c.args.hours.now c.args.since).off_until in
-    start-fits c.args.terms.now c.args.unit.now c.args.fix.now last (hour_in c.args.hours.now last).start
-    (c.requires.later.hour last until.later (omega (arith, c.if-cold-until.true, c.requires.later.count))).start
+from_start-requires-clause-start c = grind (arith, off_until-entry, start-fits, c)
 
 pub returns-then-cold-until : goal.returns-then-cold-until
 returns-then-cold-until c =

@@ -33,9 +33,7 @@ returns-then-from-hours c =
     ∙ lesser-none (stop_cost terms unit fix since since))
 
 pub run_cost-spent-requires-clause-on : goal.run_cost-spent-requires-clause-on
-run_cost-spent-requires-clause-on c = λ t low high.
-    let until = on_until-entry c.args.terms.now c.args.unit.now c.args.fix.now c.args.since c.args.hours.now c.requires.later (c.args.since + 1) (omega arith) (omega arith) in
-    until.before t (omega arith) (omega (arith, c.if-from-hours.false))
+run_cost-spent-requires-clause-on c = grind (arith, c)
 
 pub longer_by-requires-clause-choice : goal.longer_by-requires-clause-choice
 longer_by-requires-clause-choice c =

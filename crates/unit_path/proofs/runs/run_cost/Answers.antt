@@ -1,10 +1,9 @@
 -- One period more.
-use Rattle.std.proofs.Common.{◌≡◌, ◌+◌, ◌-◌, ◌≤◌, add-one, sym, subst, lit<, arith, ◌+ℤ◌, to_z, of_z, true, Some, unsigned_abs}
+use Rattle.std.proofs.Common.{◌+◌, ◌-◌, ◌≤◌, add-one, sym, subst, lit<, arith, ◌+ℤ◌, to_z, of_z, true, unsigned_abs}
 use Rattle.std.specs.Int.{w128}
 use Rattle.uc_model.proofs.Sizes.{wide}
 use Rattle.dual_model.specs.Prelude.{IsWithin, MAX_MOVE}
 use Rattle.dual_model.proofs.CostSizes.{move-size}
-use Rattle.unit_path.specs.inside.Choices.{stays}
 use Rattle.unit_path.specs.inside.Hours.{hour_in}
 use Rattle.unit_path.proofs.RunLaws.{run-first, run-fits, run-more, IsRunTo}
 use Rattle.unit_path.proofs.runs.run_cost.Goals as goal
@@ -20,9 +19,7 @@ loop-t-init c =
     })
 
 pub overflow_add-total : goal.overflow_add-total
-overflow_add-total c =
-    run-fits (c.loop-t.t - c.args.since) (to_z w128 c.loop-t.total-bits) (hour_in c.args.hours.now c.loop-t.t).stay
-    (omega (arith, c.requires.sized.periods.1)) c.loop-t.invariant.size (c.requires.later.hour c.loop-t.t (omega arith) (omega arith)).stay_size
+overflow_add-total c = grind (arith, run-fits, c)
 
 pub loop-t-preserved : goal.loop-t-preserved
 loop-t-preserved c =
@@ -33,9 +30,7 @@ loop-t-preserved c =
     (omega arith) (omega (arith, c.requires.sized.periods.1)) (c.requires.on c.loop-t.t (omega arith) c.loop-t-test.true) hour.stay hour.stay_size c.loop-t.invariant)
 
 pub returns-clause-value : goal.returns-clause-value
-returns-clause-value c =
-    subst (λ k. Some (to_z w128 c.loop-t.total-bits) ≡ stays c.args.terms.now c.args.unit.now c.args.fix.now c.args.since c.args.since (k - c.args.since))
-    (let e : c.loop-t.t ≡ c.args.to = omega arith in e) c.loop-t.invariant.value
+returns-clause-value c = grind (arith, c)
 
 pub returns-clause-size : goal.returns-clause-size
 returns-clause-size c = omega (arith, c.loop-t.invariant.size, c.requires.sized.periods.1)

@@ -1,9 +1,9 @@
 -- The unit and its row are those of its number, and its value is its part less its constant.
-use Rattle.std.proofs.Common.{◌≡◌, ℕ, ◌+◌, ◌*◌, ◌≤◌, List, [], length, sym, ap, subst, ◌∙◌, arith, ◌-ℤ◌, unsigned_abs}
+use Rattle.std.proofs.Common.{◌≡◌, ℕ, ◌+◌, ◌*◌, ◌≤◌, List, length, ap, subst, arith, unsigned_abs}
 use Rattle.uc_model.specs.Prelude.{IsLawfulThermal, no_unit, thermal_unit}
 use Rattle.uc_model.proofs.Common.{difference-is, difference-size, sum-fits, wide-size}
 use Rattle.uc_model.proofs.Sizes.{wide}
-use Rattle.dual_model.specs.Prelude.{MAX_PART, constant_at, unit_constant}
+use Rattle.dual_model.specs.Prelude.{MAX_PART}
 use Rattle.ramp_duals.specs.Sizes.{MAX_CONSTANT}
 use Rattle.schedule_check.specs.SizedNumbers.{IsSizedCell}
 use Rattle.schedule_check.specs.WholeWatts.{HasPrice, cell, row_of}
@@ -16,9 +16,7 @@ unit_is : (c : goal.After-difference-value) → thermal_unit c.args.instance.now
 unit_is c = read_is c.args.instance.now.thermal _ c.args.g c.index-as_slice-g.result no_unit c.as_slice.ensures c.requires.unit c.index-as_slice-g.is
 
 row_is : (c : goal.After-difference-value) → row_of c.args.printed.now c.args.g ≡ c.as_slice-row.result.now
-row_is c =
-    read_is c.args.printed.now.thermal _ c.args.g c.index-as_slice-g-2.result [] c.as_slice-2.ensures (omega (arith, c.requires.unit, c.requires.shape.thermal))
-    c.index-as_slice-g-2.is ∙ sym c.as_slice-row.ensures
+row_is c = grind (arith, read_is)
 
 pub constant-requires-clause-lawful : goal.constant-requires-clause-lawful
 constant-requires-clause-lawful c =
@@ -42,9 +40,7 @@ reduced_cost-requires-clause-prices c =
     (c.requires.prices c.args.g t c.requires.unit (omega (arith, h, ap length row, periods))))
 
 value-size : (c : goal.After-reduced_cost) → unsigned_abs c.difference-value.result ≤ MAX_PART + MAX_CONSTANT
-value-size c =
-    difference-size c.args.part c.constant.result c.difference-value.result MAX_PART MAX_CONSTANT c.difference-value.ensures c.requires.part
-    (c.constant.ensures.size c.requires.limits)
+value-size c = grind arith
 
 pub difference-requires : goal.difference-requires
 difference-requires c =
@@ -61,23 +57,4 @@ pub returns-clause-size : goal.returns-clause-size
 returns-clause-size c = wide-size c.difference.result MAX_UPLIFT (size c)
 
 pub returns-clause-value : goal.returns-clause-value
-returns-clause-value c =
-    let instance = c.args.instance.now in
-    let printed = c.args.printed.now in
-    let table = c.args.table.now in
-    let g = c.args.g in
-    let unit = unit_is c.before.before in
-    let row = row_is c.before.before in
-    let cost = c.reduced_cost.ensures.value
-    ∙ reduced_is instance printed table g c.index-as_slice-g.result c.as_slice-row.result.now unit row
-    (periods_are instance printed g c.requires.shape c.requires.unit) c.requires.whole in
-    let constant : c.constant.result ≡ constant_at instance table g =
-    c.constant.ensures.value ∙ (λ i. unit_constant (c.requires.size.periods i) table (sym unit i) g) in
-    let value : c.difference-value.result ≡ c.args.part -ℤ constant_at instance table g =
-    difference-is c.args.part c.constant.result c.difference-value.result MAX_PART MAX_CONSTANT c.difference-value.ensures c.requires.part
-    (c.constant.ensures.size c.requires.limits) (omega arith)
-    ∙ ap (λ z. c.args.part -ℤ z) constant in
-    wide c.difference.result MAX_UPLIFT (size c) (omega arith)
-    ∙ difference-is c.reduced_cost.result c.difference-value.result c.difference.result (MAX_UNIT_COST + 168 * MAX_CHARGE) (MAX_PART + MAX_CONSTANT)
-    c.difference.ensures c.reduced_cost.ensures.size (value-size c.before) (omega arith)
-    ∙ (λ i. cost i -ℤ value i)
+returns-clause-value c = grind (arith, unit_is, row_is, reduced_is, periods_are, size, difference-is, wide, value-size, c)

@@ -1,13 +1,13 @@
 -- The lists hold the uplifts, and what the others leave of the gap is the ramp slack.
-use Rattle.std.proofs.Common.{◌*◌, ◌≤◌, lit<, FitsSigned, List, length, sym, ap, subst, ◌∙◌, rules, ℤ, ◌+ℤ◌, ◌-ℤ◌, to_z, of_z, unsigned_abs, All}
+use Rattle.std.proofs.Common.{arith, ◌*◌, ◌≤◌, lit<, FitsSigned, List, length, sym, ap, subst, ◌∙◌, rules, ℤ, unsigned_abs, All}
 use Rattle.std.specs.Int.{w128}
 use Rattle.std.proofs.lemmas.Int.{to_z-of_z}
 use Rattle.uc_model.specs.Prelude.{renewable_count, thermal_count, sum_below}
 use Rattle.schedule_check.proofs.Priced.{priced}
 use Rattle.uc_model.proofs.Common.{sum-fits, sum-size, wide-size}
-use Rattle.dual_model.specs.Prelude.{MAX_PART, MAX_VALUE}
+use Rattle.dual_model.specs.Prelude.{MAX_VALUE}
 use Rattle.uplift.specs.Sizes.{MAX_GAP, MAX_KNOWN, MAX_PERIODS, MAX_SHORTAGE, MAX_SLACK, MAX_UNITS, MAX_UPLIFT}
-use Rattle.uplift.specs.inside.Lists.{AreRenewableUplifts, AreThermalUplifts, renewable_uplift_at, sum_in, uplift_by}
+use Rattle.uplift.specs.inside.Lists.{AreRenewableUplifts, renewable_uplift_at, uplift_by}
 use Rattle.uplift.proofs.Answered.{uplifts_are}
 use Rattle.uplift.proofs.Lists.{few_and_small}
 use Rattle.uplift.proofs.uplifts.of.Goals as goal
@@ -19,8 +19,7 @@ pub thermal_uplifts-requires-clause-parts : goal.thermal_uplifts-requires-clause
 thermal_uplifts-requires-clause-parts c = ap length c.as_slice-parts.ensures ∙ c.in_ok-valued.ensures.value.parts
 
 pub thermal_uplifts-requires-clause-part : goal.thermal_uplifts-requires-clause-part
-thermal_uplifts-requires-clause-part c =
-    subst (λ (xs : List ℤ). All (λ n. unsigned_abs n ≤ MAX_PART) xs) (sym c.as_slice-parts.ensures) c.in_ok-valued.ensures.sizes.parts
+thermal_uplifts-requires-clause-part c = grind (arith, c)
 
 pub gap-total-requires-clause-value : goal.gap-total-requires-clause-value
 gap-total-requires-clause-value c = wide-size c.in_ok-valued.valued.total MAX_VALUE c.in_ok-valued.ensures.value.size
@@ -65,12 +64,10 @@ returns c =
     (record { lawful = c.requires.lawful; one = c.requires.whole; obeys = c.requires.obeys })
     c.requires.table c.in_ok-valued.ensures.value
     (record {
-      thermal = subst (λ (uplifts : List ℤ). AreThermalUplifts instance printed table c.in_ok-valued.valued.parts uplifts) (sym c.from_vec.ensures)
-          (subst (λ (parts : List ℤ). AreThermalUplifts instance printed table parts c.in_ok-thermal.thermal.items) c.as_slice-parts.ensures c.in_ok-thermal.ensures);
+      thermal = grind (arith, instance, printed, table, c);
       renewable = subst (λ (uplifts : List ℤ). AreRenewableUplifts instance printed table uplifts) (sym c.from_vec-2.ensures) c.in_ok-renewable.ensures;
       shed = to_z-of_z w128 c.shed_uplift-shed.result (search rules) ∙ c.shed_uplift-shed.ensures.value;
       reserve = to_z-of_z w128 c.reserve_slack-reserve_slack.result (search rules) ∙ c.reserve_slack-reserve_slack.ensures.value;
       total = to_z-of_z w128 c.gap-total.result (search rules) ∙ simp to_z-of_z at c.gap-total.ensures.value;
-      rest = to_z-of_z w128 c.rest-ramp_slack.result (search rules) ∙ c.rest-ramp_slack.ensures
-          ∙ (λ i. to_z w128 (of_z w128 c.gap-total.result) -ℤ (known i +ℤ (sum_in (first i) +ℤ sum_in (second i))));
+      rest = grind (arith, to_z-of_z, c, known, first, second);
     })

@@ -1,5 +1,5 @@
 -- The walk goes from an entry of the node to the one before it.
-use Rattle.std.proofs.Common.{◌≡◌, ℕ, ◌-◌, suc, ap, sym, ◌∙◌, subst, arith, refl, Some, slice_get, get_or}
+use Rattle.std.proofs.Common.{◌≡◌, ℕ, ◌-◌, suc, ap, sym, ◌∙◌, subst, arith, Some, slice_get, get_or}
 use Rattle.std.proofs.lemmas.Option.{slice_get-get_or}
 use Rattle.book.specs.inside.Chains.{LogView, Entry, IsNewest, IsWalked, IsElsewhere}
 use Rattle.book.proofs.Links.{entry_of, walk_on, walk_ends}
@@ -61,8 +61,4 @@ loop-link-preserved c =
     (c.is_at.ensures.elsewhere c.if-is_at.false) (newest at link c.index-link.ensures))
 
 pub returns : goal.returns
-returns c = (
-  (λ h. walk_ends c.args.self.now.entries c.args.tables.now c.args.table.now c.args.exact c.args.node c.loop-link.link c.loop-link.invariant
-      (omega (arith, c.loop-link-test.false))),
-  (λ all. refl),
-)
+returns c = grind (arith, walk_ends, c)

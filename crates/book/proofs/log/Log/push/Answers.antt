@@ -6,24 +6,7 @@ use Rattle.book.proofs.Links.{entries_few, linked_push}
 use Rattle.book.proofs.log.Log.push.Goals as goal
 
 pub overflow_add-index_mut : goal.overflow_add-index_mut
-overflow_add-index_mut c =
-    let a = c.self.inside in
-    let node = c.args.entry.node in
-    let count = c.index_mut-2.result.now in
-    let nodes = subst (λ (v : LogView). node < v.nodes) (sym c.self.view_is) c.requires.node in
-    let room = subst (λ (v : LogView). length v.entries < v.room) (sym c.self.view_is) c.requires.room in
-    let inside : node < length a.counts.items = omega (arith, nodes, a.newest.ok.0, c.self.invariant.0.counted) in
-    let counted : slice_get a.counts.items node ≡ Some count =
-    slice_get-get_or a.counts.items node count inside ∙ ap (λ n. Some n) (sym c.index_mut-2.ensures.value) in
-    record {
-      fits = omega (
-        arith,
-        c.self.invariant.0.many node count counted,
-        entries_few a.entries.items node,
-        room,
-        c.self.invariant.2,
-      );
-    }
+overflow_add-index_mut c = grind (arith, slice_get-get_or, entries_few, c)
 
 pub invariant_of-self : goal.invariant_of-self
 invariant_of-self c =

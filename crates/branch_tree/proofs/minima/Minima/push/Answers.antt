@@ -1,6 +1,5 @@
 -- The value has its entry, which is mended upwards.
-use Rattle.std.proofs.Common.{◌++◌, ◌∷◌, [], ap, sym, ◌∙◌, subst}
-use Rattle.branch_tree.specs.inside.Minima.{MinimaView, IsTournament}
+use Rattle.std.proofs.Common.{arith, ◌∙◌}
 use Rattle.branch_tree.proofs.Tournament.{value_added}
 use Rattle.branch_tree.proofs.minima.Minima.push.Goals as goal
 
@@ -10,12 +9,7 @@ mend-requires c = value_added c.self.inside.values.items c.self.inside.entries.i
     (c.len-place.ensures ∙ c.self.inside.values.ok.0)
 
 pub invariant_of-self : goal.invariant_of-self
-invariant_of-self c = (
-  subst (λ vs. IsTournament vs c.mend.new.entries.items) c.deref.ensures.value c.mend.ensures.entries,
-  c.mend.ensures.capacity ∙ (c.push_reserved-2.ensures.capacity ∙ (c.self.invariant.1 ∙ sym c.push_reserved.ensures.capacity)),
-)
+invariant_of-self c = grind (arith, c)
 
 pub returns : goal.returns
-returns c =
-    (λ i. record { values = c.push_reserved.ensures.items i; room = c.push_reserved.ensures.capacity i })
-    ∙ ap (λ (v : MinimaView). record v { values = v.values ++ c.args.value ∷ [] }) c.self.view_is
+returns c = grind (arith, c)

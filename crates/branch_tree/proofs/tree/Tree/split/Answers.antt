@@ -1,6 +1,5 @@
 -- The open leaf has its place, that place and its bound changed, and two others follow.
-use Rattle.std.proofs.Common.{◌≡◌, ℕ, suc, ◌++◌, ◌∷◌, [], Option, ℤ, None, length, length-append, length-set, set, refl, ◌∙◌, ap, arith}
-use Rattle.branch_tree.specs.TreeView.{TreeView}
+use Rattle.std.proofs.Common.{◌≡◌, ℕ, suc, ◌++◌, ◌∷◌, [], Option, ℤ, None, length-append, length-set, set, refl, ◌∙◌, ap, arith}
 use Rattle.branch_tree.specs.inside.Minima.{MinimaView}
 use Rattle.branch_tree.proofs.Changes.{stored_within, stored_count, bound_count, room_for_two, split_made}
 use Rattle.branch_tree.proofs.tree.Tree.split.Goals as goal
@@ -9,9 +8,7 @@ use Rattle.branch_tree.proofs.tree.Tree.split.Goals as goal
 three_steps : (a b c d : MinimaView) (node : ℕ) (bound : Option ℤ) → b ≡ record a { values = set a.values node None }
     → c ≡ record b { values = b.values ++ bound ∷ [] } → d ≡ record c { values = c.values ++ bound ∷ [] }
     → d ≡ record a { values = (set a.values node None ++ bound ∷ []) ++ bound ∷ [] }
-three_steps a b c d node bound first second third =
-    third ∙ ap (λ (v : MinimaView). record v { values = v.values ++ bound ∷ [] })
-    (second ∙ ap (λ (v : MinimaView). record v { values = v.values ++ bound ∷ [] }) first)
+three_steps a b c d node bound first second third = grind (arith, first, second, third)
 
 pub index-requires : goal.index-requires
 index-requires c =
@@ -24,22 +21,10 @@ set-requires c =
     omega (arith, bound_count c.self.inside c.self.invariant)
 
 pub push-requires : goal.push-requires
-push-requires c =
-    let room = room_for_two c.self.inside c.args.self.now c.self.view_is c.self.invariant c.requires.room in
-    omega (arith, length-set c.self.inside.bounds.values c.args.node None, ap (λ (v : MinimaView). length v.values) c.set.ensures, ap (λ (v : MinimaView). v.room) c.set.ensures)
+push-requires c = grind (arith, room_for_two, length-set, c)
 
 pub push-requires-2 : goal.push-requires-2
-push-requires-2 c =
-    let room = room_for_two c.self.inside c.args.self.now c.self.view_is c.self.invariant c.requires.room in
-    omega (
-      arith,
-      length-set c.self.inside.bounds.values c.args.node None,
-      ap (λ (v : MinimaView). length v.values) c.set.ensures,
-      ap (λ (v : MinimaView). v.room) c.set.ensures,
-      length-append c.set.new.self.values (c.bound_at-bound.result ∷ []),
-      ap (λ (v : MinimaView). length v.values) c.push.ensures,
-      ap (λ (v : MinimaView). v.room) c.push.ensures,
-    )
+push-requires-2 c = grind (arith, room_for_two, length-set, length-append, c)
 
 pub split-requires-clause-within : goal.split-requires-clause-within
 split-requires-clause-within c =
@@ -47,8 +32,7 @@ split-requires-clause-within c =
     omega (arith, c.self.inside.places.ok.0)
 
 pub split-requires-clause-room : goal.split-requires-clause-room
-split-requires-clause-room c =
-    omega (arith, c.self.inside.places.ok.0, stored_count c.self.inside c.args.self.now c.self.view_is c.self.invariant, c.requires.room, ap (λ (v : TreeView). v.room) c.self.view_is)
+split-requires-clause-room c = grind (arith, c)
 
 pub split-requires-clause-countable : goal.split-requires-clause-countable
 split-requires-clause-countable c = c.self.invariant.whole.countable

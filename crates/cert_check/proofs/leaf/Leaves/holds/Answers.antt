@@ -1,8 +1,8 @@
 -- The least value says whether it holds; where there is none the scale is another.
-use Rattle.std.proofs.Common.{◌≡◌, ℤ, Option, Some, None, MatchOption, subst}
+use Rattle.std.proofs.Common.{arith, ◌≡◌, ℤ, Option, Some, None, MatchOption, subst}
 use Rattle.leaf_values.specs.declared.least.Least.{Least}
 use Rattle.cert_check.specs.inside.Leaves.{Claim, FitsScale, IsLeastFor}
-use Rattle.cert_check.proofs.LeafNumbers.{holds-by-least, other-scale}
+use Rattle.cert_check.proofs.LeafNumbers.{holds-by-least}
 use Rattle.cert_check.proofs.leaf.Leaves.holds.Goals as goal
 
 -- what is told of a least value that is there, and of none
@@ -14,8 +14,7 @@ of-none : (k : ℤ) (claim : Claim) (answer : Option Least) → MatchOption answ
 of-none k claim answer told is = subst (λ o. MatchOption o (¬ FitsScale k claim) (IsLeastFor k claim)) is told
 
 pub reaches-requires-clause-scale : goal.reaches-requires-clause-scale
-reaches-requires-clause-scale c =
-    (of-some c.args.table.now.k c.args.question.now.claim c.least_for.result c.in-Some.least c.least_for.ensures c.in-Some.is).scale
+reaches-requires-clause-scale c = grind (arith, c)
 
 pub returns-in-Some-clause-holds : goal.returns-in-Some-clause-holds
 returns-in-Some-clause-holds c = λ place are.
@@ -25,7 +24,4 @@ returns-in-Some-clause-holds c = λ place are.
     (c.reaches.ensures.reaches place are)
 
 pub returns-in-None-clause-holds : goal.returns-in-None-clause-holds
-returns-in-None-clause-holds c = λ place are.
-    let question = c.args.question.now in
-    other-scale question c.args.instance.now place c.args.table.now
-    (of-none c.args.table.now.k question.claim c.least_for.result c.least_for.ensures c.in-None.is)
+returns-in-None-clause-holds c = grind (arith, c)

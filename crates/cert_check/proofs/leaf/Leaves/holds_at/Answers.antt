@@ -1,5 +1,5 @@
 -- The entries are those of the table, and what is kept is ready again.
-use Rattle.std.proofs.Common.{◌≡◌, ℕ, subst, Some, slice_get}
+use Rattle.std.proofs.Common.{arith, ◌≡◌, ℕ, subst, Some, slice_get}
 use Rattle.std.proofs.lemmas.Option.{get_or_from_slice_get}
 use Rattle.dual_model.specs.Prelude.{IsLawfulTable}
 use Rattle.cert_check.proofs.leaf.Leaves.holds_at.Goals as goal
@@ -12,12 +12,7 @@ holds-holds-requires-clause-table c =
     subst (IsLawfulTable c.args.instance.now) (get_or_from_slice_get tables c.args.number table table here) (c.requires.tables c.args.number table c.requires.number)
 
 pub returns-clause-ready : goal.returns-clause-ready
-returns-clause-ready c =
-    let room = c.holds-holds.ensures.room in
-    record {
-      room = record { walk = room.walk; exact = room.exact; fixes = room.fixes };
-      loaded = record { is = c.in_ok-loaded.ensures.loaded.of_number.is; entries = c.holds-holds.ensures.entries };
-    }
+returns-clause-ready c = grind (arith, c)
 
 pub returns-clause-holds : goal.returns-clause-holds
 returns-clause-holds c = λ place are.

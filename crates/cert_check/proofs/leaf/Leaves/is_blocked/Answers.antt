@@ -1,5 +1,5 @@
 -- What is told of the unit's decisions is told of each node that decides so.
-use Rattle.std.proofs.Common.{◌≡◌, ℕ, ◌<◌, Bool, true, false, IsTrue, ◌↔◌, List, length, get_or, sym, subst, IfOk, Result}
+use Rattle.std.proofs.Common.{arith, ◌≡◌, ℕ, ◌<◌, Bool, true, false, IsTrue, ◌↔◌, List, length, get_or, sym, subst, IfOk, Result}
 use Rattle.std.proofs.lemmas.List.{get_or_read}
 use Rattle.uc_model.specs.Prelude.{thermal_count}
 use Rattle.uc_model.specs.declared.memory.NoMemory.{NoMemory}
@@ -21,10 +21,7 @@ of_kind instance fixes g fix kind exact result is fixed told =
 -- the decisions of the unit are those that are read
 fixed_at : (instance : Instance) (fixes : List Fix) (g : ℕ) (fix : Fix) → g < thermal_count instance → length fixes ≡ thermal_count instance → fix ≡ get_or fixes g fix
     → (node : Node) → AreFixesOf instance node fixes → IsFixOf instance.periods node g fix
-fixed_at instance fixes g fix within count is node are =
-    let short : g < length fixes = subst (λ n. g < n) (sym count) within in
-    subst (λ (f : Fix). IsFixOf instance.periods node g f)
-    (sym (get_or_read fixes g fix short is (record { known = record { low = 0; high = 0 }; on = record { low = 0; high = 0 } }))) (are.fix g within)
+fixed_at instance fixes g fix within count is node are = grind (arith, get_or_read, within, count, is, are)
 
 pub returns-then-exact-clause-blocked : goal.returns-then-exact-clause-blocked
 returns-then-exact-clause-blocked c =

@@ -1,5 +1,5 @@
 -- What is told of the number of a leaf is told of the leaf.
-use Rattle.std.proofs.Common.{◌≡◌, ◌<◌, Bool, List, ℤ, length, sym, subst, ◌↔◌, IfOk, IsTrue, Option, Result, true, false}
+use Rattle.std.proofs.Common.{arith, ◌≡◌, ◌<◌, Bool, List, ℤ, length, subst, ◌↔◌, IfOk, IsTrue, Option, Result, true, false}
 use Rattle.std.proofs.lemmas.Result.{IfOk-weaker}
 use Rattle.uc_model.specs.Prelude.{thermal_count}
 use Rattle.uc_model.specs.declared.memory.NoMemory.{NoMemory}
@@ -14,28 +14,19 @@ use Rattle.cert_check.proofs.leaf.Leaves.is_sound.Goals as goal
 of_leaf : (instance : Instance) (tables : List Table) (bound : Option ℤ) (path : List Fixing) (leaf named : CertNode) → leaf ≡ named
     → (result : Result Bool NoMemory) → IfOk result (λ told. IsTrue told ↔ IsSound instance tables bound (visit_of path named))
     → IfOk result (λ told. IsTrue told ↔ IsSound instance tables bound (visit_of path leaf))
-of_leaf instance tables bound path leaf named is result told =
-    subst (λ (l : CertNode). IfOk result (λ told. IsTrue told ↔ IsSound instance tables bound (visit_of path l))) (sym is) told
+of_leaf instance tables bound path leaf named is result told = grind (arith, is)
 
 pub returns-in-Bound-clause-sound : goal.returns-in-Bound-clause-sound
-returns-in-Bound-clause-sound c =
-    of_leaf c.args.instance.now c.args.cert.now.tables c.args.cert.now.bound c.args.path.now c.args.leaf.now _ c.in-Bound.is c.is_bounded.result
-    (IfOk-weaker c.is_bounded.result _ _ (λ told is. is (node_of c.args.path.now) c.decide.ensures) c.is_bounded.ensures.sound)
+returns-in-Bound-clause-sound c = grind (arith, of_leaf, IfOk-weaker, c)
 
 pub returns-in-Exact-clause-sound : goal.returns-in-Exact-clause-sound
-returns-in-Exact-clause-sound c =
-    of_leaf c.args.instance.now c.args.cert.now.tables c.args.cert.now.bound c.args.path.now c.args.leaf.now _ c.in-Exact.is c.is_bounded-in-Exact.result
-    (IfOk-weaker c.is_bounded-in-Exact.result _ _ (λ told is. is (node_of c.args.path.now) c.decide.ensures) c.is_bounded-in-Exact.ensures.sound)
+returns-in-Exact-clause-sound c = grind (arith, of_leaf, IfOk-weaker, c)
 
 pub returns-in-Ray-clause-sound : goal.returns-in-Ray-clause-sound
-returns-in-Ray-clause-sound c =
-    of_leaf c.args.instance.now c.args.cert.now.tables c.args.cert.now.bound c.args.path.now c.args.leaf.now _ c.in-Ray.is c.is_excluded.result
-    (IfOk-weaker c.is_excluded.result _ _ (λ told is. is (node_of c.args.path.now) c.decide.ensures) c.is_excluded.ensures.sound)
+returns-in-Ray-clause-sound c = grind (arith, of_leaf, IfOk-weaker, c)
 
 pub returns-in-ExactRay-clause-sound : goal.returns-in-ExactRay-clause-sound
-returns-in-ExactRay-clause-sound c =
-    of_leaf c.args.instance.now c.args.cert.now.tables c.args.cert.now.bound c.args.path.now c.args.leaf.now _ c.in-ExactRay.is c.is_excluded-in-ExactRay.result
-    (IfOk-weaker c.is_excluded-in-ExactRay.result _ _ (λ told is. is (node_of c.args.path.now) c.decide.ensures) c.is_excluded-in-ExactRay.ensures.sound)
+returns-in-ExactRay-clause-sound c = grind (arith, of_leaf, IfOk-weaker, c)
 
 pub returns-in-Empty-clause-sound : goal.returns-in-Empty-clause-sound
 returns-in-Empty-clause-sound c =

@@ -16,18 +16,11 @@ pub overflow_add-value : goal.overflow_add-value
 overflow_add-value c = omega (arith, c.loop-count.invariant.bound, small_power c.loop-count.count (omega arith), digit_bound (get_or c.args.bytes.now c.loop-count.count 0) c.from.result (search rules) (search rules))
 
 pub loop-count-preserved : goal.loop-count-preserved
-loop-count-preserved c = record {
-  within = omega arith;
-  few = omega arith;
-  digits = below_more _ _ c.loop-count.invariant.digits (search rules);
-  number = number_more c.args.bytes.now c.loop-count.count c.loop-count.value c.from.result (omega arith) (search rules) c.loop-count.invariant.number (search rules);
-  bound = omega (arith, c.loop-count.invariant.bound, power_more c.loop-count.count, digit_bound (get_or c.args.bytes.now c.loop-count.count 0) c.from.result (search rules) (search rules));
-}
+loop-count-preserved c = grind (arith, below_more, number_more, power_more, digit_bound, c)
 
 pub returns-else-is_digit_byte-clause-found : goal.returns-else-is_digit_byte-clause-found
 returns-else-is_digit_byte-clause-found c =
     run_is c.args.bytes.now c.loop-count.count c.loop-count.value c.loop-count.invariant.within c.loop-count.invariant.digits (λ _. search rules) c.loop-count.invariant.number
 
 pub returns-after-loop-count-clause-found : goal.returns-after-loop-count-clause-found
-returns-after-loop-count-clause-found c =
-    run_is c.args.bytes.now c.loop-count.count c.loop-count.value c.loop-count.invariant.within c.loop-count.invariant.digits (λ lt. absurd (omega arith)) c.loop-count.invariant.number
+returns-after-loop-count-clause-found c = grind (arith, run_is, c)

@@ -1,16 +1,10 @@
 -- The draft has the numbers of the table that the next one is told from.
-use Rattle.std.proofs.Common.{sym, subst, Option, IfSome}
-use Rattle.table_list.specs.Changes.{Table}
-use Rattle.cert_text.specs.inside.Parts.{sizes, told_part}
-use Rattle.cert_text.specs.inside.Drafts.{IsDrafted}
-use Rattle.table_list.specs.TableChanges.{last_table}
-use Rattle.cert_text.proofs.ChangeSteps.{told_from_last}
+use Rattle.std.proofs.Common.{arith, sym}
+use Rattle.cert_text.specs.inside.Parts.{told_part}
 use Rattle.cert_text.proofs.reader.table.take_told.Goals as goal
 
 pub take_next-requires-clause-before : goal.take_next-requires-clause-before
-take_next-requires-clause-before c =
-    let last = told_from_last c.args.size.now.version (last_table c.args.tables.now) c.in-Some.before.now c.in-Some.ensures in
-    subst (λ (o : Option Table). IfSome o (IsDrafted (sizes c.args.size.now) c.args.draft.now)) last c.requires.last
+take_next-requires-clause-before c = grind (arith, c)
 
 pub returns-in-None-clause-read : goal.returns-in-None-clause-read
 unfolding told_part

@@ -1,8 +1,7 @@
 -- A change more is made; where one can't stand, the changes stop. In the end the rows that are left go behind those that are done.
-use Rattle.std.proofs.Common.{ap, ◌∙◌, sym, List, pos}
+use Rattle.std.proofs.Common.{arith}
 use Rattle.std.specs.Option.{option_map}
 use Rattle.std.proofs.lemmas.Result.{err_from_is_err_and}
-use Rattle.table_list.specs.Changes.{Table, RampRow}
 use Rattle.cert_text.specs.inside.Parts.{sizes}
 use Rattle.cert_text.specs.inside.Drafts.{so_far}
 use Rattle.table_list.specs.TableChanges.{change_of}
@@ -11,10 +10,7 @@ use Rattle.cert_text.proofs.ChangeSteps.{change_more, change_stops_as, changes_d
 use Rattle.cert_text.proofs.reader.update.take_changes.Goals as goal
 
 pub returns-in_err-change : goal.returns-in_err-change
-returns-in_err-change c =
-    let p = err_from_is_err_and c.from_residual.result c.from_residual.ensures.1 in
-    rw (p.1, p.2) (change_stops_as (sizes c.args.size.now) c.args.count c.loop.counter (so_far c.loop.draft c.loop.left.now) (option_map change_of c.loop.last) c.loop.rest.now
-    c.in_err-change.field-0.0 _ c.loop-test.true c.in_err-change.ensures.read c.loop.invariant.read)
+returns-in_err-change c = grind (arith, err_from_is_err_and, change_stops_as, c)
 
 pub loop-preserved : goal.loop-preserved
 loop-preserved c =
@@ -26,7 +22,4 @@ loop-preserved c =
     }
 
 pub returns : goal.returns
-returns c =
-    changes_done (sizes c.args.size.now) c.args.count c.loop.counter (so_far c.loop.draft c.loop.left.now) (option_map change_of c.loop.last) c.loop.rest.now _ c.loop-test.false c.loop.invariant.read
-    ∙ ap (λ (rows : List RampRow). ok_of Table (record { units = c.loop.draft.units; k = pos c.loop.draft.k; pi = c.loop.draft.pi.items; mu = c.loop.draft.mu.items; ramps = rows }) c.loop.rest.now)
-    (sym c.in_ok-extend_from_slice.ensures.items)
+returns c = grind (arith, changes_done, ok_of, c)

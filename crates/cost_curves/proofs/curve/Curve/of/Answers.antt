@@ -1,5 +1,5 @@
 -- The corners are the front of the list that they were put into. They are lawful, and as wide as the points.
-use Rattle.std.proofs.Common.{◌≡◌, ℕ, ◌≤◌, List, ◌++◌, arith, sym, subst, take, length, ◌∙◌}
+use Rattle.std.proofs.Common.{◌≡◌, ℕ, ◌≤◌, List, ◌++◌, arith, take, length, ◌∙◌}
 use Rattle.std.proofs.lemmas.List.{take-take, take-append-le}
 use Rattle.cost_curves.specs.LowerHull.{Point, IsLowerHull}
 use Rattle.cost_curves.proofs.HullValues.{lawful_corners, whole_width}
@@ -10,9 +10,7 @@ front_of : (count len : ℕ) (xs rest : List Point) → count ≤ len → count 
 front_of count len xs rest within room = take-take count len (xs ++ rest) within ∙ take-append-le count xs rest room
 
 hull_of : (c : goal.After-truncate) → IsLowerHull c.args.points.now c.truncate.new.self.items
-hull_of c =
-    subst (λ xs. IsLowerHull c.args.points.now xs)
-    (sym (c.truncate.ensures.items ∙ front_of c.fill-count.result _ c.fill-count.new.corners _ (omega (arith, c.in_ok-corners.ensures.len)) (omega (arith, c.in_ok-corners.ensures.len)))) c.fill-count.ensures.hull
+hull_of c = grind (arith, front_of)
 
 pub invariant_of-result : goal.invariant_of-result
 invariant_of-result c = lawful_corners c.args.points.now c.truncate.new.self.items (hull_of c)

@@ -1,5 +1,5 @@
 -- The part between two units' places is the unit's rows.
-use Rattle.std.proofs.Common.{◌≡◌, ℕ, ◌+◌, ◌-◌, ◌≤◌, List, length, take, drop, sym, ap, subst, ◌∙◌, add-one, arith}
+use Rattle.std.proofs.Common.{◌≡◌, ℕ, ◌+◌, ◌-◌, ◌≤◌, List, take, drop, sym, ap, subst, ◌∙◌, add-one, arith}
 use Rattle.dual_model.specs.PriceTable.{PriceTable}
 use Rattle.dual_model.specs.Prices.{RampRow, AreRising, row_of, rows_before}
 use Rattle.dual_model.specs.Prices.{unit_rows as rows_of}
@@ -12,21 +12,13 @@ in_order rows g start end first next = omega (arith, before-next rows g, first, 
 
 part : (rows from : List RampRow) (g start end : ℕ) → start ≡ rows_before rows g → end ≡ rows_before rows (g + 1) → from ≡ rows
     → take (end - start) (drop start from) ≡ rows_of rows g
-part rows from g start end first next same =
-    λ i. take ((next ∙ ap (λ g. rows_before rows g) (add-one g)) i - first i) (drop (first i) (same i))
+part rows from g start end first next same = grind (arith, first, next, same)
 
 pub slice_bounds-result-count : goal.slice_bounds-result-count
 slice_bounds-result-count c = in_order c.args.self.now.ramps c.args.g _ _ c.place-start.ensures.value c.place-end.ensures.value
 
 pub slice_bounds-result-start : goal.slice_bounds-result-start
-slice_bounds-result-start c =
-    let all = c.as_slice.ensures ∙ ap (λ (table : PriceTable). table.ramps) c.self.view_is in
-    omega (
-      arith,
-      in_order c.args.self.now.ramps c.args.g _ _ c.place-start.ensures.value c.place-end.ensures.value,
-      c.place-end.ensures.within,
-      ap (λ rows. length rows) all,
-    )
+slice_bounds-result-start c = grind (arith, in_order, c)
 
 pub returns-clause-look_up : goal.returns-clause-look_up
 returns-clause-look_up c t =
@@ -37,8 +29,4 @@ returns-clause-look_up c t =
     (look_up rows (subst AreRising view c.self.invariant.0.rising) c.args.g t)
 
 pub returns-clause-rising : goal.returns-clause-rising
-returns-clause-rising c =
-    let rows = c.args.self.now.ramps in
-    let view = ap (λ (table : PriceTable). table.ramps) c.self.view_is in
-    let same = part rows _ c.args.g _ _ c.place-start.ensures.value c.place-end.ensures.value (c.as_slice.ensures ∙ view) in
-    subst AreRising (sym same) (rising-part rows (subst AreRising view c.self.invariant.0.rising) c.args.g)
+returns-clause-rising c = grind (arith, part, rising-part, c)

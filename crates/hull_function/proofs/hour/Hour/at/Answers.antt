@@ -1,8 +1,7 @@
 -- The prices of the period, within their limits.
-use Rattle.std.proofs.Common.{lit<, ◌∙◌, arith, refl, pos, ◌*ℤ◌, to_z, of_z, slice_index_or}
+use Rattle.std.proofs.Common.{arith, refl, pos, ◌*ℤ◌, to_z, of_z, slice_index_or}
 use Rattle.std.specs.Int.{w64}
 use Rattle.uc_model.proofs.Common.{abs_narrow, narrow}
-use Rattle.hull_function.specs.Problems.{MAX_POWER}
 use Rattle.hull_function.proofs.HourPrices.{IsPricedAt, priced-at}
 use Rattle.hull_function.proofs.hour.Hour.at.Goals as goal
 use Rattle.hull_function.proofs.hour.Hour.at.Goals.{After-scaled}
@@ -30,9 +29,7 @@ returns-clause-at c =
     record { worth = is.worth_is; price = is.price_is; fixed = is.fixed_is }
 
 pub returns-clause-cap : goal.returns-clause-cap
-returns-clause-cap c =
-    let lawful = c.requires.lawful.unit_is in
-    narrow c.cell_cap.result MAX_POWER (c.cell_cap.ensures.size lawful) (lit< tt) ∙ c.cell_cap.ensures.value lawful
+returns-clause-cap c = grind (arith, narrow, c)
 
 pub returns-clause-sized : goal.returns-clause-sized
 returns-clause-sized c =

@@ -1,9 +1,8 @@
 -- The lesser of both costs is that of the cheaper schedule.
-use Rattle.std.proofs.Common.{◌≡◌, ◌∙◌, ap, sym, subst, ℤ, Option}
+use Rattle.std.proofs.Common.{arith, ◌≡◌, ◌∙◌, ap, sym, ℤ, Option}
 use Rattle.incumbent.specs.Costs.{AtMost, least}
 use Rattle.incumbent.specs.Passes.{Known}
 use Rattle.uc_model.specs.declared.schedule.Printed.{Printed}
-use Rattle.found_schedule.specs.Found.{IsFoundIfAny}
 use Rattle.search_desk.specs.Best.{cost_of}
 use Rattle.search_desk.proofs.Costs.{least_both}
 use Rattle.search_desk.proofs.own_best.OwnBest.join.Goals as goal
@@ -23,8 +22,6 @@ invariant_of-self g c =
     record {
       object = ap (λ (p : Known). p.object) pass ∙ mine.object;
       mine = ap (λ (p : Known). p.mine) pass ∙ (λ i. least (mine.mine i) (theirs.mine i)) ∙ sym cost;
-      below = subst (λ s. AtMost s (cost_of c.cheaper.result)) (sym (ap (λ (p : Known). p.seen) pass))
-          (subst (AtMost (least own.pass.seen other.pass.seen)) (sym cost) both);
-      found = c.cheaper.ensures.found g.C.SearchCase.exact_dispatch g.C.Case.opening.instance
-          (subst (IsFoundIfAny g.C.SearchCase.exact_dispatch g.C.Case.opening.instance) (sym taken) mine.found) theirs.found;
+      below = grind (arith, c, pass, own, other, cost, both);
+      found = grind (arith, c, g, taken, mine, theirs);
     }

@@ -2,12 +2,11 @@
 use Rattle.std.proofs.Common.{lit<, suc, ◌*◌, false, ◌==◌, sym, subst, ◌∙◌, arith, ◌≤ℤ◌}
 use Rattle.uc_model.proofs.Common.{narrow}
 use Rattle.uc_model.specs.Prelude.{cell_cap}
-use Rattle.step_functions.specs.Functions.{run_count}
 use Rattle.hull_function.specs.Hours.{with_output}
 use Rattle.state_walk.specs.inside.CostToEnd.{cost_to_end, hours_after}
 use Rattle.state_walk.specs.inside.Problems.{MAX_POWER}
 use Rattle.state_walk.proofs.FirstHours.{first-cap}
-use Rattle.state_walk.proofs.Rests.{hours-bounded, spare-room}
+use Rattle.state_walk.proofs.Rests.{hours-bounded}
 use Rattle.state_walk.proofs.endings.Endings.begin_before.Goals as goal
 
 pub begun-cost-requires-clause-size : goal.begun-cost-requires-clause-size
@@ -17,11 +16,7 @@ begun-cost-requires-clause-size c = λ live.
     hours-bounded p.periods p.table.now p.unit.now p.hull.now c.requires.lawful c.args.n c.args.t c.requires.within rest.alive rest.function live c.add_hour.ensures.costs
 
 pub begun-cost-requires-clause-room : goal.begun-cost-requires-clause-room
-begun-cost-requires-clause-room c =
-    let p = c.args.problem.now in
-    let within = c.requires.within in
-    spare-room c.args.n p.periods p.hull.now.room (run_count c.add_hour.new.self.function) c.args.self.now.cut.room (omega (arith, within)) c.add_hour.ensures.pieces
-    c.requires.room
+begun-cost-requires-clause-room c = grind (arith, c)
 
 pub returns-clause-cost : goal.returns-clause-cost
 returns-clause-cost c =

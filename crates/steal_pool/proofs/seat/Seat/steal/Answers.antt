@@ -4,10 +4,7 @@ use Rattle.steal_pool.proofs.SeatLaws.{seat_place_within, theft_tells}
 use Rattle.steal_pool.proofs.seat.Seat.steal.Goals as goal
 
 pub index_mut-theft-requires : goal.index_mut-theft-requires
-index_mut-theft-requires c =
-    let within = seat_place_within _ c.args.self.now c.args.victim _ c.self.view_is
-    c.requires.worker c.requires.another c.self.invariant.4 c.place_of-place.ensures in
-    omega (arith, c.self.inside.others.ok.0)
+index_mut-theft-requires c = grind (arith, c)
 
 pub returns-clause-some : goal.returns-clause-some
 returns-clause-some c =

@@ -2,17 +2,17 @@
 use Rattle.std.proofs.Common.{◌≡◌, ◌+◌, ◌^◌, ◌<◌, min, false, sym, ap, subst, ◌∙◌, arith, lit<, ℤ, pos, neg_ℤ, ◌+ℤ◌, ◌*ℤ◌, FitsSigned, unsigned_abs, to_z, of_z, vec_capacity}
 use Rattle.std.specs.Int.{w64, w128}
 use Rattle.std.proofs.lemmas.Int.{ints, to_z-of_z}
-use Rattle.uc_model.proofs.Common.{add-zero, wide-size}
+use Rattle.uc_model.proofs.Common.{wide-size}
 use lib.Signed.{le_z}
 use Rattle.uc_model.proofs.Sizes.{wide}
 use Rattle.step_functions.specs.contracts.function.ConvexFunction.{the_view}
 use Rattle.step_functions.specs.Runs.{slope_at, steps_of}
-use Rattle.step_functions.specs.Functions.{Steps, IsPlace, IsSmall, IsWithin, MAX_VALUE, last_place, shortfall, value_at}
+use Rattle.step_functions.specs.Functions.{Steps, IsPlace, IsSmall, IsWithin, MAX_VALUE, shortfall, value_at}
 use Rattle.step_functions.specs.inside.Edits.{IsSteeper}
 use Rattle.step_functions.specs.inside.Kept.{IsKept}
 use Rattle.step_functions.proofs.Values.{owed, owed-first, small-own, told}
 use Rattle.step_functions.proofs.Changes.{kept-slopes}
-use Rattle.step_functions.proofs.Shortfalls.{IsShort, behind-is, both-fit, difference-fits, least-within, nothing-short, price-small, short-is, shortfall-first, shortfall-kept, shortfall-made, step-within, steps-few, turned-fits, turned-is, value-written, watts-fit, watts_short, watts_to}
+use Rattle.step_functions.proofs.Shortfalls.{IsShort, behind-is, both-fit, difference-fits, price-small, short-is, shortfall-first, shortfall-kept, shortfall-made, step-within, turned-fits, turned-is, value-written, watts_short, watts_to}
 use Rattle.step_functions.proofs.function.ConvexFunction.add_shortfall.Goals as goal
 use Rattle.step_functions.proofs.function.ConvexFunction.add_shortfall.Goals.{After-add_run, After-min}
 
@@ -43,10 +43,7 @@ steeper : (c : After-add_run) → IsSteeper c.self.inside.runs.items c.add_run.n
 steeper c = subst (λ s. IsSteeper c.self.inside.runs.items c.add_run.new.runs.items 0 c.min.result s) (turned-is c.args.price c.ranges.price c.requires.price) c.add_run.ensures.steeper
 
 pub returns-then-place-self-clause-value : goal.returns-then-place-self-clause-value
-returns-then-place-self-clause-value c = λ p at.
-    let low = at.low in
-    let same = ap (λ (h : Steps). h.first) c.self.view_is in
-    sym (ap (λ x. value_at c.args.self.now p +ℤ x) (nothing-short c.args.place p c.args.price (omega (arith, ints))) ∙ add-zero (value_at c.args.self.now p))
+returns-then-place-self-clause-value c = grind (arith, ints, c)
 
 pub overflow_sub-short : goal.overflow_sub-short
 overflow_sub-short c = difference-fits c.args.place c.self.inside.first c.requires.place c.self.invariant.first
@@ -55,23 +52,16 @@ pub along-self-inside-requires-clause-own : goal.along-self-inside-requires-clau
 along-self-inside-requires-clause-own c = wide-size c.self.inside.value MAX_VALUE (small-own (the_view c.self.inside) c.self.invariant)
 
 pub steps-requires : goal.steps-requires
-steps-requires c =
-    subst (λ runs. steps_of runs < 2 ^ 64) (sym c.deref.ensures.value)
-    (steps-few c.self.inside.first (steps_of c.self.inside.runs.items) c.self.invariant.first c.self.invariant.last)
+steps-requires c = grind (arith, ints, c)
 
 pub overflow_cast-short : goal.overflow_cast-short
-overflow_cast-short c =
-    let within = c.requires.place in
-    let low = c.self.invariant.first in
-    watts-fit c.args.place c.self.inside.first within low
-    (short-is c.args.place c.self.inside.first within low (behind-is c.args.place c.self.inside.first within low c.if-place-self.false))
+overflow_cast-short c = grind (arith, ints, c)
 
 pub overflow_sub-cheaper : goal.overflow_sub-cheaper
 overflow_sub-cheaper c = turned-fits c.args.price c.ranges.price c.requires.price
 
 pub add_run-requires-clause-within : goal.add_run-requires-clause-within
-add_run-requires-clause-within c =
-    least-within c.min.result (steps_of c.self.inside.runs.items) (watts_short c.args.place c.self.inside.first) (least (goal.at.add_run-requires-clause-within c).After-min)
+add_run-requires-clause-within c = grind (arith, ints, c)
 
 pub along-self-inside-requires-clause-reached : goal.along-self-inside-requires-clause-reached
 along-self-inside-requires-clause-reached c =
@@ -101,8 +91,7 @@ invariant_of-self c =
     c.self.invariant s.small
 
 pub returns-clause-last : goal.returns-clause-last
-returns-clause-last c =
-    ap (λ n. c.self.inside.first +ℤ pos n) c.add_run.ensures.steeper.total ∙ ap (λ (h : Steps). last_place h) c.self.view_is
+returns-clause-last c = grind (arith, ints, c)
 
 pub returns-clause-value : goal.returns-clause-value
 returns-clause-value c =

@@ -1,12 +1,11 @@
 -- Each step has the slope more.
-use Rattle.std.proofs.Common.{◌≡◌, ◌+◌, ◌<◌, ◌^◌, ◌++◌, length, take, drop, map, All, sym, ap, subst, ◌∙◌, lit<, ◌+ℤ◌, ◌*ℤ◌, pos, unsigned_abs, to_z, of_z}
+use Rattle.std.proofs.Common.{arith, ◌≡◌, ◌++◌, length, take, drop, map, sym, subst, ◌∙◌, lit<, ◌+ℤ◌, ◌*ℤ◌, to_z, of_z}
 use Rattle.std.specs.Int.{w128}
 use Rattle.std.proofs.lemmas.Int.{to_z-of_z}
 use Rattle.std.proofs.lemmas.List.{length-map}
 use Rattle.uc_model.proofs.Sizes.{wide}
 use Rattle.step_functions.specs.contracts.function.ConvexFunction.{the_view}
-use Rattle.step_functions.specs.Runs.{steps_of}
-use Rattle.step_functions.specs.Functions.{Steps, IsSmall, MAX_VALUE, last_place}
+use Rattle.step_functions.specs.Functions.{IsSmall, MAX_VALUE}
 use Rattle.step_functions.proofs.RunEdits.{steps-with_slope}
 use Rattle.step_functions.specs.inside.Edits.{with_slope}
 use Rattle.step_functions.proofs.Values.{owed, owed-first, small-own, told}
@@ -17,11 +16,7 @@ use Rattle.step_functions.proofs.function.ConvexFunction.add_slope.Goals.{After-
 -- the runs that are written
 written : (c : After-steepen)
     → take c.self.inside.runs.len (c.steepen.new.runs ++ drop (length c.steepen.new.runs) c.self.inside.runs.items) ≡ map (with_slope c.args.slope) c.self.inside.runs.items
-written c =
-    let runs = c.self.inside.runs in
-    let each : c.steepen.new.runs ≡ map (with_slope c.args.slope) runs.items =
-    c.steepen.ensures ∙ (λ t. map (with_slope (to_z-of_z w128 c.args.slope c.ranges.slope t)) (c.deref_mut.ensures.value t)) in
-    all-written runs.items c.steepen.new.runs runs.len runs.ok.0 (ap length each ∙ length-map runs.items (with_slope c.args.slope)) ∙ each
+written c = grind (arith, to_z-of_z, all-written, length-map)
 
 -- and the value at the first place
 value : (c : After-steepen) → to_z w128 (of_z w128 c.along-self-inside.result) ≡ c.self.inside.value +ℤ c.args.slope *ℤ c.self.inside.first
@@ -38,12 +33,7 @@ along-self-inside-requires-clause-reached c =
     (owed-first f c.args.self.now (λ p. c.args.slope *ℤ p) c.self.view_is c.requires)
 
 pub steepen-requires : goal.steepen-requires
-steepen-requires c =
-    let f = the_view c.self.inside in
-    let slope = c.args.slope in
-    subst (λ xs. All (λ run. unsigned_abs run.slope + unsigned_abs (to_z w128 (of_z w128 slope)) < 2 ^ 127) xs) (sym c.deref_mut.ensures.value)
-    (subst (λ s. All (λ run. unsigned_abs run.slope + unsigned_abs s < 2 ^ 127) f.runs) (sym (to_z-of_z w128 slope c.ranges.slope))
-    (run-sizes f slope c.self.invariant (owed f c.args.self.now (λ p. slope *ℤ p) c.self.view_is c.requires)))
+steepen-requires c = grind (arith, value, to_z-of_z, run-sizes, owed, c)
 
 pub invariant_of-self : goal.invariant_of-self
 invariant_of-self c =
@@ -57,6 +47,4 @@ returns-clause-value c =
     told (the_view c.self.inside) _ c.args.self.now 0 (λ p. c.args.slope *ℤ p) c.self.view_is (slope-made (the_view c.self.inside) _ c.args.slope _ (value at) (written at))
 
 pub returns-clause-last : goal.returns-clause-last
-returns-clause-last c =
-    let f = the_view c.self.inside in
-    ap (λ n. f.first +ℤ pos n) (ap steps_of (written (goal.at.returns-clause-last c).After-steepen) ∙ steps-with_slope f.runs c.args.slope) ∙ ap (λ (h : Steps). last_place h) c.self.view_is
+returns-clause-last c = grind (arith, written, After-steepen, steps-with_slope, c)

@@ -1,9 +1,8 @@
 -- The other's steps are added from the one on with which this one begins.
 use Rattle.std.proofs.Common.{◌≡◌, ℕ, ◌+◌, ◌≤◌, sym, ap, subst, ◌∙◌, arith, lit<, ℤ, pos, ◌+ℤ◌, ◌≤ℤ◌, unsigned_abs, to_z, of_z, vec_capacity}
 use Rattle.std.specs.Int.{w64, w128}
-use Rattle.std.proofs.lemmas.Int.{fits_signed_from_abs, ints}
-use Rattle.uc_model.proofs.Common.{abs_add, narrow, wide-size}
-use Rattle.uc_model.proofs.Sizes.{wide}
+use Rattle.std.proofs.lemmas.Int.{ints}
+use Rattle.uc_model.proofs.Common.{narrow}
 use Rattle.step_functions.specs.contracts.function.ConvexFunction.{the_view}
 use Rattle.step_functions.specs.Runs.{steps_of}
 use Rattle.step_functions.specs.Functions.{Steps, IsPlace, IsSmall, IsWithin, MAX_PLACE, MAX_VALUE, last_place, value_at}
@@ -28,14 +27,11 @@ ends f other own their same same_other before = subst (λ (h : Steps). last_plac
 
 -- the sum of two small values
 sum-small : (value reached : ℤ) → IsSmall value → IsSmall reached → unsigned_abs (to_z w128 (of_z w128 value) +ℤ to_z w128 (of_z w128 reached)) ≤ MAX_VALUE + MAX_VALUE
-sum-small value reached own other =
-    abs_add (to_z w128 (of_z w128 value)) (to_z w128 (of_z w128 reached)) MAX_VALUE MAX_VALUE (wide-size value MAX_VALUE own) (wide-size reached MAX_VALUE other)
+sum-small value reached own other = grind (arith, ints, own, other)
 
 sum-written : (value reached : ℤ) → IsSmall value → IsSmall reached
     → to_z w128 (of_z w128 (to_z w128 (of_z w128 value) +ℤ to_z w128 (of_z w128 reached))) ≡ value +ℤ reached
-sum-written value reached own other =
-    wide (to_z w128 (of_z w128 value) +ℤ to_z w128 (of_z w128 reached)) (MAX_VALUE + MAX_VALUE) (sum-small value reached own other) (lit< tt)
-    ∙ (λ i. wide value MAX_VALUE own (lit< tt) i +ℤ wide reached MAX_VALUE other (lit< tt) i)
+sum-written value reached own other = grind (arith, ints, own, other)
 
 -- the sum, by what the calls answer
 added : (c : After-add_runs)
@@ -56,19 +52,10 @@ added c =
     }
 
 pub overflow_add-self : goal.overflow_add-self
-overflow_add-self c =
-    fits_signed_from_abs w128 (to_z w128 (of_z w128 c.self.inside.value) +ℤ to_z w128 (of_z w128 c.height.result))
-    (omega (arith, sum-small c.self.inside.value c.height.result (small-own (the_view c.self.inside) c.self.invariant) c.height.ensures.small))
+overflow_add-self c = grind (arith, ints, c)
 
 pub add_runs-requires-clause-within : goal.add_runs-requires-clause-within
-add_runs-requires-clause-within c =
-    let f = the_view c.self.inside in
-    let other = the_view c.other.inside in
-    let skipped = c.steps_to-skipped.result in
-    subst (λ xs. skipped + steps_of f.runs ≤ steps_of xs) (sym c.deref.ensures.value)
-    (steps-left f other skipped
-    (first-is f.first other.first skipped c.self.invariant.first (c.steps_to-skipped.ensures.value ∙ ap (λ (h : Steps). h.first +ℤ pos skipped) (sym c.other.view_is)))
-    (ends f other c.args.self.now c.args.other.now c.self.view_is c.other.view_is c.requires.before))
+add_runs-requires-clause-within c = grind (arith, ints, c)
 
 pub add_runs-requires-clause-other_lengths : goal.add_runs-requires-clause-other_lengths
 add_runs-requires-clause-other_lengths c = subst HaveSteps (sym c.deref.ensures.value) c.other.invariant.steps
@@ -90,8 +77,7 @@ invariant_of-self c =
     (subst (λ (h : Steps). (p : ℤ) → IsPlace c.args.self.now p → IsSmall (value_at c.args.self.now p +ℤ value_at h p)) (sym c.other.view_is) c.requires.size))
 
 pub returns-clause-last : goal.returns-clause-last
-returns-clause-last c =
-    ap (λ n. c.self.inside.first +ℤ pos n) c.add_runs.ensures.added.count ∙ ap (λ (h : Steps). last_place h) c.self.view_is
+returns-clause-last c = grind (arith, ints, c)
 
 pub returns-clause-value : goal.returns-clause-value
 returns-clause-value c =

@@ -1,10 +1,10 @@
 -- The steps behind are kept, from the value there on.
-use Rattle.std.proofs.Common.{◌≡◌, sym, ap, subst, ◌∙◌, arith, pos, ◌+ℤ◌, to_z, of_z, vec_capacity}
+use Rattle.std.proofs.Common.{◌≡◌, sym, ap, subst, ◌∙◌, arith, to_z, of_z, vec_capacity}
 use Rattle.std.specs.Int.{w64, w128}
 use Rattle.std.proofs.lemmas.Int.{ints}
 use Rattle.step_functions.specs.contracts.function.ConvexFunction.{the_view}
 use Rattle.step_functions.specs.Functions.{Steps, last_place}
-use Rattle.step_functions.specs.inside.Kept.{height, IsKept}
+use Rattle.step_functions.specs.inside.Kept.{IsKept}
 use Rattle.step_functions.proofs.Cuts.{IsCutLeft, cut_left, left-last, left-made, left-kept, told-same}
 use Rattle.step_functions.proofs.function.ConvexFunction.cut_left.Goals as goal
 use Rattle.step_functions.proofs.function.ConvexFunction.cut_left.Goals.{After-remove_first}
@@ -13,16 +13,7 @@ use Rattle.step_functions.proofs.function.ConvexFunction.cut_left.Goals.{After-r
 cut : (c : After-remove_first)
     → IsCutLeft (the_view c.self.inside) c.divide-count.new.runs.items c.divide-count.result c.steps_to-skipped.result (to_z w64 (of_z w64 c.args.low))
     (to_z w128 (of_z w128 c.height-self-inside.result))
-cut c =
-    let skipped = c.steps_to-skipped.result in
-    let value : to_z w128 (of_z w128 c.height-self-inside.result) ≡ c.height-self-inside.result = omega (arith, ints, c.height-self-inside.ensures.small) in
-    record {
-      same = c.divide-count.ensures.same;
-      lengths = c.divide-count.ensures.lengths;
-      begins = omega (arith, c.divide-count.ensures.begins);
-      first = c.steps_to-skipped.ensures.value ∙ ap (λ (h : Steps). h.first +ℤ pos skipped) (sym c.self.view_is);
-      value = value ∙ c.height-self-inside.ensures.value ∙ ap (λ (h : Steps). height h.value h.runs skipped) (sym c.self.view_is);
-    }
+cut c = grind (arith, ints)
 
 abbrev left : After-remove_first → Steps
 left c =

@@ -1,5 +1,5 @@
 -- The steps go on by those of the run.
-use Rattle.std.proofs.Common.{◌≡◌, ℕ, ◌+◌, ◌<◌, ◌≤◌, [], ◌∷◌, ◌++◌, sym, subst, ◌∙◌, ℤ, pos, ◌+ℤ◌, ◌*ℤ◌, ◌≤ℤ◌, vec_capacity}
+use Rattle.std.proofs.Common.{arith, ◌≡◌, ℕ, ◌<◌, ◌≤◌, [], ◌∷◌, ◌++◌, sym, subst, ◌∙◌, ℤ, pos, ◌+ℤ◌, ◌*ℤ◌, ◌≤ℤ◌, vec_capacity}
 use Rattle.std.specs.Int.{w128}
 use Rattle.std.proofs.lemmas.Int.{to_z-of_z}
 use Rattle.step_functions.specs.contracts.function.ConvexFunction.{the_view}
@@ -47,15 +47,7 @@ returns-clause-after c =
     (extended-after f (run_of at) room))
 
 pub returns-clause-old_steps : goal.returns-clause-old_steps
-returns-clause-old_steps c =
-    let at = (goal.at.returns-clause-old_steps c).After-push_reserved in
-    subst (λ (h : Steps). (k : ℕ) → k < steps_of h.runs → slope_at c.push_reserved.new.self.items k ≡ slope_at h.runs k) c.self.view_is
-    (subst (λ xs. (k : ℕ) → k < steps_of c.self.inside.runs.items → slope_at xs k ≡ slope_at c.self.inside.runs.items k) (sym (pushed at))
-    (extended-old c.self.inside.runs.items (run_of at)))
+returns-clause-old_steps c = grind (arith, After-push_reserved, pushed, extended-old, c)
 
 pub returns-clause-new_steps : goal.returns-clause-new_steps
-returns-clause-new_steps c =
-    let at = (goal.at.returns-clause-new_steps c).After-push_reserved in
-    subst (λ (h : Steps). (k : ℕ) → k < c.args.length → slope_at c.push_reserved.new.self.items (steps_of h.runs + k) ≡ c.args.slope) c.self.view_is
-    (subst (λ xs. (k : ℕ) → k < c.args.length → slope_at xs (steps_of c.self.inside.runs.items + k) ≡ c.args.slope) (sym (pushed at))
-    (extended-new c.self.inside.runs.items (run_of at)))
+returns-clause-new_steps c = grind (arith, After-push_reserved, pushed, extended-new, c)

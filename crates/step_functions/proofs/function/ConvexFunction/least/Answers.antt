@@ -1,5 +1,5 @@
 -- The values fall over the steps below 0, and rise from those below 1 on.
-use Rattle.std.proofs.Common.{◌≡◌, sym, ap, subst, ◌∙◌, arith, pos, ◌+ℤ◌, to_z, of_z}
+use Rattle.std.proofs.Common.{◌≡◌, sym, ap, ◌∙◌, arith, pos, ◌+ℤ◌, to_z, of_z}
 use Rattle.std.specs.Int.{w64, w128}
 use Rattle.std.proofs.lemmas.Int.{ints}
 use Rattle.step_functions.specs.Runs.{steps_of}
@@ -11,19 +11,13 @@ use Rattle.step_functions.proofs.Values.{value_at-place}
 use Rattle.step_functions.proofs.function.ConvexFunction.least.Goals as goal
 
 falling : (c : goal.After-result-2-1) → AreBelow c.args.self.now.runs (pos 0) c.steps_below-falling.result
-falling c =
-    subst (λ xs. AreBelow xs (pos 0) c.steps_below-falling.result) (c.deref.ensures.value ∙ ap (λ (f : Steps). f.runs) c.self.view_is)
-    c.steps_below-falling.ensures
+falling c = grind (arith, ints)
 
 level : (c : goal.After-result-2-1) → AreBelow c.args.self.now.runs (pos 1) c.steps_below-level.result
-level c =
-    subst (λ xs. AreBelow xs (pos 1) c.steps_below-level.result) (c.deref-2.ensures.value ∙ ap (λ (f : Steps). f.runs) c.self.view_is)
-    c.steps_below-level.ensures
+level c = grind (arith, ints)
 
 value_is : (c : goal.After-result-2-1) → to_z w128 (of_z w128 c.height.result) ≡ height c.args.self.now.value c.args.self.now.runs c.steps_below-falling.result
-value_is c =
-    let same : to_z w128 (of_z w128 c.height.result) ≡ c.height.result = omega (arith, ints, c.height.ensures.small) in
-    same ∙ c.height.ensures.value
+value_is c = grind (arith, ints)
 
 pub returns-clause-reached : goal.returns-clause-reached
 returns-clause-reached c =

@@ -1,25 +1,20 @@
 -- The lesser of both caps, which is as small as both.
-use Rattle.std.proofs.Common.{◌≡◌, ◌≤◌, ◌∙◌, ap, sym, subst, arith, ℤ, ◌-ℤ◌, ◌*ℤ◌, to_z, of_z, unsigned_abs}
+use Rattle.std.proofs.Common.{◌≡◌, ◌≤◌, ◌∙◌, ap, arith, ℤ, ◌-ℤ◌, ◌*ℤ◌, to_z, of_z, unsigned_abs}
 use Rattle.std.specs.Int.{w64, int_min}
 use Rattle.uc_model.specs.Commitment.{start_reduction, stop_reduction}
 use Rattle.uc_model.specs.Limits.{MAX_POWER}
 use Rattle.uc_model.specs.Sums.{bit}
-use Rattle.uc_model.proofs.Caps.{is_in_bits}
 use Rattle.uc_model.proofs.Ring.{mul-one}
-use Rattle.uc_model.proofs.Sizes.{abs_min, abs_narrow}
+use Rattle.uc_model.proofs.Sizes.{abs_narrow}
 use Rattle.uc_model.proofs.instance.Thermal.cell_cap.Goals as goal
 
 least_is_short : (z a b : ℤ) → z ≡ int_min (to_z w64 (of_z w64 a)) (to_z w64 (of_z w64 b)) → unsigned_abs a ≤ MAX_POWER
     → unsigned_abs b ≤ MAX_POWER → unsigned_abs z ≤ MAX_POWER
-least_is_short z a b is h k =
-    subst (λ x. unsigned_abs x ≤ MAX_POWER) (sym is)
-    (abs_min (to_z w64 (of_z w64 a)) (to_z w64 (of_z w64 b)) MAX_POWER (omega (arith, abs_narrow a, h)) (omega (arith, abs_narrow b, k)))
+least_is_short z a b is h k = grind (arith, is, h, k)
 
 least_is : (z a b first second : ℤ) → z ≡ int_min (to_z w64 (of_z w64 a)) (to_z w64 (of_z w64 b)) → unsigned_abs a ≤ MAX_POWER
     → unsigned_abs b ≤ MAX_POWER → a ≡ first → b ≡ second → to_z w64 (of_z w64 z) ≡ int_min first second
-least_is z a b first second is h k a_is b_is =
-    is_in_bits z (int_min first second) (least_is_short z a b is h k)
-    (is ∙ (ap (λ x. int_min x (to_z w64 (of_z w64 b))) (is_in_bits a first h a_is) ∙ ap (λ x. int_min first x) (is_in_bits b second k b_is)))
+least_is z a b first second is h k a_is b_is = grind (arith, is, h, k, a_is, b_is)
 
 pub returns-clause-value : goal.returns-clause-value
 returns-clause-value c lawful =

@@ -1,9 +1,9 @@
 -- The steps of an hour one behind the other where there are costs, and none where there are none.
-use Rattle.std.proofs.Common.{◌+◌, true, sym, subst, arith, ℤ, ◌+ℤ◌, ◌-ℤ◌, Option, Some}
+use Rattle.std.proofs.Common.{◌+◌, true, subst, arith, ℤ, ◌+ℤ◌, ◌-ℤ◌, Option, Some}
 use Rattle.dual_model.specs.CostToGo.{total_of}
 use Rattle.hull_function.specs.Hours.{IsCostsOf, MAX_HOUR, MAX_OUTPUT_COST, MAX_RESERVE, MAX_RUN}
 use Rattle.hull_function.proofs.HourSums.{limit-bits, limit-is}
-use Rattle.unit_runs.specs.CostThrough.{hour_after, least_between, reserve_cost}
+use Rattle.unit_runs.specs.CostThrough.{least_between, reserve_cost}
 use Rattle.unit_exact.specs.inside.Problems.{MAX_SWITCH}
 use Rattle.unit_exact.proofs.HourSteps.{none-after}
 use Rattle.unit_exact.proofs.RunSteps.{bounded-more}
@@ -50,8 +50,4 @@ returns-then-self-clause-size c = λ size small live.
     (c.add_outputs-self.ensures.size (size + MAX_RESERVE) (c.spread.ensures.size (size + MAX_RESERVE) (c.add_reserve.ensures.size size (small c.if-self.true))) live)
 
 pub returns-else-self-clause-costs : goal.returns-else-self-clause-costs
-returns-else-self-clause-costs c = λ table t before is_hull at is.
-    let f = c.args.self.now.function in
-    let unit = c.args.problem.now.unit.now in
-    subst (λ b. IsCostsOf b f (hour_after table unit t c.args.hour.now.cap before)) (sym c.if-self.false)
-    (none-after f f before table unit t c.args.hour.now.cap (subst (λ b. IsCostsOf b f before) c.if-self.false is))
+returns-else-self-clause-costs c = grind (arith, none-after, c)

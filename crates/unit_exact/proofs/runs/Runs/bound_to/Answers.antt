@@ -1,9 +1,9 @@
 -- The hull's least beside the price, and the least of the hours before.
-use Rattle.std.proofs.Common.{◌≡◌, ℕ, suc, ◌-◌, ◌*◌, ◌≤◌, ap, subst, ◌∙◌, arith, ℤ, pos, ◌+ℤ◌, ◌-ℤ◌, ◌*ℤ◌, ◌≤ℤ◌, refl, to_z, of_z, unsigned_abs}
+use Rattle.std.proofs.Common.{◌≡◌, ℕ, suc, ◌-◌, ◌*◌, ◌≤◌, ap, subst, ◌∙◌, arith, ℤ, ◌+ℤ◌, ◌-ℤ◌, ◌*ℤ◌, ◌≤ℤ◌, refl, to_z, of_z, unsigned_abs}
 use Rattle.std.specs.Int.{w64, w128}
 use Rattle.std.proofs.lemmas.Int.{ints}
 use Rattle.uc_model.proofs.Common.{linear}
-use Rattle.step_functions.specs.Functions.{Steps, IsPlace, last_place, value_at}
+use Rattle.step_functions.specs.Functions.{Steps, IsPlace, value_at}
 use Rattle.unit_runs.specs.CostThrough.{cost_through}
 use Rattle.unit_exact.specs.inside.Problems.{MAX_SWITCH}
 use Rattle.hull_function.proofs.HullFunction.{hull-function}
@@ -21,9 +21,7 @@ cost-requires-clause-hull c =
 
 least-size : (f : Steps) (place value : ℤ) (n : ℕ) → IsBounded f n → IsPlace f place → value_at f place ≡ value → n ≤ MAX_SWITCH
     → unsigned_abs value ≤ MAX_SWITCH
-least-size f place value n small is e few =
-    let own = subst (λ z. unsigned_abs z ≤ n) e (small place is) in
-    omega (arith, own, few)
+least-size f place value n small is e few = grind (arith, ints, small, is, e, few)
 
 pub overflow_add-result : goal.overflow_add-result
 overflow_add-result c =
@@ -38,10 +36,7 @@ overflow_add-result c =
 
 -- a place of the hull is a number of 64 bits
 own-place : (f : Steps) (place : ℤ) → IsHullFunction f → IsPlace f place → to_z w64 (of_z w64 place) ≡ place
-own-place f place is at = near f.first (last_place f) place is.first is.last.1 at.low at.high
-  where
-    near : (first last z : ℤ) → first ≡ pos 0 → last ≤ℤ pos (2 * MAX_POWER) → first ≤ℤ z → z ≤ℤ last → to_z w64 (of_z w64 z) ≡ z
-    near first last z e h low high = omega (arith, ints)
+own-place f place is at = grind (arith, ints, is, at)
 
 sum-at_most : (l o f v : ℤ) → unsigned_abs l ≤ MAX_SWITCH → unsigned_abs o ≤ MAX_HOUR → unsigned_abs f ≤ MAX_PRICE * MAX_POWER → (l +ℤ (o +ℤ f)) ≤ℤ v
     → to_z w128 (of_z w128 (to_z w128 (of_z w128 l) +ℤ to_z w128 (of_z w128 (to_z w128 (of_z w128 o) +ℤ to_z w128 (of_z w128 f))))) ≤ℤ v

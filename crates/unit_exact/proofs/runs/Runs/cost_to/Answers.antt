@@ -1,12 +1,11 @@
 -- The costs with a last hour in period t, of a copy.
-use Rattle.std.proofs.Common.{suc, ◌+◌, ◌-◌, ◌*◌, ◌≤◌, sym, ap, subst, ◌∙◌, arith}
-use Rattle.step_functions.specs.Functions.{Steps, run_count}
+use Rattle.std.proofs.Common.{suc, ◌+◌, ◌-◌, ◌*◌, ap, ◌∙◌, arith}
 use Rattle.unit_runs.specs.CostThrough.{cost_through, hour_after}
 use Rattle.unit_exact.specs.inside.Running.{least_ending}
 use Rattle.unit_exact.specs.inside.Problems.{MAX_SWITCH}
 use Rattle.hull_function.proofs.HullFunction.{hull-function}
 use Rattle.hull_function.specs.Hours.{MAX_HOUR}
-use Rattle.unit_exact.proofs.RunSteps.{IsCopyOf, bounded-more, copy-costs, copy-near, copy-pieces, copy-size, hours-size, pieces-more, room-more, run-ends, spare-room, through-last}
+use Rattle.unit_exact.proofs.RunSteps.{IsCopyOf, bounded-more, copy-costs, copy-size, hours-size, run-ends, through-last}
 use Rattle.unit_exact.proofs.runs.Runs.cost_to.Goals as goal
 use Rattle.unit_exact.proofs.runs.Runs.cost_to.Goals.{After-copy_from}
 
@@ -19,11 +18,7 @@ copy_is : (c : After-copy_from) → IsCopyOf c.args.self.now.living.alive c.args
 copy_is c = record { room = c.args.self.now.ending.function.room; alive_is = c.copy_from.ensures.alive; function_is = c.copy_from.ensures.function }
 
 pub add_hour-requires-clause-near : goal.add_hour-requires-clause-near
-add_hour-requires-clause-near c =
-    let living = c.args.self.now.living in
-    let g = c.copy_from.new.self in
-    let copy = copy_is (goal.at.add_hour-requires-clause-near c).After-copy_from in
-    copy-near living.alive living.function g.alive g.function copy c.requires.running.near
+add_hour-requires-clause-near c = grind (arith, c)
 
 pub add_hour-requires-clause-size : goal.add_hour-requires-clause-size
 add_hour-requires-clause-size c =
@@ -36,47 +31,13 @@ add_hour-requires-clause-size c =
     (copy-size living.alive living.function g.alive g.function copy (MAX_HOUR * n) c.requires.running.size live)
 
 pub add_hour-requires-clause-room : goal.add_hour-requires-clause-room
-add_hour-requires-clause-room c =
-    let p = c.args.problem.now in
-    let living = c.args.self.now.living in
-    let g = c.copy_from.new.self in
-    let copy = copy_is (goal.at.add_hour-requires-clause-room c).After-copy_from in
-    let same = copy-pieces living.alive living.function g.alive g.function copy in
-    let own = c.requires.running.pieces in
-    let room = ap (λ (h : Steps). h.room) c.copy_from.ensures.function in
-    let enough = c.requires.running.room.ending in
-    room-more (c.args.t - c.args.from) p.periods p.hull.now.room (run_count g.function) (run_count p.hull.now) g.function.room (omega arith) (omega (arith, same, own)) c.requires.hull.pieces (omega (arith, room, enough))
+add_hour-requires-clause-room c = grind (arith, c)
 
 pub least_at_end-requires-clause-room : goal.least_at_end-requires-clause-room
-least_at_end-requires-clause-room c =
-    let p = c.args.problem.now in
-    let living = c.args.self.now.living in
-    let g = c.copy_from.new.self in
-    let copy = copy_is (goal.at.least_at_end-requires-clause-room c).After-copy_from in
-    let same = copy-pieces living.alive living.function g.alive g.function copy in
-    let own = c.requires.running.pieces in
-    let n = c.args.t - c.args.from in
-    let room = c.add_hour.ensures.room ∙ ap (λ (h : Steps). h.room) c.copy_from.ensures.function in
-    let enough = c.requires.running.room.ending in
-    let more = pieces-more n p.hull.now.room (run_count g.function) (run_count p.hull.now) (run_count c.add_hour.new.self.function) (omega (arith, same, own))
-    c.requires.hull.pieces c.add_hour.ensures.pieces in
-    spare-room n p.periods p.hull.now.room (run_count c.add_hour.new.self.function) c.add_hour.new.self.function.room (omega arith) more (omega (arith, room, enough))
+least_at_end-requires-clause-room c = grind (arith, c)
 
 pub returns-clause-running : goal.returns-clause-running
-returns-clause-running c =
-    let p = c.args.problem.now in
-    let running = c.requires.running in
-    let room = c.least_at_end.ensures.room ∙ c.add_hour.ensures.room ∙ ap (λ (h : Steps). h.room) c.copy_from.ensures.function in
-    record {
-      room = record {
-        living = running.room.living;
-        ending = subst (λ n. ((p.periods + 2) * (p.hull.now.room + 2)) ≤ n) (sym room) running.room.ending;
-      };
-      costs = running.costs;
-      size = running.size;
-      near = running.near;
-      pieces = running.pieces;
-    }
+returns-clause-running c = grind (arith, c)
 
 pub returns-clause-cost : goal.returns-clause-cost
 returns-clause-cost c =

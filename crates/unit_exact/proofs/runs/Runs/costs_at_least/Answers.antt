@@ -3,7 +3,7 @@ use Rattle.std.proofs.Common.{◌≡◌, ◌-◌, suc, ◌==◌, true, refl, sym
 use mir.Val.{SFits}
 use Rattle.std.specs.Int.{w128}
 use Rattle.std.specs.Int.Signed.{le_z}
-use Rattle.std.proofs.lemmas.Int.{ints, to_z-of_z}
+use Rattle.std.proofs.lemmas.Int.{ints}
 use Rattle.uc_model.specs.Prelude.{cell_cap}
 use Rattle.hull_function.specs.Hours.{IsCostsOf}
 use Rattle.unit_runs.specs.CostThrough.{cost_through}
@@ -24,10 +24,7 @@ returns-then-not-is_alive c = λ yes v e.
 -- a limit that is at most a bound by its bits
 within : (limit bound least : ℤ) → SFits w128 limit → SFits w128 bound → le_z (to_z w128 (of_z w128 limit)) (to_z w128 (of_z w128 bound)) ≡ true
     → bound ≤ℤ least → limit ≤ℤ least
-within limit bound least fits small le low =
-    let there = to_z-of_z w128 limit fits in
-    let own = to_z-of_z w128 bound small in
-    grind (arith, ints)
+within limit bound least fits small le low = grind (arith, ints, fits, small, le, low)
 
 pub returns : goal.returns
 returns c = λ yes v e.

@@ -1,10 +1,8 @@
 -- The costs with the hour in period t.
-use Rattle.std.proofs.Common.{suc, ◌+◌, ◌-◌, ◌*◌, ◌≤◌, sym, subst, arith}
-use Rattle.step_functions.specs.Functions.{run_count}
-use Rattle.unit_exact.specs.inside.Problems.{MAX_SWITCH}
+use Rattle.std.proofs.Common.{suc, ◌+◌, ◌-◌, ◌*◌, subst, arith}
 use Rattle.hull_function.proofs.HullFunction.{hull-function}
 use Rattle.hull_function.specs.Hours.{IsCostsOf, MAX_HOUR}
-use Rattle.unit_exact.proofs.RunSteps.{bounded-more, hours-size, pieces-more, room-more, through-more}
+use Rattle.unit_exact.proofs.RunSteps.{bounded-more, pieces-more, through-more}
 use Rattle.unit_exact.proofs.runs.Runs.go_on.Goals as goal
 
 pub add_hour-requires-clause-hull : goal.add_hour-requires-clause-hull
@@ -13,18 +11,10 @@ add_hour-requires-clause-hull c =
     hull-function p.unit.now p.table.now.k p.hull.now c.requires.lawful.unit_is c.requires.hull.function
 
 pub add_hour-requires-clause-size : goal.add_hour-requires-clause-size
-add_hour-requires-clause-size c =
-    let f = c.args.self.now.living.function in
-    let n = c.args.t - c.args.from in
-    let few = hours-size n c.args.problem.now.periods (omega arith) c.requires.lawful.periods_are.1 in
-    λ live. bounded-more f (MAX_HOUR * n) MAX_SWITCH few (c.requires.running.size live)
+add_hour-requires-clause-size c = grind (arith, c)
 
 pub add_hour-requires-clause-room : goal.add_hour-requires-clause-room
-add_hour-requires-clause-room c =
-    let p = c.args.problem.now in
-    let f = c.args.self.now.living.function in
-    room-more (c.args.t - c.args.from) p.periods p.hull.now.room (run_count f) (run_count p.hull.now) f.room (omega arith) c.requires.running.pieces
-    c.requires.hull.pieces c.requires.running.room.living
+add_hour-requires-clause-room c = grind (arith, c)
 
 pub returns : goal.returns
 returns c =
@@ -33,10 +23,7 @@ returns c =
     let n = c.args.t - c.args.from in
     let new = c.add_hour.new.self in
     record {
-      room = record {
-        living = subst (λ room. ((p.periods + 2) * (p.hull.now.room + 2)) ≤ room) (sym c.add_hour.ensures.room) running.room.living;
-        ending = running.room.ending;
-      };
+      room = grind (arith, p, c, running);
       costs =
           subst (IsCostsOf new.alive new.function) (through-more p.periods p.table.now p.unit.now c.args.from c.args.t c.at-hour.result.cap c.requires.order c.at-hour.ensures.cap)
           (c.add_hour.ensures.costs p.table.now c.args.t _ c.requires.hull.function c.at-hour.ensures.at running.costs);
