@@ -7,7 +7,7 @@ use Rattle.uc_model.specs.Prelude.{sum_below, point_of, output_of, weighted_cost
 use Rattle.uc_model.specs.declared.instance.Point.{Point}
 use Rattle.uc_model.specs.declared.instance.Instance.{Instance}
 use Rattle.uc_model.specs.declared.schedule.Printed.{Printed}
-use Rattle.uc_model.proofs.Common.{linear, mul-add, mul-sub, mul-zero, zero-mul, mul_comm, mul_assoc, mul_left_comm, pos-mul, scale-le-scale, pos_nonneg, mul-one, sum_below-le, sum_below-single, sum_below-pair, sum_below-mul_left, sum_below-add, sum_below-const, sum_below-zero, rule_at, production_parts, Holds, LiesOn, segment_at-holds, lies_on, abs_is, denominator-factor, watts-factor, watts_positive, IsCeiling-least, quotient_up-is, share_is}
+use Rattle.uc_model.proofs.Common.{linear, mul-add, mul-sub, mul-zero, zero-mul, mul_comm, mul_assoc, mul_left_comm, pos-mul, scale-le-scale, pos_nonneg, mul-one, sum_below-le, sum_below-single, sum_below-pair, sum_below-mul_left, sum_below-add, sum_below-const, sum_below-zero, rule_at, production_parts, Holds, LiesOn, segment_at-holds, lies_on, parts-ends, value-point, weights-ends, weights-point, denominator-factor, watts-factor, watts_positive, IsCeiling-least, quotient_up-is, share_is}
 use Rattle.uc_model.proofs.HullPoints.{wide}
 
 -- ---- the cost of the weights on a segment's ends
@@ -42,64 +42,22 @@ before points d p s some =
     let up = (quotient_up-is (rise points s.left s.right *ℤ from_left points d p s) (pos (d * segment_width points s)) (omega (arith, linear))).before in
     omega (arith, linear, up)
 
--- a quotient of nought rounded up is at most 0
-up_small : (a : ℤ) (b : ℕ) → 0 < b → a ≡ pos 0 → quotient_up a (pos b) ≤ℤ pos 0
-up_small a b some none =
-    IsCeiling-least a (pos b) (quotient_up a (pos b)) (pos 0) (omega (arith, linear)) (quotient_up-is a (pos b) (omega (arith, linear)))
-    (omega (arith, linear, none, zero-mul (pos b)))
-
 -- a segment of one point
 cost-point : (q : ℕ) (points : List Point) (d : ℕ) (p : ℤ) (s : Segment) → 0 < d → s.left < length points → s.left ≡ s.right
     → (pos q *ℤ segment_cost points d p (Some s)) ≤ℤ (weighted_cost points (segment_weight q points d p (Some s)) +ℤ pos q)
 cost-point q points d p s some within same =
-    let cost = λ (l : ℕ). (point_of points l).cost in
-    let weight = segment_weight q points d p (Some s) in
-    let here = λ (l : ℕ). cond-true (s.left == s.right) (if l == s.left then q else 0) _ (eq-eqb s.left s.right same) in
-    let at_left : weight s.left ≡ q = here s.left ∙ cond-true (s.left == s.left) q 0 (eq-eqb s.left s.left refl) in
-    let total = sum_below-single (length points) (λ l. cost l *ℤ pos (weight l)) s.left within
-    (λ l h apart. ap (λ w. cost l *ℤ pos w) (here l ∙ cond-false (l == s.left) q 0 (ne_eqb l s.left apart)) ∙ mul-zero (cost l)) in
-    let first : cost s.left *ℤ pos (weight s.left) ≡ cost s.left *ℤ pos q = ap (λ w. cost s.left *ℤ pos w) at_left in
-    let level : rise points s.left s.right ≡ pos 0 =
-    ap (λ l. (point_of points l).cost -ℤ (point_of points s.left).cost) (sym same) ∙ omega (arith, linear) in
-    let none : rise points s.left s.right *ℤ from_left points d p s ≡ pos 0 =
-    ap (λ z. z *ℤ from_left points d p s) level ∙ zero-mul (from_left points d p s) in
-    let more = up_small _ (d * segment_width points s) (wide d points s some) none in
-    let lower : segment_cost points d p (Some s) ≤ℤ cost s.left = omega (arith, linear, more) in
-    let times = scale-le-scale q _ _ lower in
-    omega (arith, linear, total, first, times, mul_comm (cost s.left) (pos q), pos_nonneg q)
+    let value = ap (λ z. pos q *ℤ z) (value-point points d p s some same) in
+    omega (arith, linear, weights-point q points d p s within same, value, mul_comm (point_of points s.left).cost (pos q), pos_nonneg q)
 
 -- a segment between two points
 cost-ends : (q c : ℕ) (points : List Point) (d : ℕ) (p : ℤ) (s : Segment) → Holds points d p s → LiesOn points d p s
     → q ≡ c * (d * segment_width points s) → q / (d * segment_width points s) ≡ c → s.left ≢ s.right → 0 < d
     → (pos q *ℤ segment_cost points d p (Some s)) ≤ℤ (weighted_cost points (segment_weight q points d p (Some s)) +ℤ pos q)
 cost-ends q c points d p s holds lies factor share apart some =
-    let cost = λ (l : ℕ). (point_of points l).cost in
-    let weight = segment_weight q points d p (Some s) in
-    let parts = q / (d * segment_width points s) in
-    let a = to_right points d p s in
-    let b = from_left points d p s in
-    let beside = ne_eqb s.left s.right apart in
-    let there = λ (l : ℕ). cond-false (s.left == s.right) (if l == s.left then q else 0) _ beside in
-    let at_left : weight s.left ≡ unsigned_abs a * parts = there s.left ∙ cond-true (s.left == s.left) _ _ (eq-eqb s.left s.left refl) in
-    let at_right : weight s.right ≡ unsigned_abs b * parts =
-    there s.right ∙ cond-false (s.right == s.left) _ _ (ne_eqb s.right s.left (λ e. apart (sym e)))
-    ∙ cond-true (s.right == s.right) _ _ (eq-eqb s.right s.right refl) in
-    let elsewhere = λ (l : ℕ) (h : l < length points) (i : l ≢ s.left) (j : l ≢ s.right).
-    ap (λ w. cost l *ℤ pos w)
-    (there l ∙ cond-false (l == s.left) _ _ (ne_eqb l s.left i) ∙ cond-false (l == s.right) _ _ (ne_eqb l s.right j))
-    ∙ mul-zero (cost l) in
-    let total = sum_below-pair (length points) (λ l. cost l *ℤ pos (weight l)) s.left s.right holds.left holds.right apart elsewhere in
-    let first = ap (λ w. cost s.left *ℤ pos w) (at_left ∙ ap (λ n. unsigned_abs a * n) share) ∙ ap (λ z. cost s.left *ℤ z) (part a c lies.before) in
-    let second = ap (λ w. cost s.right *ℤ pos w) (at_right ∙ ap (λ n. unsigned_abs b * n) share) ∙ ap (λ z. cost s.right *ℤ z) (part b c lies.after) in
-    let product = pos-mul d (segment_width points s) ∙ ap (λ z. pos d *ℤ z) (lies.width apart) in
-    let whole : a +ℤ b ≡ pos (d * segment_width points s) =
-    omega (arith, linear, product, mul-sub (pos d) (output_of points s.right) (output_of points s.left)) in
-    let bound = ends_cost c (d * segment_width points s) (cost s.left) (cost s.right) a b (over_left points d p s) whole (before points d p s some) in
-    subst (λ n. (pos n *ℤ segment_cost points d p (Some s)) ≤ℤ (weighted_cost points weight +ℤ pos n)) (sym factor)
-    (omega (arith, linear, total, first, second, bound))
-  where
-    part : (z : ℤ) (c : ℕ) → pos 0 ≤ℤ z → pos (unsigned_abs z * c) ≡ z *ℤ pos c
-    part z c h = pos-mul (unsigned_abs z) c ∙ ap (λ x. x *ℤ pos c) (abs_is z h)
+    let bound = ends_cost c (d * segment_width points s) (point_of points s.left).cost (point_of points s.right).cost (to_right points d p s)
+    (from_left points d p s) (over_left points d p s) (parts-ends points d p s lies apart) (before points d p s some) in
+    subst (λ n. (pos n *ℤ segment_cost points d p (Some s)) ≤ℤ (weighted_cost points (segment_weight q points d p (Some s)) +ℤ pos n)) (sym factor)
+    (omega (arith, linear, weights-ends q c points d p s holds lies share apart, bound))
 
 -- q times the hull's value rounded up is at most q more than the weights on the ends cost
 cost-segment : (q c : ℕ) (points : List Point) (d : ℕ) (p : ℤ) (s : Segment) → segment_at points d p ≡ Some s

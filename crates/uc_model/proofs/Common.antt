@@ -11,7 +11,7 @@ pub use Rattle.uc_model.proofs.StartCosts.{sigma-le-allowed, sigma-size}
 pub use Rattle.uc_model.proofs.MinimumTimes.{OneChange, bit-le-one, bit_nonneg, fall, one-le-bit, one_change, two_terms-le-sum_below}
 pub use Rattle.uc_model.proofs.Shortages.{IsShortage, printed_shed, printed_short, share_is, shed_parts, short_parts, shortage_parts, unpriced}
 pub use Rattle.uc_model.proofs.CostBound.{IsWithin, abs_of_within, within_const_sum, within_of_abs}
-pub use Rattle.uc_model.proofs.HullPoints.{Holds, LiesOn, abs_is, lies_on, segment_at-holds, width_is}
+pub use Rattle.uc_model.proofs.HullPoints.{Holds, LiesOn, abs_is, lies_on, parts-ends, segment_at-holds, value-point, weights-ends, weights-point, width_is}
 pub use Rattle.uc_model.proofs.HullSegments.{Begins, IsUnder, Rises, Steps, begin_there, first-there, holds_from, is_held, is_segment, outputs_rise, pair_there, step_there, under}
 pub use Rattle.uc_model.proofs.PrintedCosts.{cost-le-printed, denominator-factor, printed_cost-fits, watts-factor, watts_positive}
 pub use Rattle.uc_model.proofs.Sizes.{abs_add, abs_min, abs_mul, abs_narrow, abs_sub, abs_wide, difference-is, difference-size, floor-size, from-size, narrow, product-fits, product-is, product-size, scaled-size, sum-fits, sum-is, sum-size, wide-size}

@@ -118,9 +118,9 @@ ends_cost c width x y a b n parts above =
     let product = ap (λ z. z *ℤ (x +ℤ n)) (pos-mul c width) ∙ mul_assoc (pos c) (pos width) (x +ℤ n) in
     omega (arith, linear, times, left, right, apart, product, mul_comm (x *ℤ a) (pos c), mul_comm (y *ℤ b) (pos c))
 
--- a quotient of nought rounded up is at least 0
-up_nonneg : (a : ℤ) (b : ℕ) → 0 < b → a ≡ pos 0 → pos 0 ≤ℤ quotient_up a (pos b)
-up_nonneg a b some none = grind (arith, linear, some, none)
+-- a quotient of nought rounded up is nought
+up_none : (a : ℤ) (b : ℕ) → 0 < b → a ≡ pos 0 → quotient_up a (pos b) ≡ pos 0
+up_none a b some none = grind (arith, linear, some, none)
 
 -- the quotient of the hull's value
 abbrev over_left : List Point → ℕ → ℤ → Segment → ℤ
@@ -129,31 +129,45 @@ over_left points d p s = quotient_up (rise points s.left s.right *ℤ from_left 
 pub wide : (d : ℕ) (points : List Point) (s : Segment) → 0 < d → 0 < d * segment_width points s
 wide d points s some = let width : 1 ≤ segment_width points s = le-max_left 1 _ in grind arith
 
--- a segment of one point
-cost-point : (q : ℕ) (points : List Point) (d : ℕ) (p : ℤ) (s : Segment) → 0 < d → s.left < length points → s.left ≡ s.right
-    → weighted_cost points (segment_weight q points d p (Some s)) ≤ℤ (pos q *ℤ segment_cost points d p (Some s))
-cost-point q points d p s some within same =
+-- a segment of one point: what its weight and what its value cost
+pub weights-point : (q : ℕ) (points : List Point) (d : ℕ) (p : ℤ) (s : Segment) → s.left < length points → s.left ≡ s.right
+    → weighted_cost points (segment_weight q points d p (Some s)) ≡ (point_of points s.left).cost *ℤ pos q
+weights-point q points d p s within same =
     let cost = λ (l : ℕ). (point_of points l).cost in
     let weight = segment_weight q points d p (Some s) in
     let here = λ (l : ℕ). cond-true (s.left == s.right) (if l == s.left then q else 0) _ (eq-eqb s.left s.right same) in
     let at_left : weight s.left ≡ q = here s.left ∙ cond-true (s.left == s.left) q 0 (eq-eqb s.left s.left refl) in
-    let total = sum_below-single (length points) (λ l. cost l *ℤ pos (weight l)) s.left within
-    (λ l h apart. ap (λ w. cost l *ℤ pos w) (here l ∙ cond-false (l == s.left) q 0 (ne_eqb l s.left apart)) ∙ mul-zero (cost l)) in
-    let first : cost s.left *ℤ pos (weight s.left) ≡ cost s.left *ℤ pos q = ap (λ w. cost s.left *ℤ pos w) at_left in
+    sum_below-single (length points) (λ l. cost l *ℤ pos (weight l)) s.left within
+    (λ l h apart. ap (λ w. cost l *ℤ pos w) (here l ∙ cond-false (l == s.left) q 0 (ne_eqb l s.left apart)) ∙ mul-zero (cost l))
+    ∙ ap (λ w. cost s.left *ℤ pos w) at_left
+
+pub value-point : (points : List Point) (d : ℕ) (p : ℤ) (s : Segment) → 0 < d → s.left ≡ s.right
+    → segment_cost points d p (Some s) ≡ (point_of points s.left).cost
+value-point points d p s some same =
     let level : rise points s.left s.right ≡ pos 0 =
     ap (λ l. (point_of points l).cost -ℤ (point_of points s.left).cost) (sym same) ∙ omega (arith, linear) in
     let none : rise points s.left s.right *ℤ from_left points d p s ≡ pos 0 =
     ap (λ z. z *ℤ from_left points d p s) level ∙ zero-mul (from_left points d p s) in
-    let more = up_nonneg _ (d * segment_width points s) (wide d points s some) none in
-    let greater : cost s.left ≤ℤ segment_cost points d p (Some s) = omega (arith, linear, more) in
-    let times = scale-le-scale q _ _ greater in
-    omega (arith, linear, total, first, times, mul_comm (cost s.left) (pos q))
+    let up = up_none _ (d * segment_width points s) (wide d points s some) none in
+    omega (arith, linear, up)
 
--- a segment between two points
-cost-ends : (q c : ℕ) (points : List Point) (d : ℕ) (p : ℤ) (s : Segment) → Holds points d p s → LiesOn points d p s
-    → q ≡ c * (d * segment_width points s) → q / (d * segment_width points s) ≡ c → s.left ≢ s.right → 0 < d
+cost-point : (q : ℕ) (points : List Point) (d : ℕ) (p : ℤ) (s : Segment) → 0 < d → s.left < length points → s.left ≡ s.right
     → weighted_cost points (segment_weight q points d p (Some s)) ≤ℤ (pos q *ℤ segment_cost points d p (Some s))
-cost-ends q c points d p s holds lies factor share apart some =
+cost-point q points d p s some within same =
+    let value = ap (λ z. pos q *ℤ z) (value-point points d p s some same) in
+    omega (arith, linear, weights-point q points d p s within same, value, mul_comm (point_of points s.left).cost (pos q))
+
+-- a segment between two points: the parts of its width, and what the weights on its ends cost
+pub parts-ends : (points : List Point) (d : ℕ) (p : ℤ) (s : Segment) → LiesOn points d p s → s.left ≢ s.right
+    → to_right points d p s +ℤ from_left points d p s ≡ pos (d * segment_width points s)
+parts-ends points d p s lies apart =
+    parts_sum points d p s ∙ sym (pos-mul d (segment_width points s) ∙ ap (λ z. pos d *ℤ z) (lies.width apart))
+
+pub weights-ends : (q c : ℕ) (points : List Point) (d : ℕ) (p : ℤ) (s : Segment) → Holds points d p s → LiesOn points d p s
+    → q / (d * segment_width points s) ≡ c → s.left ≢ s.right
+    → weighted_cost points (segment_weight q points d p (Some s))
+    ≡ ((point_of points s.left).cost *ℤ (to_right points d p s *ℤ pos c) +ℤ (point_of points s.right).cost *ℤ (from_left points d p s *ℤ pos c))
+weights-ends q c points d p s holds lies share apart =
     let cost = λ (l : ℕ). (point_of points l).cost in
     let weight = segment_weight q points d p (Some s) in
     let parts = q / (d * segment_width points s) in
@@ -169,19 +183,26 @@ cost-ends q c points d p s holds lies factor share apart some =
     ap (λ w. cost l *ℤ pos w)
     (there l ∙ cond-false (l == s.left) _ _ (ne_eqb l s.left i) ∙ cond-false (l == s.right) _ _ (ne_eqb l s.right j))
     ∙ mul-zero (cost l) in
-    let total = sum_below-pair (length points) (λ l. cost l *ℤ pos (weight l)) s.left s.right holds.left holds.right apart elsewhere in
     let first = ap (λ w. cost s.left *ℤ pos w) (at_left ∙ ap (λ n. unsigned_abs a * n) share) ∙ ap (λ z. cost s.left *ℤ z) (part a c lies.before) in
     let second = ap (λ w. cost s.right *ℤ pos w) (at_right ∙ ap (λ n. unsigned_abs b * n) share) ∙ ap (λ z. cost s.right *ℤ z) (part b c lies.after) in
-    let whole : a +ℤ b ≡ pos (d * segment_width points s) =
-    parts_sum points d p s ∙ sym (pos-mul d (segment_width points s) ∙ ap (λ z. pos d *ℤ z) (lies.width apart)) in
-    let above = (quotient_up-is (rise points s.left s.right *ℤ b) (pos (d * segment_width points s))
-    (let width = wide d points s some in omega (arith, linear))).above in
-    let bound = ends_cost c (d * segment_width points s) (cost s.left) (cost s.right) a b (over_left points d p s) whole above in
-    subst (λ n. weighted_cost points weight ≤ℤ (pos n *ℤ segment_cost points d p (Some s))) (sym factor)
-    (omega (arith, linear, total, first, second, bound))
+    sum_below-pair (length points) (λ l. cost l *ℤ pos (weight l)) s.left s.right holds.left holds.right apart elsewhere
+    ∙ (λ i. first i +ℤ second i)
   where
     part : (z : ℤ) (c : ℕ) → pos 0 ≤ℤ z → pos (unsigned_abs z * c) ≡ z *ℤ pos c
     part z c h = pos-mul (unsigned_abs z) c ∙ ap (λ x. x *ℤ pos c) (abs_is z h)
+
+cost-ends : (q c : ℕ) (points : List Point) (d : ℕ) (p : ℤ) (s : Segment) → Holds points d p s → LiesOn points d p s
+    → q ≡ c * (d * segment_width points s) → q / (d * segment_width points s) ≡ c → s.left ≢ s.right → 0 < d
+    → weighted_cost points (segment_weight q points d p (Some s)) ≤ℤ (pos q *ℤ segment_cost points d p (Some s))
+cost-ends q c points d p s holds lies factor share apart some =
+    let a = to_right points d p s in
+    let b = from_left points d p s in
+    let above = (quotient_up-is (rise points s.left s.right *ℤ b) (pos (d * segment_width points s))
+    (let width = wide d points s some in omega (arith, linear))).above in
+    let bound = ends_cost c (d * segment_width points s) (point_of points s.left).cost (point_of points s.right).cost a b (over_left points d p s)
+    (parts-ends points d p s lies apart) above in
+    subst (λ n. weighted_cost points (segment_weight q points d p (Some s)) ≤ℤ (pos n *ℤ segment_cost points d p (Some s))) (sym factor)
+    (omega (arith, linear, weights-ends q c points d p s holds lies share apart, bound))
 
 -- the weights on the ends cost at most q times the hull's value rounded up
 pub cost-segment : (q c : ℕ) (points : List Point) (d : ℕ) (p : ℤ) (s : Segment) → segment_at points d p ≡ Some s
