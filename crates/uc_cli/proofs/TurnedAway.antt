@@ -5,9 +5,10 @@ use Rattle.outside.specs.Slots.{SlotState, AllUnopened}
 use Rattle.outside.specs.Sinks.{SinkState}
 use Rattle.command_line.specs.Arguments.{is_taken}
 use Rattle.command_runs.specs.Certificates.{most_certificate_bytes}
-use Rattle.command_line.specs.Command.{Command, Solves, Checks, Demos, Upgrades, Uplifts, Rolls, command_of}
+use Rattle.command_line.specs.Command.{Check, Command, Solves, Checks, Demos, Upgrades, Uplifts, Rolls, command_of}
 use Rattle.command_runs.specs.Outside.{outside_of}
 use Rattle.command_runs.specs.Reading.{most_bytes}
+use Rattle.uc_check.specs.Checking.{KeepsToInput}
 use Rattle.uc_cli.specs.RollRun.{IsRollFailure}
 use Rattle.uc_cli.specs.Run.{Fault, Memory, Slot, Words, IsRun, IsTurnedAway, IsUsage}
 use Rattle.command_runs.specs.declared.ending.End.{End}
@@ -21,6 +22,17 @@ use Rattle.command_runs.proofs.OnlyRead.{untouched}
 abbrev pub EndsAt : Fault → SinkState → SinkState → End → Type 0
 EndsAt fault before after end = IsEndOf (Err (record { fault = fault; found = None })) before after end
 
+-- a run that reads an instance and a certificate has opened neither
+kept : (asked : Check) (files : Slot → SlotState) (out err_old err_new : SinkState) → AllUnopened files
+    → KeepsToInput asked (outside_of files out err_old) (outside_of files out err_new)
+kept asked files out err_old err_new unopened = record {
+  instance = inl (unopened slot.Instance);
+  instance_read = untouched most_bytes (files slot.Instance) (unopened slot.Instance);
+  certificate = inl (unopened slot.CertIn);
+  certificate_read = untouched most_certificate_bytes (files slot.CertIn) (unopened slot.CertIn);
+  other = refl;
+}
+
 stopped : (command : Command) (files : Slot → SlotState) (out err_old err_new : SinkState) (end : End) → AllUnopened files
     → EndsAt Memory err_old err_new end → IsRun command (outside_of files out err_old) (outside_of files out err_new) end
 stopped (Solves asked) files out err_old err_new end unopened is = record {
@@ -33,13 +45,7 @@ stopped (Solves asked) files out err_old err_new end unopened is = record {
   ended = inr (faulty _ _ _ _ _ (record { cause = tt; certificate = refl; out = refl }) is);
 }
 stopped (Checks asked) files out err_old err_new end unopened is = record {
-  files = record {
-    instance = inl (unopened slot.Instance);
-    instance_read = untouched most_bytes (files slot.Instance) (unopened slot.Instance);
-    certificate = inl (unopened slot.CertIn);
-    certificate_read = untouched most_certificate_bytes (files slot.CertIn) (unopened slot.CertIn);
-    other = refl;
-  };
+  files = kept asked files out err_old err_new unopened;
   ended = inr (faulty _ _ _ _ _ (record { cause = inl (record { cause = tt; untouched = refl }); out = refl }) is);
 }
 stopped (Demos asked) files out err_old err_new end unopened is =
@@ -54,13 +60,7 @@ stopped (Upgrades asked) files out err_old err_new end unopened is = record {
   ended = inr (faulty _ _ _ _ _ (record { cause = tt; certificate = refl; out = refl }) is);
 }
 stopped (Uplifts asked) files out err_old err_new end unopened is = record {
-  files = record {
-    instance = inl (unopened slot.Instance);
-    instance_read = untouched most_bytes (files slot.Instance) (unopened slot.Instance);
-    certificate = inl (unopened slot.CertIn);
-    certificate_read = untouched most_certificate_bytes (files slot.CertIn) (unopened slot.CertIn);
-    other = refl;
-  };
+  files = kept asked.check files out err_old err_new unopened;
   ended = inr (faulty _ _ _ _ _ (record { cause = inl (record { cause = tt; untouched = refl }); out = refl }) is);
 }
 stopped (Rolls asked) files out err_old err_new end unopened is = record {
