@@ -241,9 +241,6 @@ pub live_open : (tree : NumberedTree) (number : ℕ) (s : Spot) → spot_at tree
 live_open tree number (spot.Leaf (leaf.Live table value exact)) e live = record { table = table; value = value; exact = exact; live = e }
 live_open tree number _ e live = absurd live
 
-pub open_live : (tree : NumberedTree) (number : ℕ) (s : Spot) → spot_at tree number ≡ Some s → IsOpenAt tree number → IsLive s
-open_live tree number s e at = grind (arith, e, at)
-
 -- ---- what a commit needs of the fields
 pub record HasRoom (book : BookView) (rooms : Rooms) (node : ℕ) : Type 0 where
   pub live : IsOpenAt book.tree.nodes node

@@ -273,6 +273,3 @@ pub decided_here : (tree : NumberedTree) (parent number g t : ℕ) (fixing : Fix
 decided_here tree parent number g t fixing from this =
     let above = is_decided from.above g t in
     undecided_from tree parent number g t fixing from ∙ (ap (λ b. not (above || (b || false))) this ∙ ap not (or-true above))
-
-pub undecided_top : (tree : NumberedTree) (reached g t : ℕ) → IsNumbered tree → reached ≡ 0 → is_undecided_at tree reached g t ≡ true
-undecided_top tree reached g t numbered top = ap (undecided_by g t) (ap (node_at tree) top ∙ root_node tree numbered)

@@ -90,13 +90,6 @@ pub record IsLeafAt (here : Node) (number : ℕ) (l old : Leaf) (wanted : ℕ) (
   pub same : l ≡ old
   pub node : part.node ≡ here
 
-leaf_is : (l old : Leaf) → spot.Leaf l ≡ spot.Leaf old → l ≡ old
-leaf_is l old e = cc
-
-pub leaf_at : (here : Node) (number : ℕ) (l old : Leaf) (wanted : ℕ) (part : Subtree) → subtree_below here (EndAt number l) wanted ≡ Some part
-    → spot_of part.tree ≡ spot.Leaf old → IsLeafAt here number l old wanted part
-leaf_at here number l old wanted part e is = grind (arith, e, is)
-
 -- what hangs from a number has it, and so some node does
 pub part_number : (here : Node) (tree : NumberedTree) (wanted : ℕ) (part : Subtree) → subtree_below here tree wanted ≡ Some part
     → number_of part.tree ≡ wanted

@@ -109,9 +109,6 @@ mended_all values entries news reached top but is =
     (λ k. renewed_at values entries 0 k (omega arith) (λ e. omega arith) (λ e. omega arith) (λ d. but.others k (λ e. d (e ∙ top)))))
 
 -- ---- none, one written, one added
-pub none_yet : (values entries : List (Option ℤ)) → values ≡ [] → entries ≡ [] → IsTournament values entries
-none_yet values entries no_values no_entries = grind (arith, no_values, no_entries)
-
 pub value_written : (values entries news : List (Option ℤ)) (place : ℕ) (value : Option ℤ) → IsTournament values entries → place < length values
     → news ≡ set values place value → IsMendedBut news entries place
 value_written values entries news place value are within is = grind (arith, length-set, lesser_is, get_or-set_other, are, within, is)

@@ -10,7 +10,7 @@ use Rattle.uc_model.specs.Prelude.{thermal_count}
 use Rattle.dual_model.specs.Prelude.{Tree, Ends, Splits, root, child, IsCoverBelow, EachLeaf, any_leaf, Leaf, Bound, Ray, Empty, IsExcluded, is_bound, Certificate, CertificateHolds, ClaimHolds}
 use Rattle.cert_text.specs.CertificateText.{TreeNode, LeafNode, SplitNode, preorder, IsNodeWithin}
 use Rattle.cert_check.specs.Visits.{Instance, Node, Table, Visit, visits, IsSoundNode, IsSound}
-use Rattle.cert_check.specs.Refusals.{HasSize, HasPrices, ClaimFits, HasClaim}
+use Rattle.cert_check.specs.Refusals.{ClaimFits, HasClaim}
 
 -- ---- facts of each element of two lists
 all-left : {A : Type 0} (P : A → Type 0) (xs ys : List A) → All P (xs ++ ys) → All P xs
@@ -92,13 +92,6 @@ holds-from instance c has within all =
       schedule = has.schedule.schedule;
       claim = claim-from instance c c.bound has.claim (leaves-from instance c.tables c.bound root c.tree all);
     }
-
--- what a certificate that holds meets
-pub size-of : (instance : Instance) (c : Certificate) → CertificateHolds instance c → HasSize instance c
-size-of instance c holds = record { periods = holds.periods; thermal = holds.thermal; renewable = holds.renewable }
-
-pub prices-of : (instance : Instance) (c : Certificate) → CertificateHolds instance c → HasPrices instance c
-prices-of instance c holds = record { shed = holds.penalty.0; short = holds.penalty.1 }
 
 -- no leaf of an excluded tree is a bound
 no-bound : (instance : Instance) (tables : List Table) (place : Node) (tree : Tree Leaf) → EachLeaf (IsExcluded instance tables) place tree → any_leaf is_bound tree ≡ false

@@ -1,7 +1,6 @@
 -- What the test of a leaf's least value says of the leaf.
 use Rattle.std.proofs.Common.{◌≡◌, ℕ, ◌<◌, Bool, true, false, IsTrue, inl, inr, List, sym, subst, ◌∙◌, arith, ℤ, pos, ◌*ℤ◌, ◌<ℤ◌, ◌≤ℤ◌, Option, Some, None, MatchOption, Result, Ok, Err, IfOk, ◌↔◌}
 use Rattle.std.specs.Int.{int_div_euclid}
-use Rattle.std.proofs.lemmas.Bool.{false≢true}
 use Rattle.std.proofs.lemmas.Option.{same_Some}
 use Rattle.uc_model.specs.Prelude.{thermal_count}
 use Rattle.uc_model.proofs.Common.{IsFloor-greatest, IsFloor-int_div_euclid, linear, mul-le-mul_right}
@@ -12,7 +11,7 @@ use Rattle.leaf_values.specs.Reached.{HasValueFrom, least_value}
 use Rattle.leaf_values.specs.declared.least.Least.{Least}
 use Rattle.cert_check.specs.Visits.{Instance, Node, Table, IsSoundNode}
 use Rattle.cert_check.specs.declared.leaf.Claim.TheVariants as claims
-use Rattle.cert_check.specs.inside.Leaves.{Claim, Holds, IsEnough, IsHoldingAt, IsLeastFor, FitsScale, Question, Reaches, Says, least_of}
+use Rattle.cert_check.specs.inside.Leaves.{Claim, Holds, IsEnough, IsHoldingAt, IsLeastFor, FitsScale, Reaches, Says, least_of}
 
 -- what is told for each node is told, for each node, of the answer
 pub each-node : {T E : Type 0} (Q : Node → Type 0) (P : Node → T → Type 0) (result : Result T E) → ((node : Node) → Q node → IfOk result (P node))
@@ -66,11 +65,6 @@ module _ (exact : Bool) (instance : Instance) (node : Node) (table : Table) wher
     }),
     (λ holds. test.1 (subst (λ z. Reaches exact instance node table z) (sym is.value) (says-reached claim is.fits holds.says))),
   )
-
--- where the scale is another, it doesn't hold
-pub other-scale : (question : Question) (instance : Instance) (node : Node) (table : Table) → ¬ FitsScale table.k question.claim
-    → IsTrue false ↔ Holds question instance node table
-other-scale question instance node table other = ((λ said. absurd (false≢true said)), (λ holds. absurd (other holds.fits)))
 
 valued-not-blocked : (exact : Bool) (instance : Instance) (node : Node) (table : Table) (v : ℤ) → IsValueOf exact instance node table v
     → ¬ HasBlockedUnit exact instance node

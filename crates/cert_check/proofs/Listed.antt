@@ -1,13 +1,13 @@
 -- What the steps of the check say of any certificate that has the listing that was read.
 use Rattle.std.proofs.Common.{arith, ◌≡◌, ℕ, suc, ◌||◌, refl, sym, ap, subst, ◌∙◌, List, [], ◌∷◌, length, All, ℤ, Option, Some, None, map, slice_get, append-nil}
 use Rattle.std.specs.List.{list_any}
-use Rattle.std.proofs.lemmas.Option.{none-some, same_Some, get_or_from_slice_get, slice_get_within}
+use Rattle.std.proofs.lemmas.Option.{get_or_from_slice_get, slice_get_within}
 use Rattle.std.proofs.lemmas.List.Elements.{All-get_or, All-take}
 use Rattle.uc_model.specs.declared.refusal.Refusal.TheVariants as codes
 use Rattle.uc_model.specs.Prelude.{Obeys, printed_denominator, printed_schedule}
 use Rattle.uc_model.proofs.Common.{rule_at}
 use Rattle.schedule_check.specs.FirstBroken.{IsFirstBroken}
-use Rattle.dual_model.specs.Prelude.{IsLawfulTable, root, Bound, has_bound, Certificate, CertificateHolds, WrittenSchedule, ScheduleHolds}
+use Rattle.dual_model.specs.Prelude.{IsLawfulTable, root, Bound, has_bound, Certificate, CertificateHolds, WrittenSchedule}
 use Rattle.branch_tree.specs.Prelude.{written_of}
 use Rattle.cert_text.specs.CertificateText.{Listing, listing_of, TreeNode, LeafNode, preorder, IsNodeWithin}
 use Rattle.cert_text.specs.TextConditions.{IsTableText, HasText}
@@ -36,21 +36,11 @@ text-of c cert e read = subst (HasText read.version) (read.listed ∙ sym e) rea
 pub size-from : (instance : Instance) (c : Certificate) (cert : Cert) → Listed c cert → FitsInstance instance cert → HasSize instance c
 size-from instance c cert e fits = grind (arith, e, fits)
 
-pub fits-from : (instance : Instance) (c : Certificate) (cert : Cert) → Listed c cert → HasSize instance c → FitsInstance instance cert
-fits-from instance c cert e size = grind (arith, e, size)
-
 pub prices-from : (instance : Instance) (c : Certificate) (cert : Cert) → Listed c cert → ReadsPrices instance cert → HasPrices instance c
 prices-from instance c cert e reads = grind (arith, e, reads)
 
-pub reads-from : (instance : Instance) (c : Certificate) (cert : Cert) → Listed c cert → HasPrices instance c → ReadsPrices instance cert
-reads-from instance c cert e prices = grind (arith, e, prices)
-
 tables-is : (c : Certificate) (cert : Cert) → Listed c cert → c.tables ≡ cert.tables
 tables-is c cert e = ap (λ (l : Listing). l.tables) e
-
-pub lawful-from : (instance : Instance) (c : Certificate) (cert : Cert) → Listed c cert → IsRead cert → FitsInstance instance cert
-    → All HasLawfulNumbers cert.tables → All (IsLawfulTable instance) c.tables
-lawful-from instance c cert e read fits numbers = grind (arith, e, read, fits, numbers)
 
 pub tables-from : (instance : Instance) (c : Certificate) (cert : Cert) → Listed c cert → IsRead cert → FitsInstance instance cert
     → ReadsPrices instance cert → All HasLawfulNumbers cert.tables → HasTables instance c
@@ -59,11 +49,6 @@ tables-from instance c cert e read fits reads numbers = grind (arith, e, read, f
 -- ---- the schedule
 pub schedule-is : (c : Certificate) (cert : Cert) → Listed c cert → c.schedule ≡ written_of cert.schedule
 schedule-is c cert e = ap (λ (l : Listing). l.schedule) e
-
-costs-hold : (instance : Instance) (schedule : Option WrittenSchedule) (cost : Option ℤ) → IsCostOf instance schedule cost
-    → (written : WrittenSchedule) → schedule ≡ Some written → ScheduleHolds instance written
-costs-hold instance None cost is written e = absurd (none-some written e)
-costs-hold instance (Some own) cost is written e = subst (λ w. ScheduleHolds instance w) (same_Some own written e) is.0
 
 pub schedule-from : (instance : Instance) (c : Certificate) (cert : Cert) → Listed c cert → IsRead cert → FitsInstance instance cert
     → ReadsPrices instance cert → All HasLawfulNumbers cert.tables → (cost : Option ℤ) → IsCostOf instance (written_of cert.schedule) cost → HasSchedule instance c
@@ -125,14 +110,6 @@ breaks-obeys instance written rule unit period broken obeys = grind (arith, rule
 -- an element of each kind is none
 not-all : {A : Type 0} (P : A → Type 0) (xs : List A) (i : ℕ) (x : A) → slice_get xs i ≡ Some x → ¬ P x → ¬ All P xs
 not-all P xs i x e fails all = grind (arith, get_or_from_slice_get, All-get_or, slice_get_within, e, fails, all)
-
-pub refused-9 : (instance : Instance) (c : Certificate) (cert : Cert) → Listed c cert → ¬ FitsInstance instance cert
-    → (¬ HasSize instance c) × (¬ CertificateHolds instance c)
-refused-9 instance c cert e unfit = grind (arith, e, unfit)
-
-pub refused-10 : (instance : Instance) (c : Certificate) (cert : Cert) → Listed c cert → FitsInstance instance cert → ¬ ReadsPrices instance cert
-    → IsRefusedBy instance c codes.C10 × (¬ CertificateHolds instance c)
-refused-10 instance c cert e fits other = grind (arith, e, fits, other)
 
 -- the first table with a number that isn't lawful isn't lawful, and those before it are
 pub refused-1 : (instance : Instance) (c : Certificate) (cert : Cert) (i number : ℕ) → Listed c cert → IsRead cert → FitsInstance instance cert

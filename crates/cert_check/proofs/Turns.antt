@@ -71,11 +71,6 @@ pub visited-all : (instance : Instance) (tables : List Table) (bound : Option �
     → All (IsSound instance tables bound) (all_visits tree)
 visited-all instance tables bound tree i path has past = grind (arith, none-left, append-nil, has, past)
 
--- before the first turn
-pub visited-none : (instance : Instance) (tables : List Table) (bound : Option ℤ) (tree : List CertNode)
-    → HasVisited instance tables bound (all_visits tree) 0 [] (map node_of tree)
-visited-none instance tables bound tree = record { done = []; count = refl; parts = refl; sound = λ k d h. absurd (omega arith) }
-
 -- what each node meets, each meets
 pub each-mapped : (P : TreeNode → Type 0) (tree : List CertNode) (i : ℕ) → All P (map node_of tree) → i < length tree → P (node_of (node_at tree i))
 each-mapped P tree i each within =

@@ -4,12 +4,9 @@ use Rattle.std.proofs.Common.{◌≡◌, ◌<◌, Bool, not, List, [], ◌∷◌
 use Rattle.std.proofs.Math.Seq.{get_or-append_seam}
 use Rattle.std.proofs.lemmas.List.{get_or_append_left, length-append, take-append-le, take_all}
 use Rattle.dual_model.specs.Prelude.{IsCell, is_decided}
-use Rattle.leaf_values.proofs.PathsOfNodes.{decides_once-more, decides_once-nil, decides_once-take}
+use Rattle.leaf_values.proofs.PathsOfNodes.{decides_once-more, decides_once-take}
 use Rattle.cert_check.specs.inside.Walks.{Fixing, Instance, IsPath}
 use Rattle.cert_check.proofs.Places.{each-push}
-
-pub path-nil : (instance : Instance) → IsPath instance []
-path-nil instance = record { cells = λ i d h. absurd (omega arith); once = decides_once-nil }
 
 -- one decision more
 pub path-more : (instance : Instance) (path : List Fixing) (last : Fixing) → IsPath instance path → IsCell instance last.g last.t

@@ -1,15 +1,15 @@
 -- Changes of a table that are read and made one after the other, and tables that are read behind each other.
-use Rattle.std.proofs.Common.{◌≡◌, ℕ, zero, suc, ◌+◌, ◌-◌, ◌<◌, ◌≤◌, Bool, true, false, cond, ◌&&◌, List, [], ◌∷◌, ◌++◌, length, Option, Some, None, IfSome, Result, Ok, Err, refl, sym, ap, ◌∙◌, arith, pos, append-nil}
+use Rattle.std.proofs.Common.{◌≡◌, ℕ, zero, suc, ◌+◌, ◌-◌, ◌<◌, ◌≤◌, Bool, true, false, cond, ◌&&◌, List, [], ◌∷◌, ◌++◌, length, Option, Some, None, Result, Ok, Err, refl, sym, ap, ◌∙◌, arith, pos, append-nil}
 use Rattle.std.specs.Option.{option_and_then}
 use Rattle.std.specs.List.{slice_get}
 use Rattle.std.proofs.lemmas.List.{length-set, length_push}
 use Rattle.table_list.specs.Changes.{Table, RampRow, Change, OfDemand, OfReserve, OfRamps, changed, all_changed}
-use Rattle.cert_text.specs.CertificateText.{Version, First, Second, Third, told_from}
+use Rattle.cert_text.specs.CertificateText.{told_from}
 use Rattle.cert_text.specs.Grammar.{Sizes, rescaled}
 use Rattle.cert_text.specs.inside.Forms.{Form, passing, written_change_at, is_within, comes_behind, is_other, change_at, next_at}
 use Rattle.cert_text.specs.inside.Parts.{Stop, ◌>>=◌, StopsAs, line_of, told, changes_part, changed_part, next_part, table_of, numbers_part, table_part, told_part, tables_part}
-use Rattle.cert_text.specs.inside.Drafts.{drafted, so_far, HasPrice, ArePriced, IsDrafted}
-use Rattle.table_list.specs.TableChanges.{last_table, AreAlike}
+use Rattle.cert_text.specs.inside.Drafts.{drafted, so_far, ArePriced}
+use Rattle.table_list.specs.TableChanges.{last_table}
 use Rattle.cert_text.specs.declared.reader.draft.Draft.{Draft}
 use Rattle.cert_text.specs.declared.reader.stop.Stop.TheVariants as stops
 use Rattle.cert_text.proofs.Loops.{one_left, none_left, behind_parts, regroup_parts}
@@ -50,11 +50,6 @@ no_change size table last bytes e =
     passing_both written_change_at (is_within size) (λ change. comes_behind last change && is_other table change) bytes
     ∙ ap (option_and_then (λ (x : Change × List ℕ). cond (comes_behind last x.0 && is_other table x.0) (Some x) None)) e in
     rw none refl
-
--- its price is there
-pub change_has_price : (size : Sizes) (draft : Draft) (left : List RampRow) (bytes rest : List ℕ) (change : Change) → ArePriced size.periods draft
-    → passing (is_within size) written_change_at bytes ≡ Some (change, rest) → HasPrice (so_far draft left) change
-change_has_price size draft left bytes rest change priced e = grind (arith, priced, e)
 
 -- ---- making changes one after the other
 -- there are as many prices as before
@@ -124,9 +119,6 @@ unfolding next_part
 no_next size before bytes e = rw e refl
 
 -- ---- a draft of the table before
-pub drafted_priced : (size : Sizes) (draft : Draft) (table : Table) → IsDrafted size draft table → ArePriced size.periods draft
-drafted_priced size draft table h = grind (arith, h)
-
 drafted_rescaled : (draft : Draft) (before : Table) (k : ℕ) (rows : List RampRow) → before ≡ drafted draft draft.ramps.items → rows ≡ before.ramps
     → ◌≡◌ {A = Table} (record { units = draft.units; k = pos k; pi = draft.pi.items; mu = draft.mu.items; ramps = rows }) (rescaled before k)
 drafted_rescaled draft before k rows e f = λ i. record { units = (sym e i).units; k = pos k; pi = (sym e i).pi; mu = (sym e i).mu; ramps = f i }
@@ -183,15 +175,3 @@ pub tables_done : (size : Sizes) (front : List Table) (count i : ℕ) (bytes : L
 unfolding tables_part
 tables_done size front count i bytes total le before =
     sym (rw (none_left count i le) at before) ∙ ap (λ (tables : List Table). Ok (tables, bytes)) (append-nil front)
-
--- the table that the next one is told from is the last one
-pub told_from_last : (version : Version) (last : Option Table) (before : Table) → Some before ≡ told_from version last → last ≡ Some before
-told_from_last First last before e = absurd cc
-told_from_last Second last before e = sym e
-told_from_last Third last before e = sym e
-
--- tables that have a text of one size are of one system
-pub drafts_alike : (size : Sizes) (draft next : Draft) (last : Option Table) (table : Table) → IfSome last (IsDrafted size draft) → IsDrafted size next table
-    → IfSome last (λ before. AreAlike before table)
-drafts_alike size draft next None table before h = tt
-drafts_alike size draft next (Some last) table before h = grind (arith, h)

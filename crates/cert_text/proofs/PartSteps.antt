@@ -144,10 +144,6 @@ pub told_then : {A B C : Type 0} (f : A × B → C) (first : Part A) (second : A
     → told f (then first second) bytes ≡ (first bytes >>= λ x. second x.0 x.1 >>= λ y. Ok (f (x.0, y.0), y.1))
 told_then {A} {B} {C} f first second bytes = grind arith
 
-pub same_read : {A : Type 0} (r : Result (A × List ℕ) (List ℕ)) → (r >>= λ y. ok_of A y.0 y.1) ≡ r
-same_read (Ok y) = refl
-same_read (Err rest) = refl
-
 pub told_second : {A B : Type 0} (first : Part A) (second : A → Part B) (bytes : List ℕ) → told (λ p. p.1) (then first second) bytes ≡ (first bytes >>= λ x. second x.0 x.1)
 told_second {A} {B} first second bytes = grind arith
 

@@ -1,13 +1,13 @@
 -- The parts in which a certificate is written are its lines.
-use Rattle.std.proofs.Common.{◌≡◌, ℕ, List, [], ◌∷◌, ◌++◌, length, map, refl, ap, ◌∙◌, sym, append_assoc, Bool, Option, Some, None, zero, suc, ◌<◌, cond, get_or, arith, ◌^◌, true, false, All, ℤ, pos, negsuc, ◌≤ℤ◌, eq-eqb, ne_eqb, IfSome, ◌||◌}
+use Rattle.std.proofs.Common.{◌≡◌, ℕ, List, [], ◌∷◌, ◌++◌, length, map, refl, ap, ◌∙◌, sym, append_assoc, Bool, Option, Some, None, zero, suc, ◌<◌, cond, get_or, arith, ◌^◌, true, false, All, ℤ, eq-eqb, ne_eqb, IfSome, ◌||◌}
 use Rattle.std.specs.List.{flat_map, list_any}
 use mathlib.Core.Bool.{or-true}
-use Rattle.dual_model.specs.Prelude.{WrittenSchedule, Certificate, CertificateHolds, ClaimHolds, map_leaves, Tree, Ends, Splits, root, child, IsCoverBelow, IsCover, EachLeaf, Leaf, Bound, Ray, Empty, IsExcluded, LeafHolds, IsLawfulTable, IsPrice, IsRowPriced}
+use Rattle.dual_model.specs.Prelude.{WrittenSchedule, Certificate, CertificateHolds, ClaimHolds, map_leaves, Tree, Ends, Splits, root, child, IsCoverBelow, IsCover, EachLeaf, Leaf, Bound, Ray, Empty, IsExcluded, LeafHolds, IsLawfulTable}
 use Rattle.branch_tree.specs.Prelude.{IsWhole, place_of, certificate_of, leaf_claim, written_tables, written_of, NumberedTree, EndAt, SplitAt, IsNumbered, unnumbered, numbers, spot_at, tree_bound}
 use Rattle.outside.specs.Lines.{joined}
 use Rattle.outside.proofs.Joining.{joined-cons, joined-append, joined-map}
 use Rattle.table_list.specs.Changes.{table_changes}
-use Rattle.cert_text.specs.CertificateText.{Version, Second, Third, written_version, written_text, is_exact_node, is_divided, told_from, Listing, preorder, node_line, SplitNode, TreeNode, IsLeafWithin, IsNodeWithin, RampRow, Table, Printed, certificate_lines, certificate_text, has_price, shortage_lines, schedule_lines, plan_lines, table_lines, next_lines, told_lines, tables_lines, version_line, size_line, claim_line, end_line, listing_of}
+use Rattle.cert_text.specs.CertificateText.{Version, Second, Third, written_version, written_text, is_exact_node, is_divided, told_from, Listing, preorder, node_line, SplitNode, TreeNode, IsLeafWithin, IsNodeWithin, Table, Printed, certificate_lines, certificate_text, has_price, shortage_lines, schedule_lines, plan_lines, table_lines, next_lines, told_lines, tables_lines, version_line, size_line, claim_line, end_line, listing_of}
 use Rattle.cert_text.specs.Reading.{node_of, listing_read}
 use Rattle.cert_text.specs.declared.cert.CertNode.{CertNode}
 use Rattle.cert_text.specs.inside.WrittenParts.{Found, Instance, Spot, Cert, penalty_part, shortages_part, schedule_part, table_part, next_part, told_part, tables_part, certificate_parts, found_text, read_text, spot_node}
@@ -21,7 +21,7 @@ use Rattle.std.proofs.lemmas.List.{length-map}
 use Rattle.std.proofs.lemmas.Option.{slice_get_within}
 use Rattle.uc_model.specs.Prelude.{IsLawfulInstance, thermal_count, renewable_count}
 use Rattle.dual_model.specs.declared.node.Node.{Node}
-use Rattle.cert_text.specs.TextConditions.{HasDigits, IsMoney, IsTableText, IsRampText, IsScheduleText, HasText, HasWrittenText}
+use Rattle.cert_text.specs.TextConditions.{IsMoney, IsTableText, IsScheduleText, HasText, HasWrittenText}
 
 shortages-part : (priced : Bool) (printed : Printed) → joined (shortage_lines priced printed) ≡ shortages_part priced printed
 shortages-part false printed = refl
@@ -192,17 +192,6 @@ restated version other priced periods thermal renewable (Some written) third h =
 -- a certificate that has a text in some version has one in the version in which it is written
 pub written_text_is : (version : Version) (c : Certificate) → HasText version (listing_of c) → HasWrittenText c
 written_text_is version c h = grind (arith, ints, restated, divided-written, exact-written, h)
-
-price-digits : (n : ℤ) → IsPrice n → HasDigits 18 n
-price-digits n h = omega arith
-
-ramp-digits : (row : RampRow) → IsRowPriced row → IsRampText row
-ramp-digits row h = record { up = price-digits row.up h.up; down = price-digits row.down h.down }
-
--- the scale of a lawful table is no longer than its limit
-scale-digits : (k : ℤ) → pos 0 ≤ℤ k → k ≤ℤ pos 1000000000 → HasDigits 18 k
-scale-digits (pos n) low high = omega (arith, ints)
-scale-digits (negsuc n) low high = omega (arith, ints)
 
 -- a lawful table whose rows can be counted has a text
 lawful-table-text : (instance : Instance) (table : Table) → IsLawfulTable instance table → length table.ramps < 10 ^ 18

@@ -5,8 +5,8 @@ use Rattle.cert_text.specs.inside.Forms.{schedule_at}
 use Rattle.cert_text.specs.inside.Parts.{Planned, line_of, then, told, written, nothing, powers_part, shortages_part, printed_of, behind_first, plan_from, plan_part, printed_part, rows_behind, schedule_part}
 use Rattle.cert_text.proofs.FormLaws.{thermal-form, powers-form}
 use Rattle.cert_text.proofs.PlanForms.{schedule-form, plan-form}
-use Rattle.cert_text.specs.TextConditions.{ArePenalties, IsThermalRow, IsPowerRow, AreShortagesText, IsScheduleText}
-use Rattle.cert_text.specs.CertificateText.{thermal_line, renewable_line, shed_line, short_line, shortage_lines, schedule_lines, plan_lines, has_price, Printed}
+use Rattle.cert_text.specs.TextConditions.{ArePenalties, IsThermalRow, IsPowerRow, IsScheduleText}
+use Rattle.cert_text.specs.CertificateText.{thermal_line, renewable_line, shed_line, short_line, schedule_lines, plan_lines, has_price, Printed}
 use Rattle.dual_model.specs.Prelude.{WrittenSchedule}
 use Rattle.std.proofs.lemmas.Bool.{lt-ltb}
 use Rattle.cert_text.proofs.PartSteps.{IsPart, Done, line-part, then-part, told-part, part-as, before-part, told_second, nothing-part, repeated-part, map_as_flat}
@@ -89,20 +89,6 @@ rows_behind-part size priced (Some head) =
 -- ---- schedules with their cost, or none
 abbrev pub IsText : Sizes → Bool → Option WrittenSchedule → Type 0
 IsText size priced schedule = IfSome schedule (IsScheduleText size.version priced size.periods size.thermal size.renewable)
-
-missing_there : (size : Sizes) (priced : Bool) (printed : Printed) → AreMissing size priced (printed.shed, printed.short)
-    → AreShortagesText priced size.periods printed
-missing_there size false printed h = record { shed = ap (λ (p : List ℤ × List ℤ). p.0) h; short = ap (λ (p : List ℤ × List ℤ). p.1) h }
-missing_there size true printed h = record { shed = h.0; short = h.1 }
-
-missing_back : (size : Sizes) (priced : Bool) (printed : Printed) → AreShortagesText priced size.periods printed
-    → AreMissing size priced (printed.shed, printed.short)
-missing_back size false printed h = (λ i. (h.shed i, h.short i))
-missing_back size true printed h = (h.shed, h.short)
-
-missing_same : (priced : Bool) (printed : Printed) → missing_lines priced (printed.shed, printed.short) ≡ shortage_lines priced printed
-missing_same false printed = refl
-missing_same true printed = refl
 
 behind_there : (size : Sizes) (priced : Bool) (head : Option ScheduleHead) (schedule : Option WrittenSchedule) → IfSome head (IsScheduleHead size.version)
     → IsBehind size priced head schedule → IsText size priced schedule × (schedule_line head ∷ row_lines priced schedule ≡ schedule_lines priced schedule)

@@ -17,9 +17,6 @@ before_from first second h = (before_decides first second).1 h
 abbrev are_one : RampRow → RampRow → Bool
 are_one first second = (first.g == second.g) && (first.t == second.t)
 
-one_is : (first second : RampRow) → are_one first second ≡ true → (first.g ≡ second.g) × (first.t ≡ second.t)
-one_is first second e = grind (arith, e)
-
 other_before : (first second : RampRow) → is_before first second ≡ true → are_one first second ≡ false
 other_before first second e = grind (arith, e)
 

@@ -1,5 +1,5 @@
 -- What is told next of tables, and what is still to be told behind it, are what was to be told before.
-use Rattle.std.proofs.Common.{◌≡◌, ℕ, ℤ, pos, ◌+◌, ◌<◌, ◌≤◌, Bool, true, false, cond, List, [], ◌∷◌, ◌++◌, length, drop, get_or, Option, Some, None, option_to_list, slice_get, ◌-◌, refl, ap, sym, ◌∙◌, add-one, drop-cons, length-append, arith}
+use Rattle.std.proofs.Common.{◌≡◌, ℕ, ℤ, pos, ◌+◌, ◌<◌, ◌≤◌, Bool, true, false, cond, List, [], ◌∷◌, ◌++◌, length, drop, get_or, Option, Some, None, slice_get, ◌-◌, refl, ap, sym, ◌∙◌, add-one, drop-cons, length-append, arith}
 use Rattle.std.specs.List.{flat_map}
 use Rattle.std.specs.Option.{option_map_or}
 use Rattle.std.proofs.lemmas.List.Concat.{flat_map-append}
@@ -9,8 +9,8 @@ use Rattle.std.proofs.lemmas.List.{drop_more, drop_all, length-map, get_or-map}
 use Rattle.table_list.specs.declared.change.Change.{Change as KeptChange}
 use Rattle.table_list.specs.TableChanges.{change_of, changes_of}
 use Rattle.table_list.specs.Changes.{Change, OfDemand, OfReserve, price_changes, row_changes, table_changes}
-use Rattle.cert_text.specs.CertificateText.{Table, RampRow, change_line}
-use Rattle.cert_text.specs.inside.WrittenParts.{price_part, told_count, row_line, table_part, next_part, changes_part, told_part, tables_part}
+use Rattle.cert_text.specs.CertificateText.{Table, change_line}
+use Rattle.cert_text.specs.inside.WrittenParts.{price_part, told_count, table_part, next_part, changes_part, told_part, tables_part}
 
 -- ---- prices
 -- those of period t, and those behind them
@@ -34,19 +34,6 @@ pub next_price_count : (change : ℕ → ℤ → Change) (olds news : List ℤ) 
 next_price_count change olds news t in_olds in_news = grind (arith, add-one, drop-cons, counted-or-not, in_olds, in_news)
 
 -- ---- rows of ramp multipliers
-row-told : (change : Option RampRow) (rest : List RampRow)
-    → option_map_or row_line change [] ++ flat_map row_line rest ≡ flat_map row_line (option_to_list change ++ rest)
-row-told None rest = refl
-row-told (Some row) rest = refl
-
-pub next_row : (change : Option RampRow) (rest rows : List RampRow) → rows ≡ option_to_list change ++ rest
-    → option_map_or row_line change [] ++ flat_map row_line rest ≡ flat_map row_line rows
-next_row change rest rows parts = row-told change rest ∙ ap (flat_map row_line) (sym parts)
-
-pub next_row_count : (change : Option RampRow) (rest rows : List RampRow) → rows ≡ option_to_list change ++ rest
-    → length (option_to_list change) + length rest ≡ length rows
-next_row_count change rest rows parts = sym (ap length parts ∙ length-append (option_to_list change) rest)
-
 -- ---- tables
 -- the changes are those of demand, of reserve and of ramps
 pub change_count_is : (before table : Table)

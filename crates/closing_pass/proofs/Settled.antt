@@ -1,5 +1,5 @@
 -- A claim that is still held may be committed at the table that the closing pass takes.
-use Rattle.std.proofs.Common.{◌≡◌, ◌≢◌, ◌∙◌, ℕ, ◌+◌, ◌<◌, Bool, All, List, [], ◌∷◌, drop, length, ap, sym, subst, arith, ℤ, Option, Some, slice_get, length-append}
+use Rattle.std.proofs.Common.{◌≡◌, ◌≢◌, ◌∙◌, ℕ, ◌+◌, ◌<◌, Bool, All, List, [], ◌∷◌, drop, length, ap, sym, subst, arith, ℤ, Option, Some, slice_get}
 use Rattle.std.proofs.lemmas.Int.{ints}
 use Rattle.std.proofs.lemmas.List.{nil_from_length}
 use Rattle.std.proofs.lemmas.List.Elements.{All-nil, All-cons}
@@ -9,7 +9,7 @@ use Rattle.dual_model.specs.declared.node.Node.{Node}
 use Rattle.branch_tree.specs.Prelude.{node_at}
 use Rattle.branch_tree.specs.declared.found.Entry.{Entry}
 use Rattle.branch_tree.specs.declared.found.Outcome.{Outcome}
-use Rattle.search_machine.specs.Prelude.{Machine, entries_of, stored_at, IsMoveLegal, IsFresh, IsStoredTable, TreeRunsHold}
+use Rattle.search_machine.specs.Prelude.{Machine, entries_of, stored_at, IsMoveLegal, IsFresh, TreeRunsHold}
 use Rattle.search_machine.specs.declared.event.Move.{Move}
 use Rattle.search_machine.proofs.TrueSteps.{NeverDecreases}
 use Rattle.book.specs.BookView.{BookView, state_of}
@@ -27,9 +27,6 @@ use Rattle.search_desk.proofs.Kept.{kept_committed, kept_lower, kept_wider, stay
 -- ---- a table that no entry is at
 abbrev IsElsewhere : Machine → Table → Bool → Entry → Type 0
 IsElsewhere m table exact entry = entry.exact ≡ exact → slice_get m.tables entry.table ≢ Some table
-
-pub fresh_none : (m : Machine) (entries : List Entry) (table : Table) (exact : Bool) → entries ≡ [] → IsFresh m entries table exact
-fresh_none m entries table exact none = subst (λ (es : List Entry). IsFresh m es table exact) (sym none) (All-nil (IsElsewhere m table exact))
 
 -- no later entry has so great a scale
 later_fresh : (m : Machine) (limit scale : ℕ) (entries : List Entry) (table : Table) (exact : Bool) → limit < scale → IsNewScale scale table
@@ -93,19 +90,5 @@ module _ (exact exact_dispatch : Bool) (instance : Instance) (opening : Opening)
         complete = stay_committed exact book settling.held.worker settling.held.unit may.node trial.table outcome action may.holds left.complete;
       })
 
--- the table that the node stores, where it has no entry
-pub stored_first : (book : BookView) (unit worker node had : ℕ) (path : Node) (stored : Table) (bound : ℤ) → IsHeldUnit book unit worker node had
-    → IsStoredAt book unit path stored bound → IsStoredTable (state_of book) node stored
-stored_first book unit worker node had path stored bound held at =
-    subst (λ n. slice_get book.tables (stored_at book.tree n).table ≡ Some stored)
-    (one_node book at.worker worker unit at.number node at.holds held.holds) at.is_table
-
 pub no_entry : (book : BookView) (had node : ℕ) → had ≡ length (entries_of book.log node) → had ≡ 0 → entries_of book.log node ≡ []
 no_entry book had node count none = nil_from_length (entries_of book.log node) (sym count ∙ none)
-
--- one entry more
-pub settle_log : (exact : Bool) (book new : BookView) (worker unit : ℕ) (path : Node) (table : Table) (outcome : Outcome) (action : Move)
-    → IsCommitted book worker unit path table exact outcome action new → length new.log ≡ length book.log + 1
-settle_log exact book new worker unit path table outcome action done =
-    ap (λ (b : BookView). length b.log) done.is
-    ∙ length-append book.log ((record { unit = unit; worker = worker; node = done.may.node; table = length book.tables; exact = exact; outcome = outcome }) ∷ [])

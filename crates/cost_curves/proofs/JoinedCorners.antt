@@ -100,10 +100,6 @@ covers_start points count corners point hull next = record {
   alone = λ e l hl. absurd (let some = hull.some (omega arith) in omega arith);
 }
 
-pub covers-one : (points : List Point) (count : ℕ) (corners : List Point) (point : Point) → HullOfFirst points count corners
-    → IsTrue (int_le point.mw (point_of corners 0).mw) → Covers points count corners point 0
-covers-one points count corners point hull e = grind (arith, ints, hull, e)
-
 pub covers-more : (points : List Point) (count : ℕ) (corners : List Point) (point : Point) (i : ℕ) → HullOfFirst points count corners
     → IsNext points count point → Covers points count corners point (suc (suc i))
     → IsTrue (is_above (point_of corners i) point (point_of corners (suc i))) → Covers points count corners point (suc i)
@@ -131,10 +127,6 @@ covers-more points count corners point i hull next covers e =
 pub joins-none : (points : List Point) (count : ℕ) (corners : List Point) (point : Point) → Covers points count corners point 0
     → Joins points count corners point 0
 joins-none points count corners point covers = grind (arith, ints, covers)
-
-pub joins-one : (points : List Point) (count : ℕ) (corners : List Point) (point : Point) → HullOfFirst points count corners
-    → Covers points count corners point 1 → int_le point.mw (point_of corners 0).mw ≡ false → Joins points count corners point 1
-joins-one points count corners point hull covers e = grind (arith, ints, hull, covers, e)
 
 -- the point lies above the lines from corner to corner, from the last one down
 over_below : (points : List Point) (count : ℕ) (corners : List Point) (point : Point) (i : ℕ) → HullOfFirst points count corners

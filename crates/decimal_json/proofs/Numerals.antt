@@ -266,9 +266,6 @@ ends_badly bytes source start end c t e same r is f fails a b = λ outer p.
     subst (λ (e : JsonFault). Leads e (scan source start outer (quoted p (plain [])))) (sym is)
     (r outer p ∙ stopped source end c outer (quoted p (plain t)) end 2 stands (plain_control end c outer p t (no_plain c (drop (end + 1) source) stands) a b))
 
-pub escape_ends : (bytes source : List ℕ) (start end : ℕ) (t : List ℕ) (e : JsonFault) → bytes ≡ source → Reaches source start end t → BreaksEscape bytes end e → BreaksText source start e
-escape_ends bytes source start end t e same r broken = grind (arith, same, r, broken)
-
 pub goes_on : (bytes source : List ℕ) (start end at c : ℕ) (t new : List ℕ) → bytes ≡ source → Reaches source start end t → ReadsEscape bytes end at c → new ≡ t ++ encode_utf8 c → Reaches source start at new
 goes_on bytes source start end at c t new same r escape is = grind (arith, same, r, escape, is)
 

@@ -479,9 +479,6 @@ pub record Begins (bs : List ℕ) : Type 0 where
 begins_as : (bs : List ℕ) (c : ℕ) (cs : List ℕ) → bs ≡ c ∷ cs → is_space c ≡ false → (c ≡ 93 → ⊥) → Begins bs
 begins_as bs c cs e s b = record { c = c; cs = cs; is = e; no_space = s; no_bracket = b }
 
-digit_no_space : (d : ℕ) → d < 10 → is_space (48 + d) ≡ false
-digit_no_space d lt = rw (ne_eqb (48 + d) 32 (λ e. omega arith), ne_eqb (48 + d) 9 (λ e. omega arith), ne_eqb (48 + d) 10 (λ e. omega arith), ne_eqb (48 + d) 13 (λ e. omega arith)) refl
-
 number_begins : (n : Decimal) (bs : List ℕ) → IsNumber n bs → Begins bs
 number_begins n bs is = grind (arith, is)
 

@@ -4,7 +4,7 @@ use Rattle.std.proofs.lemmas.Bool.{cond_both, eqb-true, ltb-true, ltb-false, and
 use Rattle.decimal_json.specs.Value.{Value, null, boolean, array, object, no_items, no_members, items_of, members_of, text, has_key, is_digit, digit_of, is_mark, whole_of, Member, Frame, in_array, in_object, Purpose, for_value, for_key}
 use Rattle.decimal_json.specs.Characters.{rue, alse, ull, is_space, short_escape, is_hex, unit_of}
 use Rattle.decimal_json.specs.inside.Scan.{Spot, wanted, first_item, first_key, key_wanted, colon_wanted, ended, quoted, plain, awaited, next, stop, begin_step, opened, ended_step, close_step, literal_step, numeral, Numeral, minus, zero_first, whole, point, fraction, mark, signed, exponent, so_far, numeral_step, Quoted, escaped, unit, high, high_escaped, high_unit, Hex, no_digit, one_digit, two_digits, three_digits, quoted_step, quote_step, escape_step, more_hex, unit_step, pair_step, literal, Step, Outcome, done, fault, step, finish, finish_value, after, outcome, whole_outcome}
-use Rattle.decimal_json.specs.Grammar.{Spells, IsNumber, AreDigits, IsWhole, numerals, negative_text, fraction_text, Sign, no_sign, plus, sign_text, is_minus, Power, no_power, power, power_text, is_down, written, IsPower, Character, itself, short, alone, pair, character_text, meaning, AreHex, IsCharacter, is_first_alone, begins_with_second, AreCharacters, SpellsText}
+use Rattle.decimal_json.specs.Grammar.{Spells, AreDigits, IsWhole, numerals, negative_text, fraction_text, Sign, no_sign, plus, sign_text, Power, no_power, power, power_text, is_down, written, IsPower, Character, itself, short, alone, pair, character_text, meaning, AreHex, IsCharacter, is_first_alone, begins_with_second, AreCharacters, SpellsText}
 use Rattle.decimal_json.specs.Fronts.{InArray, InObject, BehindKey, BehindColon, IsFront, IsKeyFront, IsStringFront, LacksSecond, OpensTooDeep, RepeatsKey, LacksPartner}
 use Rattle.decimal_json.proofs.Values.{unique_more}
 use Rattle.decimal_json.proofs.Growth.{one_more, spaced_more, spaced_none, front_depth, front_items-push, items_close, front_members-push, members_close, BehindValue, InString, AreAscii, LiteralText, Stands, Good, IsOpenWhole, IsSomeDigits, NumeralText, QuotedText, hex_text, Caught, four, each_more}

@@ -7,7 +7,7 @@ use Rattle.std.specs.Str.{IsUtf8, IsCharBoundary, bytes_eq}
 use Rattle.std.proofs.lemmas.Str.{IsCharBoundary-after_ascii}
 use Rattle.decimal_json.specs.Value.{Value, text, array, object, no_items, no_members, items_of, members_of, has_key, Items, item, Members, member, is_digit, Frame, for_value, Member, in_array, in_object, for_key}
 use Rattle.decimal_json.specs.Characters.{is_space, depth_limit}
-use Rattle.decimal_json.specs.inside.Scan.{Spot, wanted, literal, awaited, quoted, plain, next, stop, Outcome, fault, step, begin_step, literal_step, quote_step, scan, finish, first_item, first_key, key_wanted, colon_wanted, ended, opened, ended_step, close_step, finish_value, done, whole_outcome, At, Json, JsonFault, Leads, FailsAt, StandsAt, IsToken, Reads, Breaks, ReadsText, BreaksText, MaySpace, FindsToken, LacksToken, PassesToken, HasKeys, AddsKey, ReadsKey, BreaksKey, ReadsValue, BreaksValue, ReadsInside, BreaksInside, ReadsMember, BreaksMember, resumed, Gives, SkipsSpace}
+use Rattle.decimal_json.specs.inside.Scan.{Spot, wanted, literal, awaited, quoted, plain, next, stop, Outcome, fault, step, begin_step, literal_step, quote_step, scan, finish, first_item, first_key, key_wanted, colon_wanted, ended, opened, ended_step, close_step, finish_value, done, whole_outcome, At, Json, JsonFault, Leads, FailsAt, StandsAt, IsToken, Reads, Breaks, ReadsText, BreaksText, MaySpace, FindsToken, LacksToken, PassesToken, HasKeys, AddsKey, ReadsKey, BreaksKey, ReadsValue, BreaksValue, ReadsInside, BreaksInside, ReadsMember, resumed, Gives, SkipsSpace}
 use Rattle.decimal_json.proofs.Exits.{passed_on, some_of, none_of}
 use Rattle.decimal_json.proofs.Moves.{moved, stopped, finished, byte_and_rest, fails_there, stepped}
 use Rattle.std.proofs.lemmas.Bool.Decides.{same_from_decides, Decides-like}
@@ -148,9 +148,6 @@ item_read : (bytes : List ℕ) (start at end room : ℕ) (vs : List Value) (v : 
     → (outer : List Frame) → length outer + (room + 1) ≡ depth_limit → scan bytes start outer first_item ≡ scan bytes end (in_array vs ∷ outer) (ended v)
 item_read bytes start at end room vs v has r outer fits = has.same outer fits ∙ r (in_array vs ∷ outer) (omega (arith, fits))
 
-pub item_breaks : (bytes : List ℕ) (start at room : ℕ) (vs : List Value) (e : JsonFault) → HasItems bytes start at room vs → BreaksValue bytes at room e → BreaksInside bytes start first_item room e
-item_breaks bytes start at room vs e has broken = λ outer fits. led e _ _ (has.same outer fits) (broken (in_array vs ∷ outer) (omega (arith, fits)))
-
 pub array_breaks : (bytes : List ℕ) (start at end room : ℕ) (vs : List Value) (v : Value) (e : JsonFault) → HasItems bytes start at room vs → ReadsValue bytes at end room v
     → LacksToken (λ c. (c ≡ 44 → ⊥) × (c ≡ 93 → ⊥)) bytes end e → BreaksInside bytes start first_item room e
 unfolding step ended_step close_step finish finish_value
@@ -246,14 +243,6 @@ members_begin bytes start at c room test found ne le keys = record {
 pub member_read : (bytes : List ℕ) (start colon end room : ℕ) (test : List ℕ → Bool) (k : List ℕ) (v : Value) → ReadsKey test bytes start colon k
     → ReadsValue bytes colon end room v → ReadsMember test bytes start end room k v
 member_read bytes start colon end room test k v key r = λ outer ms keys fits. key outer ms keys ∙ r (in_object ms k ∷ outer) (omega (arith, fits))
-
-pub no_member_value : (bytes : List ℕ) (start colon room : ℕ) (test : List ℕ → Bool) (k : List ℕ) (e : JsonFault) → ReadsKey test bytes start colon k
-    → BreaksValue bytes colon room e → BreaksMember test bytes start room e
-no_member_value bytes start colon room test k e key broken = grind (arith, key, broken)
-
-pub member_breaks : (bytes : List ℕ) (start at room : ℕ) (ms : List Member) (test : List ℕ → Bool) (e : JsonFault) → HasMembers bytes start at room ms test
-    → BreaksMember test bytes at room e → BreaksInside bytes start first_key room e
-member_breaks bytes start at room ms test e has broken = λ outer fits. led e _ _ (has.same outer fits) (broken outer ms has.keys fits)
 
 -- an object, up to where a member ends
 member_added : (bytes : List ℕ) (start at end room : ℕ) (ms : List Member) (test : List ℕ → Bool) (k : List ℕ) (v : Value) → HasMembers bytes start at room ms test

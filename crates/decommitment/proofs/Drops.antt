@@ -9,7 +9,6 @@ use Rattle.schedule_check.specs.Accepted.{IsAccepted}
 use Rattle.schedule_check.specs.WholeWatts.{HasPrice}
 use Rattle.schedule_check.proofs.Priced.{priced}
 use Rattle.dispatch_repair.specs.Dispatch.{HasPeriods}
-use Rattle.dispatch_repair.specs.MostOn.{AreMostOn}
 use Rattle.dispatch_repair.specs.Rooms.{IsObstacleOf}
 use Rattle.dispatch_repair.specs.Stuck.{IsDispatchOf}
 use Rattle.dispatch_repair.proofs.Obeying.{obeying}
@@ -24,9 +23,6 @@ use Rattle.decommitment.specs.declared.stand.Trial.TheVariants as trial
 use Rattle.decommitment.specs.inside.Turns.{Stand, Trial, AreAllowed, beats, ending_of_stand, ending_of_trial, IsReplaced, KeepsStuck}
 
 -- ---- allowed patterns
-pub allowed_most : (instance : Instance) (patterns : List Pattern) → AreMostOn instance patterns → AreAllowed instance patterns
-allowed_most instance patterns are g h = (are.each g h).most.allowed
-
 pub allowed_set : (instance : Instance) (patterns : List Pattern) (g : ℕ) (fewest : Pattern) → length patterns ≡ thermal_count instance
     → AreAllowed instance patterns → IsFewestOnOf instance g fewest → AreAllowed instance (set patterns g fewest)
 allowed_set instance patterns g fewest count are few h within = elim (cases_eq h g) [

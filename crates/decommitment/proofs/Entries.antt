@@ -17,7 +17,7 @@ use Rattle.dispatch_repair.proofs.CurveSegments.{renewable_at, thermal_at}
 use Rattle.dispatch_repair.proofs.Merit.{good_renewable}
 use Rattle.dispatch_repair.proofs.Places.{thermal_ends}
 use Rattle.dispatch_repair.proofs.Reaches.{heads_are, ranges_are, ranges_in}
-use Rattle.decommitment.specs.inside.Fills.{AreEntered, Base, Fill, HasSizes, Hour, IsAlike, IsBaseOf, IsBegun, IsEntered, IsHourOf, IsReady, Part, System, base_parts, base_period, exchanged_totals, hour_period, no_part, part_at, unit_part, AreGiven, IsSizedAmount, IsBegunTo, no_given, no_totals}
+use Rattle.decommitment.specs.inside.Fills.{AreEntered, Base, Fill, HasSizes, Hour, IsAlike, IsBaseOf, IsBegun, IsEntered, IsHourOf, IsReady, Part, System, base_parts, base_period, exchanged_totals, hour_period, no_part, part_at, unit_part, AreGiven, IsSizedAmount, IsBegunTo, no_given}
 use Rattle.decommitment.specs.inside.Levels.{AreAtLevel, IsAtLevel, IsLeastAt}
 use Rattle.decommitment.proofs.Givens.{exchanged_sum}
 use Rattle.dispatch_repair.proofs.Filled.{max_left}
@@ -236,12 +236,6 @@ pub begun_more : (period : Period) (w : ℕ) (sums next range : Range) (before a
     → after.level ≡ before.level → after.totals ≡ before.totals → IsBegunTo period (suc w) next after
 begun_more period w sums next range before after h was low high low_sized high_sized low_sum high_sum amounts given level totals =
     grind (arith, ints, get_or-set_other, get_or-set_same, below_or_last, sum_wider, h, was, low_sized, high_sized, low_sum, high_sum)
-
--- the sums over all renewable units
-pub begun_all : (period : Period) (sums : Range) (fill after : Fill) → renewable_count period.instance ≤ MAX_UNITS
-    → IsBegunTo period (renewable_count period.instance) sums fill → after.amounts ≡ fill.amounts → after.given ≡ fill.given → after.level ≡ fill.level
-    → after.totals ≡ record no_totals { renewable_low = sums.low; renewable_high = sums.high } → IsBegun period after
-begun_all period sums fill after few was amounts given level totals = grind (arith, ints, few, was)
 
 -- ---- from a commitment that differs in one unit
 module _ (system : System) (hour : Hour) (base : Base) (of : IsHourOf system hour) (from : IsBaseOf system hour base) where

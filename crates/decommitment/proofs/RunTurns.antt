@@ -8,34 +8,24 @@ use Rattle.uc_model.specs.Prelude.{quotient_up, IsLawfulInstance, printed_cell_c
 use Rattle.uc_model.specs.declared.limits.TheConstants.{COST_MAX}
 use Rattle.uc_model.proofs.Sizes.{wide}
 use Rattle.dispatch_repair.specs.declared.segment.Segment.{Segment}
-use Rattle.dispatch_repair.specs.MostOn.{AreMostOn}
 use Rattle.dispatch_repair.specs.Rooms.{IsRoomOf}
-use Rattle.dispatch_repair.specs.Stuck.{Stuck, IsDispatchOf, IsStuckOf}
+use Rattle.dispatch_repair.specs.Stuck.{Stuck, IsDispatchOf}
 use Rattle.decommitment.specs.DropCommitment.{Instance, Pattern, Printed, Ending, Dispatched, StuckIn, IsDropPass, IsEndingOf, IsStuckIn, is_better}
 use Rattle.dispatch_repair.specs.OneDispatch.{AreSame}
 use Rattle.decommitment.specs.Standings.{IsDropped}
 use Rattle.decommitment.specs.declared.pass.Standing.TheVariants as standing
 use Rattle.decommitment.specs.declared.stand.Stand.TheVariants as stand
 use Rattle.decommitment.specs.declared.stand.Trial.TheVariants as trial
-use Rattle.decommitment.specs.inside.Runs.{Fill, Pass, Run, Stand, Trial, Turn, IsRun, IsRunPass, IsStandOf, IsTrialOf, IsTriedRun, IsStoodAt}
+use Rattle.decommitment.specs.inside.Runs.{Fill, Pass, Run, Stand, Trial, Turn, IsRun, IsRunPass, IsStandOf, IsTrialOf, IsTriedRun}
 use Rattle.decommitment.specs.inside.Turns.{AreAllowed, IsReplaced, KeepsStuck, beats, ending_of_stand, ending_of_trial}
 use Rattle.decommitment.proofs.Drops.{accepted, beats_is, ending_is, passed_turn, replaced_end, replaced_kept}
 use Rattle.dispatch_repair.proofs.OneDispatch.{one_dispatch}
 
 -- ---- the beginning
--- a run of no period is any commitment's
-pub no_run_is : (instance : Instance) (order : List Segment) (patterns : List Pattern) (start : List ℤ) (run : Run) → IsLawfulInstance instance
-    → run.fills.items ≡ [] → run.edge ≡ None → length run.costs.items ≡ thermal_count instance → IsRoomOf instance run.room
-    → IsRun instance order patterns start run
-no_run_is instance order patterns start run lawful none bare count room = grind (arith, lawful, none, bare, count)
-
 -- and it has no fill
 abbrev is_none : Option Fill → Type 0
 is_none None = Unit {0}
 is_none (Some fill) = ⊥
-
-pub nothing_stood : (run : Run) (t : ℕ) (fill : Fill) → run.fills.items ≡ [] → run.edge ≡ None → ¬ IsStoodAt run t fill
-nothing_stood run t fill none bare at = ⊎_elim (λ inside. absurd (omega (arith, inside.0, ap length none))) (λ behind. subst is_none (sym bare ∙ behind.1) tt) at
 
 -- the most-on commitment stands as it was dispatched or is stuck
 pub stand_dispatched : (instance : Instance) (patterns : List Pattern) (tried : Trial) (cost : ℤ) → IsLawfulInstance instance → IsTrialOf instance patterns tried
@@ -52,10 +42,6 @@ stand_dispatched instance patterns tried cost lawful is same =
 pub trial_stuck : (instance : Instance) (patterns : List Pattern) (tried : Trial) (period : ℕ) → IsTrialOf instance patterns tried → tried ≡ trial.Stuck period
     → IsStuckIn instance patterns period
 trial_stuck instance patterns tried period is same = subst (λ t. IsEndingOf instance patterns (ending_of_trial is.printed t)) same is.ending
-
-pub stand_stuck : (instance : Instance) (patterns : List Pattern) (tried : Trial) (period : ℕ) (most_on : Stuck) → IsTrialOf instance patterns tried
-    → tried ≡ trial.Stuck period → AreMostOn instance patterns → IsStuckOf instance patterns most_on → IsStandOf instance patterns (stand.Stuck period most_on)
-stand_stuck instance patterns tried period most_on is same most stuck = grind (arith, is, same, most, stuck)
 
 -- ---- a turn
 module _ (instance : Instance) (order : List Segment) (start : List ℤ) (turn : Turn) (pass after : Pass) (it : IsTriedRun instance order start turn pass) where

@@ -1,5 +1,5 @@
 -- The run of a commitment is the beginning of its dispatch.
-use Rattle.std.proofs.Common.{◌≡◌, ⊎_elim, ℕ, zero, suc, ◌+◌, ◌<◌, ◌≤◌, inl, inr, refl, sym, ap, subst, ◌∙◌, arith, List, [], ◌∷◌, ◌++◌, length, get_or, ℤ}
+use Rattle.std.proofs.Common.{◌≡◌, ℕ, zero, suc, ◌+◌, ◌<◌, ◌≤◌, inl, inr, refl, sym, ap, subst, ◌∙◌, arith, List, [], ◌∷◌, ◌++◌, length, get_or, ℤ}
 use Rattle.std.proofs.lemmas.List.{get_or-map, get_or_append_left, get_or_push, length_push}
 use Rattle.uc_model.specs.Prelude.{IsLawfulInstance, cell_at, shed_at, short_at, thermal_count, thermal_unit}
 use Rattle.uc_model.specs.declared.schedule.Cell.{Cell}
@@ -12,8 +12,8 @@ use Rattle.dispatch_repair.proofs.Periods.{dispatch_through, initial_size, obsta
 use Rattle.dispatch_repair.proofs.Reaches.{heads_are, heads_in}
 use Rattle.dispatch_repair.proofs.Regular.{regular}
 use Rattle.decommitment.specs.DropCommitment.{Instance, Pattern}
-use Rattle.decommitment.specs.inside.Fills.{HasEntered, IsFill}
-use Rattle.decommitment.specs.inside.Runs.{Fill, Run, IsRun, IsStoodAt, AreDispatched, AreFills, AreInitial, AreSized, IsBarred, IsTrialOf, lack_at, outputs_at, outputs_before}
+use Rattle.decommitment.specs.inside.Fills.{IsFill}
+use Rattle.decommitment.specs.inside.Runs.{Fill, AreDispatched, AreFills, AreInitial, AreSized, IsBarred, IsTrialOf, lack_at, outputs_at, outputs_before}
 use Rattle.decommitment.specs.inside.Turns.{AreAllowed}
 use Rattle.decommitment.specs.declared.stand.Trial.TheVariants as trial
 use Rattle.decommitment.proofs.Drops.{stuck_in}
@@ -63,14 +63,6 @@ module _ (start : List ℤ) (fills : List Fill) (fill : Fill) where
           (subst (IsFill instance order patterns (length fills) (outputs_before start longer (length fills))) (sym same) moved)
     ];
   }
-
--- a run's fill, which all units entered
-pub stood_entered : (instance : Instance) (order : List Segment) (patterns : List Pattern) (start : List ℤ) (run : Run) (t : ℕ) (fill : Fill)
-    → IsRun instance order patterns start run → IsStoodAt run t fill → HasEntered instance order patterns t (outputs_before start run.fills.items t) fill
-stood_entered instance order patterns start run t fill of at = grind (arith, of, at)
-
-pub stood_within : (run : Run) (t : ℕ) (fill : Fill) → IsStoodAt run t fill → t ≤ length run.fills.items
-stood_within run t fill at = ⊎_elim (λ inside. omega (arith, inside.0)) (λ behind. omega (arith, behind.0)) at
 
 -- ---- the periods of a schedule
 module _ (instance : Instance) (order : List Segment) (patterns : List Pattern) (start : List ℤ) (fills : List Fill) (lawful : IsLawfulInstance instance)

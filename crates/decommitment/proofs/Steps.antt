@@ -111,7 +111,3 @@ module _ (period : Period) (order : List Segment) (old set : Fill) (level : ℕ)
 -- ---- walks
 pub walked_none : (period : Period) (order : List Segment) (fill : Fill) → IsStanding period order fill → IsWalked period order fill fill
 walked_none period order fill standing = record { standing = standing; totals = refl; shortage = refl }
-
-pub walked_more : (period : Period) (order : List Segment) (before middle after : Fill) → IsWalked period order before middle
-    → IsWalked period order middle after → IsWalked period order before after
-walked_more period order before middle after first second = grind (arith, ints, first, second)

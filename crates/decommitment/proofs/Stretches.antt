@@ -19,8 +19,3 @@ pub kept_more : (renewables : ℕ) (first second : List ℤ) (from g : ℕ) (old
     → HaveKept renewables first second from (g + 1) old (set middle g mark)
 kept_more renewables first second from g old middle mark inside was had is =
     grind (arith, length-set, cases_eq, get_or-set_same, get_or-set_other, inside, was, had, is)
-
--- a stretch more
-pub kept_farther : (renewables : ℕ) (first second : List ℤ) (from to : ℕ) (old middle new : List Bool) → HaveKept renewables first second 0 from old middle
-    → HaveKept renewables first second from to middle new → HaveKept renewables first second 0 to old new
-kept_farther renewables first second from to old middle new was more = grind (arith, was, more)

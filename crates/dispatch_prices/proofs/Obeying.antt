@@ -5,7 +5,7 @@ use Rattle.std.specs.Int.{int_max}
 use Rattle.std.specs.Ordering.{int_eq}
 use Rattle.std.proofs.lemmas.Int.{ints, clamps}
 use Rattle.std.proofs.lemmas.Bool.{and_parts, and_from, ltb-true, or_left, or_right, cases_Bool, cond-true, cond-false}
-use Rattle.uc_model.specs.Prelude.{sum_below, bit, output_of, Commitment, starts, start_cap, stop_cap, initial_p, must_run_at, initial_up_at, initial_down_at, minimum_up_at, minimum_down_at, is_allowed, is_allowed_at, thermal_unit, thermal_count, renewable_count, renewable_maximum, demand_at, reserve_at, Obeys, cell_at, shed_at, short_at, IsLawfulInstance}
+use Rattle.uc_model.specs.Prelude.{sum_below, bit, output_of, Commitment, starts, start_cap, stop_cap, initial_p, must_run_at, initial_up_at, initial_down_at, minimum_up_at, minimum_down_at, is_allowed, is_allowed_at, thermal_unit, thermal_count, renewable_count, renewable_maximum, demand_at, reserve_at, cell_at, shed_at, short_at, IsLawfulInstance}
 use Rattle.uc_model.specs.Rules as model
 use Rattle.uc_model.proofs.Common.{linear, mul_nonneg, pos_nonneg, sum_below-le, sum_below-mul_left, sum_below_nonneg, le-int_le, eq-int_eq, all_below-at}
 use Rattle.cost_curves.proofs.HullValues.{whole_width}

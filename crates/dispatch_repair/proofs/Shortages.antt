@@ -21,14 +21,6 @@ use Rattle.dispatch_repair.proofs.Filled.{filled_period, max_left, max_right}
 use Rattle.dispatch_repair.proofs.Merit.{IsFilledUp, first_need, first_room, good_renewable, high-le-head, in_merit_order, width_size}
 
 -- ---- what demand and need have no part in
-low_same : (period : Period) (shed short : ℤ) (s : Source) → low_of (served period shed short) s ≡ low_of period s
-low_same period shed short (FromRenewable w) = refl
-low_same period shed short (FromThermal g) = refl
-
-high_same : (period : Period) (shed short : ℤ) (s : Source) → high_of (served period shed short) s ≡ high_of period s
-high_same period shed short (FromRenewable w) = refl
-high_same period shed short (FromThermal g) = refl
-
 pub ranges_served : (period : Period) (shed short : ℤ) (ranges : List Range) → AreRangesOf period ranges → AreRangesOf (served period shed short) ranges
 ranges_served period shed short ranges are = grind (arith, ints, are)
 

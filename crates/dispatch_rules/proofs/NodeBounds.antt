@@ -6,7 +6,7 @@ use Rattle.std.proofs.lemmas.Int.{ints}
 use Rattle.std.proofs.lemmas.Bool.{cases_Bool, cond-true, cond-false, cond_both, cases_lt}
 use Rattle.uc_model.specs.Prelude.{sum_below, Demand, Reserve, RenewableRange, ShedRange, ShortRange, RampUp, RampDown, starts, cap, initial_p, last_stop, sigma, thermal_unit, thermal_count, renewable_count, renewable_maximum, most_shed, most_short, demand_at, reserve_at, IsLawfulInstance}
 use Rattle.uc_model.proofs.Common.{linear, mul-one, mul-neg, neg-mul, mul_assoc, mul_comm, mul-zero, mul-sub, mul-le-mul_right, mul_nonneg, sum_below-same, sum_below-le, sum_below-add}
-use Rattle.dual_model.specs.Prelude.{IsCellBound, IsTerm, IsTermAt, pi_at, mu_at, up_at, down_at, period_value, IsUnitValue, shortage_value, needs_value, renewable_value, constant_at, unit_part, IsNodeValue}
+use Rattle.dual_model.specs.Prelude.{IsCellBound, pi_at, mu_at, up_at, down_at, period_value, IsUnitValue, shortage_value, needs_value, renewable_value, constant_at, unit_part, IsNodeValue}
 use Rattle.dual_model.specs.Term as term
 use Rattle.dual_model.specs.declared.table.Table.{Table}
 use Rattle.dual_model.specs.declared.node.Node.{Node}

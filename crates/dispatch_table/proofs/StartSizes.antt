@@ -1,8 +1,8 @@
 -- The sizes of a start's table, as a run on it wants them.
 -- Cite from a crate above by `use Rattle.dispatch_table.proofs.StartSizes.{rows_follow, free_is_within}`.
-use Rattle.std.proofs.Common.{◌≡◌, ◌+◌, ◌≤◌, arith, sym, subst, length}
+use Rattle.std.proofs.Common.{◌≡◌, ◌+◌, sym, subst, length}
 use Rattle.pivot_run.specs.Tables.{Table}
-use Rattle.dispatch_program.specs.Programs.{Program, free_columns, start_table}
+use Rattle.dispatch_program.specs.Programs.{Program, start_table}
 use Rattle.dispatch_program.proofs.Starts.{rows_long}
 use Rattle.dispatch_rules.specs.Prelude.{Task, program}
 use Rattle.dispatch_table.specs.Start.{Start, IsStartOf}
@@ -11,12 +11,5 @@ use Rattle.dispatch_table.specs.Start.{Start, IsStartOf}
 rows_after : (p : Program) → length (start_table p).rows ≡ (start_table p).constraints + 2
 rows_after p = rows_long p
 
-free_within : (p : Program) → free_columns p ≤ (start_table p).columns
-free_within p = omega arith
-
 pub rows_follow : (task : Task) (s : Start) → IsStartOf task s → length s.table.rows ≡ s.table.constraints + 2
 rows_follow task s is = subst (λ (t : Table). length t.rows ≡ t.constraints + 2) (sym is.table) (rows_after (program task))
-
-pub free_is_within : (task : Task) (s : Start) → IsStartOf task s → s.free ≤ s.table.columns
-free_is_within task s is =
-    subst (λ n. n ≤ s.table.columns) (sym is.free) (subst (λ (t : Table). free_columns (program task) ≤ t.columns) (sym is.table) (free_within (program task)))

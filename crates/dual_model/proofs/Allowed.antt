@@ -7,7 +7,6 @@ use Rattle.uc_model.proofs.Common.{linear, int_le-true, le-int_le, all_below-at,
 use Rattle.dual_model.specs.UnitTerms.{Terms, Thermal, AreSizedTerms, IsSized}
 use Rattle.dual_model.specs.PatternValue.{IsPattern, is_followed}
 use Rattle.dual_model.specs.Moves.{Fix, holds_initially, initial_limit, hour_cost}
-use Rattle.dual_model.specs.CostToGo.{since_after}
 use Rattle.dual_model.proofs.Switches.{since}
 use Rattle.dual_model.proofs.Lasting.{enters, leaves, LeavesInTime, window-from_lasting, initial-from_lasting, lasting-from_windows}
 use Rattle.dual_model.proofs.CellCaps.{cell_cap-cap}
@@ -101,12 +100,6 @@ enters-off unit on t = (λ i. not (before-off unit on t i) && not (on t)) ∙ (�
 
 leaves-off : (unit : Thermal) (on : Commitment) (t : ℕ) → leaves (not unit.on0) (off_state on) t ≡ starts unit on t
 leaves-off unit on t = λ i. before-off unit on t i && not-not (on t) i
-
-since_after-off : (was : Bool) (from : ℕ) (now : Bool) (t : ℕ) → since_after (not was) from (not now) t ≡ since_after was from now t
-since_after-off true from true t = refl
-since_after-off true from false t = refl
-since_after-off false from true t = refl
-since_after-off false from false t = refl
 
 since-off : (unit : Thermal) (on : Commitment) (t : ℕ) → since (not unit.on0) (off_state on) t ≡ since unit.on0 on t
 since-off unit on zero = refl

@@ -14,10 +14,6 @@ pub total-zero : (a : Option ℤ) → total_of (Some (pos 0)) a ≡ a
 total-zero None = refl
 total-zero (Some a) = ap Some (let e : pos 0 +ℤ a ≡ a = omega (arith, linear) in e)
 
-pub zero-total : (a : Option ℤ) → total_of a (Some (pos 0)) ≡ a
-zero-total None = refl
-zero-total (Some a) = ap Some (let e : a +ℤ pos 0 ≡ a = omega (arith, linear) in e)
-
 pub total-assoc : (a b c : Option ℤ) → total_of (total_of a b) c ≡ total_of a (total_of b c)
 total-assoc (Some a) (Some b) (Some c) = ap Some (let e : (a +ℤ b) +ℤ c ≡ a +ℤ (b +ℤ c) = omega (arith, linear) in e)
 total-assoc _ _ _ = refl

@@ -2,7 +2,7 @@
 -- times what the unit costs by least starts, less what its output and reserve are paid.
 use Rattle.std.proofs.Common.{◌≡◌, ℕ, zero, suc, ◌-◌, ◌<◌, ◌⊎◌, Bool, true, false, cond, refl, sym, ap, subst, ◌∙◌, arith, ⊎_elim, ℤ, pos, ◌+ℤ◌, ◌-ℤ◌, ◌*ℤ◌, ◌≤ℤ◌, IsTrue, unsigned_abs}
 use Rattle.std.specs.Int.{int_max}
-use Rattle.std.proofs.lemmas.Int.{ints, clamps}
+use Rattle.std.proofs.lemmas.Int.{ints}
 use Rattle.std.proofs.lemmas.Bool.{cases_Bool, cond-true, cond-false}
 use Rattle.uc_model.specs.Prelude.{sum_below, bit, starts, start_cap, stop_cap, last_stop, sigma, Row, Schedule, thermal_unit, thermal_count, point_count, p_at, p_before, weight_sum, output_of, production_cost, Production, StartCap, StopCap, RampUp, RampDown, Obeys, stop_cap_at, thermal_output, IsLawfulThermal}
 use Rattle.uc_model.proofs.Common.{linear, mul-le-mul_right, mul_nonneg, mul_comm, mul-one, mul-zero, mul-add, pos_nonneg, sum_below-le, sum_below-sub, sum_below-mul_left, int_le-true, abs_is, rule_at, Produces, production_parts, point_p_nonneg, p_at_nonneg, Rises, outputs_rise}
@@ -180,9 +180,6 @@ module _ (instance : Instance) (q : ℕ) (x : Schedule) (g : ℕ) (obeys : Obeys
       omega (arith, linear, below, bound)
 
 -- ---- the node
-max_is : (a b : ℤ) → (int_max a b ≡ a) ⊎ (int_max a b ≡ b)
-max_is a b = grind (arith, ints, clamps)
-
 greater_bound : (q a b c : ℤ) → (q *ℤ a) ≤ℤ c → (q *ℤ b) ≤ℤ c → (q *ℤ int_max a b) ≤ℤ c
 greater_bound q a b c h k = grind (arith, ints, h, k)
 

@@ -5,7 +5,7 @@ use Rattle.std.specs.Int.{int_max}
 use Rattle.std.proofs.lemmas.Int.{ints, clamps}
 use Rattle.std.proofs.lemmas.Nat.{div-mul-add, mod-mul-add}
 use Rattle.std.proofs.lemmas.Bool.{cases_Bool, true≢false, and_parts, and_from, cond-true, cond-false, lt-ltb, ltb-true}
-use Rattle.uc_model.specs.Prelude.{bit, Commitment, starts, start_cap, stop_cap, start_reduction, thermal_unit, thermal_count, IsLawfulThermal, IsLawfulInstance}
+use Rattle.uc_model.specs.Prelude.{bit, starts, start_cap, stop_cap, start_reduction, thermal_unit, thermal_count, IsLawfulThermal, IsLawfulInstance}
 use Rattle.uc_model.proofs.Common.{linear, one-mul, sum_below-same, abs_is}
 use Rattle.dual_model.specs.Prices.{pi_at, mu_at}
 use Rattle.dual_model.specs.Fixings.{HasEmptyUnit}
@@ -116,19 +116,6 @@ record IsSame (last periods : ℕ) (x y : UnitSchedule) : Type 0 where
   on : SameBelow last x.on y.on
   p : (t : ℕ) → t < periods → x.p t ≡ y.p t
   r : (t : ℕ) → t < periods → x.r t ≡ y.r t
-
-start_cap-same : (n : ℕ) (unit : Thermal) (on other : Commitment) → SameBelow n on other → (t : ℕ) → t < n
-    → start_cap unit on t ≡ start_cap unit other t
-start_cap-same n unit on other h t l = grind (arith, ints, h, l)
-
-stop_cap-same : (n : ℕ) (unit : Thermal) (on other : Commitment) → SameBelow n on other → (t : ℕ) → suc t < n
-    → stop_cap unit on t ≡ stop_cap unit other t
-stop_cap-same n unit on other h t l = grind (arith, ints, h, l)
-
-before-same : (periods q : ℕ) (unit : Thermal) (x y : UnitSchedule) → ((t : ℕ) → t < periods → x.p t ≡ y.p t) → (t : ℕ) → t < periods
-    → output_before q unit x t ≡ output_before q unit y t
-before-same periods q unit x y h zero l = refl
-before-same periods q unit x y h (suc t) l = ap pos (h t (omega (arith, l)))
 
 at-same : (periods q : ℕ) (unit : Thermal) (x y : UnitSchedule) → IsSame periods periods x y → (t : ℕ) → t < periods
     → IsUnitScheduleAt periods q unit x t → IsUnitScheduleAt periods q unit y t

@@ -26,11 +26,6 @@ pub may-enter_off : (unit : Thermal) (fix : Fix) (costs : MoveCosts) (t since : 
 may-enter_off unit fix costs t since v e = grind (arith, e)
 
 -- ---- one period more
-by-case : (choices : Choices) (t : ℕ) (start stop : Option Choice) (on : Bool) → choices t true ≡ start → choices t false ≡ stop
-    → (if on then start else stop) ≡ choices t on
-by-case choices t start stop true a b = sym a
-by-case choices t start stop false a b = sym b
-
 pub stretch-kept : (choices : Choices) (end t until : ℕ) (on : Bool) → t ≢ until
     → record { on = on; until = until } ≡ stretch_behind choices end t (record { on = on; until = until })
 stretch-kept choices end t until on h = sym (cond-false (t == until) _ _ (ne_eqb t until h))

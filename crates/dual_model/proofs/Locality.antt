@@ -1,7 +1,7 @@
 -- A unit's rules and costs depend on its commitment in the periods of the instance alone.
 use Rattle.std.proofs.Common.{◌≡◌, ℕ, zero, suc, ◌-◌, ◌<◌, ◌≤◌, Bool, true, false, not, ◌&&◌, ◌||◌, cond, refl, ap, arith, List, [], ◌∷◌, pos, nat_lt, int_le, min, max, ◌==◌, ltb-false}
 use Rattle.std.specs.List.{list_all}
-use Rattle.uc_model.specs.Prelude.{all_below, any_below, Commitment, was_on, starts, stops, keeps_minimum_at, cap, is_allowed_at, is_allowed, initial_stop_holds, last_stop, sigma, is_category_allowed}
+use Rattle.uc_model.specs.Prelude.{all_below, Commitment, was_on, starts, stops, keeps_minimum_at, cap, is_allowed_at, is_allowed, initial_stop_holds, last_stop, sigma, is_category_allowed}
 use Rattle.uc_model.specs.declared.instance.Thermal.{Thermal}
 use Rattle.uc_model.proofs.Common.{sum_below-same}
 use Rattle.dual_model.specs.Fixings.{Fixing, keeps, keeps_of}
@@ -10,10 +10,6 @@ use Rattle.dual_model.specs.Fixings.{Fixing, keeps, keeps_of}
 pub record SameBelow (n : ℕ) (first second : Commitment) : Type 0 where
   pub same : (t : ℕ) → t < n → first t ≡ second t
 
-cond_same : {A : Type 0} (b : Bool) (x x' y y' : A) → (b ≡ true → x ≡ x') → (b ≡ false → y ≡ y') → cond b x y ≡ cond b x' y'
-cond_same true x x' y y' h k = h refl
-cond_same false x x' y y' h k = k refl
-
 or_same : (b x y : Bool) → (b ≡ false → x ≡ y) → (b || x) ≡ (b || y)
 or_same true x y h = refl
 or_same false x y h = h refl
@@ -21,10 +17,6 @@ or_same false x y h = h refl
 pub all_below-same : (n : ℕ) (f g : ℕ → Bool) → ((k : ℕ) → k < n → f k ≡ g k) → all_below n f ≡ all_below n g
 all_below-same zero f g e = refl
 all_below-same (suc n) f g e = λ i. e n (omega arith) i && all_below-same n f g (λ k h. e k (omega arith)) i
-
-any_below-same : (n : ℕ) (f g : ℕ → Bool) → ((k : ℕ) → k < n → f k ≡ g k) → any_below n f ≡ any_below n g
-any_below-same zero f g e = refl
-any_below-same (suc n) f g e = λ i. e n (omega arith) i || any_below-same n f g (λ k h. e k (omega arith)) i
 
 was_on-same : (n : ℕ) (unit : Thermal) (on other : Commitment) → SameBelow n on other → (t : ℕ) → t ≤ n
     → was_on unit on t ≡ was_on unit other t

@@ -1,9 +1,9 @@
 -- Rays of demand and reserve that name no ramp, where both may be missing at a price: their values are at most 0, since a
 -- unit that gives nothing above its minimum costs nothing at the scale 0, and what is needed may be missing.
-use Rattle.std.proofs.Common.{◌≡◌, ◌≢◌, ℕ, zero, suc, ◌/◌, ◌<◌, Bool, true, false, refl, sym, ap, subst, ◌∙◌, arith, length, if◌then◌else◌, List, ℤ, pos, neg_ℤ, ◌+ℤ◌, ◌-ℤ◌, ◌*ℤ◌, ◌≤ℤ◌, IsTrue, slice_index_or, Option, Some, None}
+use Rattle.std.proofs.Common.{◌≡◌, ◌≢◌, ℕ, zero, suc, ◌/◌, ◌<◌, Bool, true, false, refl, sym, ap, subst, ◌∙◌, arith, length, List, ℤ, pos, neg_ℤ, ◌+ℤ◌, ◌-ℤ◌, ◌*ℤ◌, ◌≤ℤ◌, IsTrue, Option, Some, None}
 use Rattle.std.specs.Int.{int_max}
 use Rattle.std.proofs.lemmas.Int.{ints, clamps}
-use Rattle.uc_model.specs.Prelude.{sum_below, bit, Segment, segment_at, hull_cost, initial_p, thermal_unit, thermal_count, renewable_count, demand_at, reserve_at, IsLawfulInstance}
+use Rattle.uc_model.specs.Prelude.{sum_below, Segment, segment_at, hull_cost, initial_p, thermal_unit, thermal_count, renewable_count, demand_at, reserve_at, IsLawfulInstance}
 use Rattle.uc_model.proofs.Common.{linear, mul-zero, zero-mul, mul-one, one-mul, mul_nonneg, le_from_mul, pos_nonneg, sum_below-le, sum_below-zero, sum_below-single}
 use Rattle.dual_model.specs.Prices.{Instance, Table, pi_at, mu_at, up_at, down_at}
 use Rattle.dual_model.specs.Term.{Point, output_of, weighted_total, weighted_output, weighted_cost, IsTerm}
@@ -12,7 +12,7 @@ use Rattle.dual_model.specs.UnitValue.{Thermal, period_value, IsUnitValue}
 use Rattle.dual_model.specs.NodeValue.{shortage_value, shortages_value, unit_part, renewable_value, renewable_part}
 use Rattle.dual_model.specs.ExactValue.{UnitSchedule, floored_slope, slope_from, floored_cost, exact_period_value, IsExactUnitValue, exact_part, parts_total}
 use Rattle.dual_model.specs.ValueKind.{IsValueOf}
-use Rattle.dual_model.specs.Opening.{IsShortageRay, HasRayNumbers, ray_at, period_rays, no_ray}
+use Rattle.dual_model.specs.Opening.{IsShortageRay, HasRayNumbers}
 use Rattle.dual_model.specs.Laws.{ShortageRaysExcludeNothing}
 
 -- a sum of numbers of at most 0
@@ -178,24 +178,6 @@ record IsNeedRay (demand reserve : ℤ) (up down : Thermal → Bool) : Type 0 wh
   holds : pos 0 ≤ℤ reserve
   no_up : (unit : Thermal) → up unit ≡ false
   no_down : (unit : Thermal) → down unit ≡ false
-
-need_ray : (i : ℕ) → i ≢ 1 → (let ray = slice_index_or period_rays i no_ray in IsNeedRay ray.demand ray.reserve ray.up ray.down)
-need_ray zero other = record { wants = omega (arith, linear); holds = omega (arith, linear); no_up = λ u. refl; no_down = λ u. refl }
-need_ray (suc zero) other = absurd (other refl)
-need_ray (suc (suc zero)) other = record { wants = omega (arith, linear); holds = omega (arith, linear); no_up = λ u. refl; no_down = λ u. refl }
-need_ray (suc (suc (suc zero))) other = record { wants = omega (arith, linear); holds = omega (arith, linear); no_up = λ u. refl; no_down = λ u. refl }
-need_ray (suc (suc (suc (suc i)))) other = record { wants = omega (arith, linear); holds = omega (arith, linear); no_up = λ u. refl; no_down = λ u. refl }
-
-at_ray : (periods n : ℕ) → IsShortageRay periods n → (let ray = ray_at periods n in IsNeedRay ray.demand ray.reserve ray.up ray.down)
-at_ray periods n is_ray = grind (arith, ints, is_ray)
-
-one_or_nought : (b : Bool) (z price : ℤ) → pos 0 ≤ℤ z → price ≡ (if b then z else pos 0) → pos 0 ≤ℤ price
-one_or_nought true z price sign e = omega (arith, linear)
-one_or_nought false z price sign e = omega (arith, linear)
-
-no_multiplier_at : (b named : Bool) (n : ℤ) → named ≡ false → n ≡ (if b then bit named else pos 0) → n ≡ pos 0
-no_multiplier_at true named n none e = e ∙ ap bit none
-no_multiplier_at false named n none e = e
 
 asks_of : (instance : Instance) (n : ℕ) (table : Table) → IsShortageRay instance.periods n → HasRayNumbers instance n table
     → AsksForNeeds instance table

@@ -1,12 +1,12 @@
 -- The unit of the examples that can't ramp down from 20 MW to 10, for an hour: it is on, at 15 MW or more, and L on its
 -- points has one slope. At a unit of 40 MW in watts L is never summed up.
-use Rattle.std.proofs.Common.{◌≡◌, ℕ, zero, suc, ◌*◌, ◌/◌, ◌<◌, ◌≤◌, ◌⊎◌, true, cond, refl, sym, ap, subst, ◌∙◌, arith, List, length, ℤ, pos, ◌+ℤ◌, ◌-ℤ◌, ◌*ℤ◌, neg_ℤ, ◌≤ℤ◌, Some}
+use Rattle.std.proofs.Common.{◌≡◌, ℕ, zero, suc, ◌*◌, ◌/◌, ◌<◌, ◌≤◌, true, cond, refl, sym, ap, subst, ◌∙◌, arith, List, length, ℤ, pos, ◌+ℤ◌, ◌-ℤ◌, ◌*ℤ◌, neg_ℤ, ◌≤ℤ◌, Some}
 use Rattle.std.proofs.lemmas.Nat.{div_below}
 use Rattle.uc_model.specs.Prelude.{point_of, Segment, hull_cost}
 use Rattle.uc_model.specs.Examples.{mw}
-use Rattle.uc_model.proofs.Common.{linear, zero-mul, one-mul, neg-mul, sum_below-same, sum_below-const, Rises, Steps}
+use Rattle.uc_model.proofs.Common.{linear, zero-mul, one-mul, neg-mul, sum_below-same, sum_below-const, Rises}
 use Rattle.dual_model.specs.Prices.{pi_at, mu_at}
-use Rattle.dual_model.specs.ExactValue.{Point, Instance, Table, UnitSchedule, floored_slope, slope_from, floored_cost, IsUnitScheduleAt, IsUnitSchedule, exact_cell_value, exact_period_value, unit_schedule_value, IsExactUnitValue}
+use Rattle.dual_model.specs.ExactValue.{Point, Instance, Table, UnitSchedule, floored_slope, slope_from, floored_cost, IsUnitSchedule, exact_cell_value, exact_period_value, unit_schedule_value, IsExactUnitValue}
 use Rattle.dual_model.specs.Tree.{root}
 use Rattle.dual_model.specs.Examples.{alone, sinking_unit, zero_prices, ray, scaled_dollars}
 
@@ -31,15 +31,9 @@ rising_at (suc l) h = absurd (omega (arith, h))
 rises : Rises points
 rises = record { some = omega arith; rising = rising_at }
 
-two_ends : (n : ℕ) → n < 2 → (n ≡ 0) ⊎ (n ≡ 1)
-two_ends n h = grind arith
-
 -- the segment of each step is the one from the first point to the second
 abbrev whole : Segment
 whole = record { left = 0; right = 1 }
-
-step_is : (x : ℕ) (s : Segment) → x < 40000000 → Steps points x s → s ≡ whole
-step_is x s h step = grind (arith, linear, h, step)
 
 slope_is : (k : ℤ) (x : ℕ) → x < 40000000 → slope_from points k x ≡ floored_slope points k (Some whole)
 slope_is k x h = grind (arith, linear, h)
@@ -78,10 +72,6 @@ value_is demand q table x is =
 -- the schedule at 15 MW
 abbrev lowest : UnitSchedule
 lowest = record { on = λ t. true; p = λ t. 5000000; r = λ t. 0 }
-
-lowest-at : (t : ℕ) → t < 1 → IsUnitScheduleAt 1 1 sinking_unit lowest t
-lowest-at zero h = grind (arith, linear, zero, h)
-lowest-at (suc t) h = absurd (omega (arith, h))
 
 lowest-is : (demand : ℕ) → IsUnitSchedule (system demand) root 0 1 lowest
 lowest-is demand = grind (arith, linear)

@@ -23,12 +23,6 @@ since_after-other true from false t e = refl
 since_after-other false from true t e = refl
 since_after-other false from false t e = cc
 
-since_after-le : (was : Bool) (from : ℕ) (now : Bool) (t : ℕ) → from ≤ t → since_after was from now t ≤ suc t
-since_after-le true from true t h = omega arith
-since_after-le true from false t h = omega arith
-since_after-le false from true t h = omega arith
-since_after-le false from false t h = omega arith
-
 pub since-le : (initial : Bool) (state : Commitment) (t : ℕ) → since initial state t ≤ t
 since-le initial state zero = omega arith
 since-le initial state (suc t) = grind (arith, (since-le initial state t))

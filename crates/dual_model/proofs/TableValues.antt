@@ -94,11 +94,6 @@ value-of instance node table g terms fix v are decided least = record {
     pattern : IsPattern instance.periods (thermal_unit instance g) fix least.on
     pattern = subst (λ n. IsPattern n (thermal_unit instance g) fix least.on) are.periods least.pattern
 
-none-of : (instance : Instance) (node : Node) (table : Table) (g : ℕ) (terms : Terms) (fix : Fix)
-    → AreTermsOf instance table g terms → IsFixOf instance.periods node g fix
-    → by_terms.HasNoPattern terms (thermal_unit instance g) fix → HasNoPattern instance node g
-none-of instance node table g terms fix are decided none on at = grind (arith, linear, are, decided, none, on, at)
-
 -- what a walk's answer by the terms says at the table
 pub unit_value-of : (instance : Instance) (node : Node) (table : Table) (g : ℕ) (unit : Thermal) (terms : Terms) (fix : Fix) (v : Option ℤ)
     → thermal_unit instance g ≡ unit → AreTermsOf instance table g terms → IsFixOf instance.periods node g fix

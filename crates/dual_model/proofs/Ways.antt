@@ -1,7 +1,7 @@
 -- The way that a commitment takes from the initial state: in which case there is one, and that its cost is the pattern's value.
-use Rattle.std.proofs.Common.{◌≡◌, ℕ, zero, suc, ◌+◌, ◌<◌, ◌≤◌, ⊎_elim, Bool, true, false, not, refl, sym, ap, subst, ◌∙◌, arith, ℤ, pos, ◌+ℤ◌, ◌-ℤ◌, ◌*ℤ◌, IsTrue, Option, Some, None, unwrap_or, ◌==◌, if◌then◌else◌}
+use Rattle.std.proofs.Common.{◌≡◌, ℕ, zero, suc, ◌+◌, ◌<◌, ◌≤◌, ⊎_elim, Bool, true, false, not, refl, sym, ap, subst, ◌∙◌, arith, ℤ, pos, ◌+ℤ◌, ◌*ℤ◌, IsTrue, Option, Some, None, unwrap_or, ◌==◌, if◌then◌else◌}
 use Rattle.std.proofs.lemmas.Bool.{cond-true, cond-false, lt-ltb, le-ltb}
-use Rattle.uc_model.specs.Prelude.{sum_below, Commitment, was_on, starts, last_stop, sigma, period_count, term_at, price_at, may_stop, may_start}
+use Rattle.uc_model.specs.Prelude.{sum_below, Commitment, was_on, starts, last_stop, sigma, period_count, term_at, may_stop, may_start}
 use Rattle.uc_model.proofs.Common.{linear, sum_below-first, sum_below-same}
 use Rattle.dual_model.specs.PatternValue.{Terms, Thermal, is_followed, period_value, pattern_value}
 use Rattle.dual_model.specs.Bellman.{MoveCosts, EndCosts, total_of, since_after, way_cost}
@@ -173,12 +173,6 @@ hour_value terms unit on t = unwrap_or (hour terms unit on t) (pos 0)
 hour_value-is : (terms : Terms) (unit : Thermal) (on : Commitment) (t : ℕ) → IsThere (hour terms unit on t)
     → hour terms unit on t ≡ Some (hour_value terms unit on t)
 hour_value-is terms unit on t there = there.1 ∙ ap Some (sym (ap (λ o. unwrap_or o (pos 0)) there.1))
-
--- of an hour that is there it is what the pattern's value counts
-hour_cost-term : (terms : Terms) (unit : Thermal) (t : ℕ) (term : Option ℤ) (x : ℤ) → hour_cost terms unit t term ≡ Some x
-    → x ≡ unwrap_or term (pos 0) -ℤ price_at terms t *ℤ unit.pmin
-hour_cost-term terms unit t None x e = cc
-hour_cost-term terms unit t (Some m) x e = cc
 
 period_value-is : (terms : Terms) (unit : Thermal) (on : Commitment) (t : ℕ) → IsThere (hour terms unit on (suc t))
     → period_value terms unit on t ≡ hour_value terms unit on (suc t) +ℤ start_value terms unit on t

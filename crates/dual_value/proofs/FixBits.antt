@@ -94,10 +94,6 @@ decided-with fix fixing more same bits = λ periods on within.
     (with_it (commitment_of fix.known fixing.t) (commitment_of fix.on fixing.t) fixing.on (on fixing.t) same
     ∙ (λ i. not (sym bits.known i) || (if sym bits.on i then on fixing.t else not (on fixing.t))))
 
--- before the decision the bit was off, where it wasn't decided or was decided so
-pub off-before : (fix : Fix) (t : ℕ) → IsPlain fix → (commitment_of fix.known t ≡ true → commitment_of fix.on t ≡ false) → commitment_of fix.on t ≡ false
-off-before fix t plain same = grind (arith, plain, same)
-
 pub plain-more : (fix : Fix) (fixing : Fixing) (more : Fix) → IsPlain fix → IsMore fix fixing more → IsPlain more
 plain-more fix fixing more plain bits t on =
     ⊎_elim

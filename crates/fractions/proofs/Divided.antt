@@ -1,15 +1,15 @@
 -- Numbers over their greatest common divisor.
 -- Cite by `use Rattle.fractions.proofs.Divided.{fractions_are_lowest, joined_are_least}`.
-use Rattle.std.proofs.Common.{◌≡◌, ℕ, zero, suc, ◌+◌, ◌*◌, ◌/◌, ◌<◌, ◌≤◌, refl, sym, ap, subst, ◌∙◌, arith, List, [], ◌∷◌, length, ℤ, pos, negsuc, neg_ℤ, ◌*ℤ◌, ◌≤ℤ◌, ◌<ℤ◌, unsigned_abs, int_div}
+use Rattle.std.proofs.Common.{◌≡◌, ℕ, zero, suc, ◌*◌, ◌/◌, ◌<◌, ◌≤◌, refl, sym, ap, subst, ◌∙◌, arith, [], ◌∷◌, ℤ, pos, negsuc, neg_ℤ, ◌*ℤ◌, ◌<ℤ◌, unsigned_abs, int_div}
 use Rattle.std.specs.Int.{◌∣◌}
 use Rattle.std.proofs.Math.Nat.{dvd-mul_left, dvd-mul_right, mul-dvd-mul_left, dvd_of_mul-dvd-mul_left, eq-zero_of_zero-dvd, mul-div_cancel'}
-use Rattle.std.proofs.lemmas.Nat.Gcd.{dvd_refl, dvd_trans, le_of_dvd}
+use Rattle.std.proofs.lemmas.Nat.Gcd.{le_of_dvd}
 use Rattle.std.proofs.lemmas.Int.{ints, unsigned_abs-mul}
-use Rattle.uc_model.proofs.Common.{linear, mul_comm, mul_assoc, mul-zero, neg-mul, mul-lt-mul_left}
-use Rattle.pivot_run.specs.Rows.{divisor_of, entry, total_size}
+use Rattle.uc_model.proofs.Common.{mul_comm, mul_assoc, mul-zero, neg-mul, mul-lt-mul_left}
+use Rattle.pivot_run.specs.Rows.{entry}
 use Rattle.pivot_run.proofs.Divisors.{divisor_of-positive, divisor_of-divides, divisor_of-greatest}
 use Rattle.cost_curves.proofs.LowestTerms.{coprime-dvd}
-use Rattle.fractions.specs.Fractions.{Fraction, common_of, lowest, missing_factor, joined, IsLowest, FractionsAreLowest, IsLeastMultiple, JoinedAreLeast}
+use Rattle.fractions.specs.Fractions.{common_of, missing_factor, joined, FractionsAreLowest, JoinedAreLeast}
 
 -- ---- an exact quotient
 size_over : (z : ℤ) (g : ℕ) → unsigned_abs (int_div z (pos g)) ≡ unsigned_abs z / g

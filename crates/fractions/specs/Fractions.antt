@@ -1,5 +1,5 @@
 -- Fractions in lowest terms, and least common multiples. Source: Euclid, Elements, book VII, propositions 21 and 34.
-use Rattle.std.specs.Prelude.{◌≡◌, ℕ, List, [], ◌∷◌, ℤ, pos, ◌*ℤ◌, ◌<ℤ◌, int_div, unsigned_abs}
+use Rattle.std.specs.Prelude.{◌≡◌, ℕ, [], ◌∷◌, ℤ, pos, ◌*ℤ◌, ◌<ℤ◌, int_div, unsigned_abs}
 use Rattle.std.specs.Int.{◌∣◌}
 use Rattle.pivot_run.specs.Rows.{divisor_of}
 pub use Rattle.fractions.specs.declared.fraction.Fraction.{Fraction}

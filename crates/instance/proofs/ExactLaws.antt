@@ -45,10 +45,6 @@ neither f g = record { is = λ h. absurd (f h); again = λ h z. absurd (g h) }
 abbrev one_if : Bool → ℕ
 one_if b = if b then 1 else 0
 
-unrounded : (b : Bool) → one_if b ≡ 0 → b ≡ false
-unrounded false z = refl
-unrounded true z = absurd (omega (arith, z))
-
 number_option : (o : Option Decimal) (P : Decimal → Type 0)
     → Agree (IsSomeAnd o (λ d. (IsTrue true → is_rounded d ≡ false) × P d)) (IsSomeAnd o (λ d. (IsTrue false → is_rounded d ≡ false) × P d)) (elim o [ None ↦ 0 | Some d ↦ (if is_rounded d then 1 else 0) ])
 number_option None P = neither (λ h. h) (λ h. h)

@@ -97,10 +97,6 @@ signed_is : (b : Bool) (n h : ℕ) → nat_lt 0 (n % MILLION) ≡ false → (b &
 signed_is false n h rest e is = ap pos (omega (arith, ltb-false _ _ rest))
 signed_is true n h rest e is = grind (arith, ints, rest, e, is)
 
-negative_again : (n h : ℕ) → signed true n ≡ pos (h * MILLION) → n ≡ 0
-negative_again zero h e = refl
-negative_again (suc n) h e = absurd cc
-
 signed_again : (b : Bool) (n h : ℕ) → signed b n ≡ pos (h * MILLION) → (nat_lt 0 (n % MILLION) ≡ false) × ((b && nat_lt 0 (n / MILLION)) ≡ false) × (n / MILLION ≡ h)
 signed_again false n h e = let same : n ≡ h * MILLION = ap unsigned_abs e in (le-ltb 0 (n % MILLION) (omega arith), refl, omega arith)
 signed_again true n h e = grind (arith, ints, e)

@@ -96,14 +96,6 @@ fits fix on t = not (commitment_of fix.known t) || (if commitment_of fix.on t th
 fits-undecided : (fix : Fix) (on : Commitment) (t : ℕ) → commitment_of fix.known t ≡ false → fits fix on t ≡ true
 fits-undecided fix on t e = or_left _ _ (not_from_false _ e)
 
--- the part of the period that is decided, and of another one
-here_kept : (known bit on here : Bool) → known ≡ true → bit ≡ on → (not known || (if bit then here else not here)) ≡ (if on then here else not here)
-here_kept known bit on here e f = rw (e, f) refl
-
-here_on : (on old same : Bool) → old ≡ false → same ≡ true → ((on && same) || old) ≡ on
-here_on true old same e f = rw (e, f) refl
-here_on false old same e f = e
-
 not_here : (on same old : Bool) → same ≡ false → ((on && same) || old) ≡ old
 not_here true same old e = ap (λ x. x || old) e
 not_here false same old e = refl
@@ -175,11 +167,6 @@ pub next_free : (path : List Fixing) (n : ℕ) (fixing : Fixing) (fixes : List F
     → fixing.g < length fixes → DecidesOnce path → AreFixesSoFar path n fixes
     → commitment_of (fix_at fixes fixing.g).known fixing.t ≡ false
 next_free path n fixing fixes within read placed once so_far = grind (arith, within, read, placed, once, so_far)
-
-pub next_off : (path : List Fixing) (n : ℕ) (fixing : Fixing) (fixes : List Fix) → n < length path → fixing ≡ get_or path n fixing
-    → fixing.g < length fixes → DecidesOnce path → AreFixesSoFar path n fixes
-    → commitment_of (fix_at fixes fixing.g).on fixing.t ≡ false
-next_off path n fixing fixes within read placed once so_far = grind (arith, within, read, placed, once, so_far)
 
 -- ---- the whole path
 pub fixes_of_path : (path : List Fixing) (n : ℕ) (fixes : List Fix) → length path ≤ n → AreFixesSoFar path n fixes

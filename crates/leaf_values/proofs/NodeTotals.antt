@@ -4,22 +4,14 @@ use Rattle.uc_model.specs.Prelude.{thermal_count, thermal_unit}
 use Rattle.uc_model.proofs.Common.{linear, sum_below-same}
 use Rattle.dual_model.specs.Prelude.{HasEmptyUnit, IsFixOf, IsNodeValue, constant_at, AreTermsOf, IsUnitValueOf}
 use Rattle.dual_model.proofs.TableValues.{unit_value-of}
-use Rattle.leaf_values.specs.Entries.{TableEntries, UnitEntry, AreEntriesOf, AreUnitsReckoned, IsEntryOf, IsReckoned, entry_at}
+use Rattle.leaf_values.specs.Entries.{TableEntries, UnitEntry, AreEntriesOf, IsReckoned, entry_at}
 use Rattle.uc_model.specs.declared.instance.Instance.{Instance}
 use Rattle.dual_model.specs.declared.table.Table.{Table}
 use Rattle.leaf_values.specs.Paths.{Fix, Node, AreFixesOf}
 use Rattle.leaf_values.specs.inside.ExactTotals.{AreDecided}
-use Rattle.leaf_values.specs.inside.Totals.{AreReckonedFor, HasNoValue, IsReckonedFor, IsTotal, part_of, value_of}
+use Rattle.leaf_values.specs.inside.Totals.{AreReckonedFor, HasNoValue, IsTotal, part_of, value_of}
 
 -- ---- the entries are those of the table as before
-pub reckoned_units : (instance : Instance) (fixes : List Fix) (old new : List UnitEntry) → AreUnitsReckoned instance old
-    → AreReckonedFor instance fixes (thermal_count instance) old new → AreUnitsReckoned instance new
-reckoned_units instance fixes old new before after = grind (arith, linear, before, after)
-
-still_entry : (instance : Instance) (table : Table) (g : ℕ) (fix : Fix) (old new : UnitEntry) → IsEntryOf instance table g old
-    → IsReckonedFor instance.periods (thermal_unit instance g) fix old new → IsEntryOf instance table g new
-still_entry instance table g fix old new entry after = grind (arith, linear, entry, after)
-
 pub entries_kept : (instance : Instance) (table : Table) (fixes : List Fix) (old new : TableEntries) → AreEntriesOf instance table old
     → AreReckonedFor instance fixes (thermal_count instance) old.units.items new.units.items → new.exact ≡ old.exact → new.rest ≡ old.rest
     → AreEntriesOf instance table new

@@ -5,9 +5,6 @@ use Rattle.std.proofs.lemmas.List.{get_or-take, get_or_append_left, get_or_push,
 use Rattle.dual_model.specs.Prelude.{is_decided}
 use Rattle.leaf_values.specs.Paths.{Fixing, DecidesOnce, node_of}
 
-pub decides_once-nil : DecidesOnce []
-decides_once-nil = record { fresh = λ i d h. absurd (omega arith) }
-
 below_or_last : (i n : ℕ) → i < n + 1 → (i < n) ⊎ (i ≡ n)
 below_or_last i n h = grind arith
 

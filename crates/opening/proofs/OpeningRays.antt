@@ -9,7 +9,7 @@ use Rattle.branch_tree.specs.declared.found.Outcome.{Outcome}
 use Rattle.branch_tree.specs.declared.found.Outcome.TheVariants as outcome
 use Rattle.opening_tables.proofs.RayTables.{ray_lawful}
 use Rattle.opening.specs.Outcomes.{IsPositive}
-use Rattle.opening.specs.Rays.{Instance, HasNoRay, HasNoRayBelow, IsFirstRay, IsRayPositive}
+use Rattle.opening.specs.Rays.{Instance, HasNoRay, HasNoRayBelow, IsRayPositive}
 use Rattle.opening.proofs.Blocked.{not_first_blocked}
 
 -- a ray whose outcome at the root isn't a value above 0 isn't positive
@@ -51,6 +51,3 @@ one_first P m n one other before_one before_other = ⊎_elim
     (λ (l : n < m). absurd (before_one n l other))
     apart)
     (cases_order m n)
-
-pub first_is_one : (exact : Bool) (instance : Instance) (m n : ℕ) → IsFirstRay exact instance m → IsFirstRay exact instance n → m ≡ n
-first_is_one exact instance m n one other = one_first (IsRayPositive exact instance) m n one.positive other.positive one.first other.first

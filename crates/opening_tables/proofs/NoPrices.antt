@@ -29,7 +29,3 @@ unpriced_lawful instance k scale =
         ramps = All-nil IsRowPriced;
       };
     }
-
-pub made_unpriced : (instance : Instance) (k : ℤ) (units : ℕ) (scale : ℤ) (pi mu : List ℤ) → units ≡ (unpriced_table instance k).units → scale ≡ k
-    → pi ≡ replicate instance.periods (pos 0) → mu ≡ replicate instance.periods (pos 0) → made_of units scale pi mu ≡ unpriced_table instance k
-made_unpriced instance k units scale pi mu count same demand reserve = λ i. made_of (count i) (same i) (demand i) (reserve i)

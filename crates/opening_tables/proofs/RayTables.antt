@@ -1,5 +1,5 @@
 -- The tables of the opening's rays: their rows, and that they are lawful.
-use Rattle.std.proofs.Common.{◌≡◌, ◌≢◌, ℕ, zero, suc, ◌+◌, ◌<◌, ◌≤◌, inl, inr, Bool, true, false, List, [], ◌∷◌, ◌++◌, length, refl, sym, subst, ◌∙◌, arith, ℤ, pos, ◌≤ℤ◌, ◌⊎◌, unsigned_abs, slice_index_or, replicate, All, if◌then◌else◌}
+use Rattle.std.proofs.Common.{◌≡◌, ◌≢◌, ℕ, zero, suc, ◌+◌, ◌<◌, ◌≤◌, inl, inr, Bool, true, false, List, [], ◌∷◌, ◌++◌, length, refl, sym, subst, ◌∙◌, arith, ℤ, pos, ◌≤ℤ◌, ◌⊎◌, unsigned_abs, slice_index_or, replicate, All}
 use Rattle.std.proofs.lemmas.Bool.{cases_lt}
 use Rattle.std.proofs.lemmas.Int.{ints}
 use Rattle.std.proofs.lemmas.List.{append-nil, get_or_append_left, get_or_push, length-append, length-replicate, length-set}
@@ -7,7 +7,7 @@ use Rattle.std.proofs.lemmas.List.Elements.{All-append, All-cons, All-nil, All-r
 use Rattle.uc_model.specs.Prelude.{IsLawfulInstance, thermal_count, thermal_unit}
 use Rattle.uc_model.specs.declared.instance.Instance.{Instance}
 use Rattle.uc_model.proofs.Common.{linear}
-use Rattle.dual_model.specs.Prelude.{OpeningRay, first_row, first_rows, period_rays, price_in, ramp_rays, ray_at, ray_count, ray_period, ray_table, IsLawfulTable, IsPrice, IsRowBefore, IsRowSigned}
+use Rattle.dual_model.specs.Prelude.{OpeningRay, first_row, first_rows, price_in, ray_at, ray_count, ray_period, ray_table, IsLawfulTable, IsPrice, IsRowBefore, IsRowSigned}
 use Rattle.dual_model.specs.declared.table.RampRow.{RampRow}
 use Rattle.dual_model.specs.declared.table.Table.{Table}
 use Rattle.opening_tables.specs.inside.Rays.{Ray, Thermal, down_of, named_by, up_of}
@@ -74,25 +74,11 @@ record IsSmallRay (ray : OpeningRay) : Type 0 where
   reserve : pos 0 ≤ℤ ray.reserve
   reserve_size : unsigned_abs ray.reserve ≤ 1
 
-small_is : (demand reserve : ℤ) (up down : Thermal → Bool) → unsigned_abs demand ≤ 1 → pos 0 ≤ℤ reserve → unsigned_abs reserve ≤ 1
-    → IsSmallRay (record { demand = demand; reserve = reserve; up = up; down = down })
-small_is demand reserve up down h k m = record { demand = h; reserve = k; reserve_size = m }
-
 nought : pos 0 ≤ℤ pos 0
 nought = omega (arith, linear)
 
 above : pos 0 ≤ℤ pos 1
 above = omega (arith, linear)
-
-small_period : All IsSmallRay period_rays
-small_period = grind (arith, ints)
-
-small_ramp : All IsSmallRay ramp_rays
-small_ramp = grind (arith, ints)
-
-either_small : (b : Bool) (first second : OpeningRay) → IsSmallRay first → IsSmallRay second → IsSmallRay (if b then first else second)
-either_small true first second h k = h
-either_small false first second h k = k
 
 ray_small : (periods n : ℕ) → n < ray_count periods → IsSmallRay (ray_at periods n)
 ray_small periods n h = grind (arith, ints, h)

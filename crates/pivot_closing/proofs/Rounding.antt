@@ -1,13 +1,13 @@
 -- What is printed of a schedule costs hardly more than the schedule: each on cell and each shortage is rounded up by a micro-dollar at most.
 -- Cite by `use Rattle.pivot_closing.proofs.Rounding.{printed-le-cost}`.
-use Rattle.std.proofs.Common.{◌≡◌, ℕ, ◌+◌, ◌*◌, ◌/◌, ◌<◌, ◌≤◌, ◌≢◌, ⊎_elim, Bool, true, false, refl, sym, ap, subst, ◌∙◌, arith, List, length, ℤ, pos, ◌+ℤ◌, ◌-ℤ◌, ◌*ℤ◌, ◌≤ℤ◌, IsTrue, Option, Some, None, unsigned_abs, ◌==◌, if◌then◌else◌}
+use Rattle.std.proofs.Common.{◌≡◌, ℕ, ◌+◌, ◌*◌, ◌/◌, ◌<◌, ◌≤◌, ◌≢◌, ⊎_elim, Bool, true, false, refl, sym, ap, subst, ◌∙◌, arith, List, length, ℤ, pos, ◌+ℤ◌, ◌-ℤ◌, ◌*ℤ◌, ◌≤ℤ◌, IsTrue, Option, Some, None, ◌==◌, if◌then◌else◌}
 use Rattle.std.specs.Ordering.{int_eq}
-use Rattle.std.proofs.lemmas.Bool.{cases_Bool, cond-true, cond-false, eqb-true, eqb-false, eq-eqb, ne_eqb}
-use Rattle.uc_model.specs.Prelude.{sum_below, point_of, output_of, weighted_cost, category_cost, thermal_unit, thermal_count, Production, Obeys, cell_cost, shortage_cost, cost, quotient_up, Segment, segment_at, segment_width, segment_cost, hull_cost, rise, from_left, to_right, watt_denominator, cell_at, shed_at, short_at, width_on, printed_denominator, refused_weight, segment_weight, printed_schedule, printed_cell_cost, printed_shortage_cost, printed_cost, IsLawfulInstance}
+use Rattle.std.proofs.lemmas.Bool.{cases_Bool, eqb-true, eqb-false}
+use Rattle.uc_model.specs.Prelude.{sum_below, point_of, weighted_cost, category_cost, thermal_unit, thermal_count, Production, Obeys, cell_cost, shortage_cost, cost, quotient_up, Segment, segment_at, segment_width, segment_cost, hull_cost, rise, from_left, to_right, watt_denominator, cell_at, shed_at, short_at, width_on, printed_denominator, refused_weight, segment_weight, printed_schedule, printed_cell_cost, printed_shortage_cost, printed_cost, IsLawfulInstance}
 use Rattle.uc_model.specs.declared.instance.Point.{Point}
 use Rattle.uc_model.specs.declared.instance.Instance.{Instance}
 use Rattle.uc_model.specs.declared.schedule.Printed.{Printed}
-use Rattle.uc_model.proofs.Common.{linear, mul-add, mul-sub, mul-zero, zero-mul, mul_comm, mul_assoc, mul_left_comm, pos-mul, scale-le-scale, pos_nonneg, mul-one, sum_below-le, sum_below-single, sum_below-pair, sum_below-mul_left, sum_below-add, sum_below-const, sum_below-zero, rule_at, production_parts, Holds, LiesOn, segment_at-holds, lies_on, parts-ends, value-point, weights-ends, weights-point, denominator-factor, watts-factor, watts_positive, IsCeiling-least, quotient_up-is, share_is}
+use Rattle.uc_model.proofs.Common.{linear, mul-add, mul-sub, mul-zero, mul_comm, mul_assoc, mul_left_comm, pos-mul, scale-le-scale, pos_nonneg, mul-one, sum_below-le, sum_below-mul_left, sum_below-add, sum_below-const, sum_below-zero, rule_at, production_parts, Holds, LiesOn, segment_at-holds, lies_on, parts-ends, value-point, weights-ends, weights-point, denominator-factor, watts-factor, watts_positive, quotient_up-is, share_is}
 use Rattle.uc_model.proofs.HullPoints.{wide}
 
 -- ---- the cost of the weights on a segment's ends

@@ -6,7 +6,7 @@ use Rattle.std.proofs.lemmas.Int.{ints}
 use Rattle.std.specs.Ordering.{int_eq}
 use Rattle.std.proofs.lemmas.List.{get_or_push, get_or_append_left, get_or_past, length-append}
 use Rattle.pivot_run.specs.Rows.{IsSmall, entry}
-use Rattle.pivot_run.specs.inside.Entries.{AreBelow, AreEntries, AreEntriesOf, CombiningForms, IsCombined, IsNext, IsSplit, Rise, column, number_at, with_column, with_number}
+use Rattle.pivot_run.specs.inside.Entries.{AreBelow, AreEntries, AreEntriesOf, IsCombined, IsNext, IsSplit, Rise, column, number_at, with_column, with_number}
 use Rattle.pivot_run.proofs.EntryLists.{number_cases, number_of_entry, number_of_none}
 
 int_eq-true : (a b : ℤ) → int_eq a b ≡ true → a ≡ b
@@ -88,9 +88,6 @@ of_added row ks xs c x before value size = ⊎_elim
     (cases_Bool (int_eq x (pos 0)))
 
 -- ---- those of two rows together
-pub combined_none : (f g : ℕ → ℤ) (p e : ℤ) → IsCombined f g p e [] [] 0
-combined_none f g p e = grind (arith, ints)
-
 -- a number times 0, less a number times 0
 nothing : (x y p e : ℤ) → x ≡ pos 0 → y ≡ pos 0 → pos 0 ≡ x *ℤ p -ℤ e *ℤ y
 nothing x y p e f g = grind (arith, ints, f, g)
@@ -144,21 +141,12 @@ combined_added f g p e ks xs c z before value size first second = ⊎_elim
 pub none_between : (ks : List ℕ) (xs : List ℤ) (a c d k : ℕ) → AreEntries ks xs → IsSplit ks a c → (a < length ks → d ≤ column ks a) → c ≤ k → k < d → number_at ks xs k ≡ pos 0
 none_between ks xs a c d k are split next h l = grind (arith, ints, number_of_none, cases_lt, are, split, next, h, l)
 
--- the split at a column behind it that all behind reach
-pub split_on : (ks : List ℕ) (a c d : ℕ) → Rise ks → IsSplit ks a c → (a < length ks → d ≤ column ks a) → c ≤ d → IsSplit ks a d
-split_on ks a c d rise split next h = grind (arith, ints, rise, split, next, h)
-
 -- the next column of both isn't before the one that both are split at
 pub next_reaches : (ks : List ℕ) (a : ℕ) (ls : List ℕ) (b c d : ℕ) → IsSplit ks a c → IsSplit ls b c → IsNext ks a ls b d → c ≤ d
 next_reaches ks a ls b c d one other next = grind (arith, ints, one, other, next)
 
 pub next_below : (ks : List ℕ) (a : ℕ) (ls : List ℕ) (b d n : ℕ) → IsNext ks a ls b d → AreBelow ks n → AreBelow ls n → d < n
 next_below ks a ls b d n next one other = grind (arith, ints, next, one, other)
-
--- the product that combining forms in a column, by the numbers there
-pub forms_there : (f g : ℕ → ℤ) (p e : ℤ) (ks : List ℕ) (a : ℕ) (ls : List ℕ) (b d : ℕ) (size other x y : ℤ) → IsNext ks a ls b d → x ≡ f d → y ≡ g d
-    → ((size ≡ x) × (other ≡ p)) ⊎ ((size ≡ e) × (other ≡ y)) → CombiningForms f g p e ks ls size other
-forms_there f g p e ks a ls b d size other x y next own else forms = grind (arith, ints, next, own, else, forms)
 
 -- the columns up to the next one, and that one, by the numbers there
 pub combined_next : (ks : List ℕ) (xs : List ℤ) (a : ℕ) (ls : List ℕ) (ys : List ℤ) (b : ℕ) (p e : ℤ) (ms : List ℕ) (zs : List ℤ) (c d : ℕ) (x y z : ℤ)
@@ -180,11 +168,3 @@ pub combined_all : (ks : List ℕ) (xs : List ℤ) (a : ℕ) (ls : List ℕ) (ys
 combined_all ks xs a ls ys b p e ms zs c n own are one other none nought before h =
     combined_skip (number_at ks xs) (number_at ls ys) p e ms zs c n before h
     (λ k l m. none_between ks xs a c n k own one (λ i. absurd (omega arith)) l m) (λ k l m. none_between ls ys b c n k are other (λ i. absurd (omega arith)) l m)
-
-pub split_start : (ks : List ℕ) → IsSplit ks 0 0
-split_start ks = record { within = omega arith; before = λ i h. absurd (omega arith); after = λ i h l. omega arith }
-
--- one entry less is left at least
-pub fewer_left : (ks : List ℕ) (a m : ℕ) (ls : List ℕ) (b n d : ℕ) → IsNext ks a ls b d → a ≤ m → b ≤ n → (a < length ks → column ks a ≡ d → a < m)
-    → (b < length ls → column ls b ≡ d → b < n) → (length ks - m) + (length ls - n) < (length ks - a) + (length ls - b)
-fewer_left ks a m ls b n d next one other own else = grind (arith, ints, next, one, other, own, else)

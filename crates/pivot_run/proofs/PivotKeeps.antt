@@ -3,7 +3,6 @@
 use Rattle.std.proofs.Common.{◌≡◌, ◌≢◌, ℕ, ◌<◌, ⊎_elim, Option, None, Some, sym, ap, subst, ◌∙◌, arith, List, length, ℤ, pos, ◌≤ℤ◌, int_lt, int_div}
 use Rattle.std.specs.Option.{option_and_then, option_map}
 use Rattle.std.proofs.lemmas.Bool.{cases_eq}
-use Rattle.std.proofs.lemmas.Option.{some_pair_parts}
 use Rattle.std.proofs.lemmas.List.{length-map, length-set, length-take}
 use Rattle.std.proofs.lemmas.List.Quantifiers.{position-Some}
 use Rattle.pivot_run.specs.Rows.{entry, cleared, divisor_of}
@@ -18,10 +17,6 @@ use Rattle.pivot_run.proofs.RightSides.{right_sides_kept}
 use Rattle.pivot_run.proofs.Basis.{basic_other, basis_kept}
 
 -- ---- the pivot that comes next
-pair_parts : (k i j : ℕ) (found : Option ℕ) → option_map {U = ℕ × ℕ} (λ a. (a, k)) found ≡ Some (i, j) → (found ≡ Some i) × (k ≡ j)
-pair_parts k i j None e = absurd (cc)
-pair_parts k i j (Some a) e = let same = some_pair_parts a i k j e in (ap Some same.0, same.1)
-
 pub next_parts : (choose : ℕ → Option ℕ) (found : Option ℕ) (i j : ℕ) → option_and_then {U = ℕ × ℕ} (λ k. option_map {U = ℕ × ℕ} (λ a. (a, k)) (choose k)) found ≡ Some (i, j)
     → (found ≡ Some j) × (choose j ≡ Some i)
 next_parts choose None i j e = absurd (cc)

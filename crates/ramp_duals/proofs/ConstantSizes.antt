@@ -1,7 +1,7 @@
 -- How large a unit's constant is.
-use Rattle.std.proofs.Common.{ℕ, zero, suc, ◌+◌, ◌*◌, ◌<◌, ◌≤◌, arith, Bool, true, false, ℤ, ◌-ℤ◌, ◌*ℤ◌, unsigned_abs, neg_ℤ}
+use Rattle.std.proofs.Common.{ℕ, zero, suc, ◌+◌, ◌*◌, ◌<◌, ◌≤◌, arith, ℤ, ◌-ℤ◌, ◌*ℤ◌, unsigned_abs, neg_ℤ}
 use Rattle.std.proofs.lemmas.Int.{ints}
-use Rattle.uc_model.specs.Prelude.{initial_p, IsLawfulThermal, bit, sum_below}
+use Rattle.uc_model.specs.Prelude.{initial_p, IsLawfulThermal, sum_below}
 use Rattle.uc_model.specs.declared.limits.TheConstants.{MAX_PERIODS, MAX_POWER}
 use Rattle.uc_model.specs.declared.instance.Thermal.{Thermal}
 use Rattle.uc_model.proofs.Common.{abs_add, abs_mul, abs_sub}
@@ -17,10 +17,6 @@ sum_below-size zero m f h = omega arith
 sum_below-size (suc n) m f h =
     let before = sum_below-size n m f (λ k l. h k (omega arith)) in
     omega (arith, abs_add (sum_below n f) (f n) (n * m) m before (h n (omega arith)))
-
-bit_size : (b : Bool) (a : ℤ) (m : ℕ) → unsigned_abs a ≤ m → unsigned_abs (bit b *ℤ a) ≤ m
-bit_size true a m h = omega (arith, ints)
-bit_size false a m h = omega (arith, ints)
 
 initial_size : (unit : Thermal) → IsLawfulThermal unit → unsigned_abs (initial_p unit) ≤ 2 * MAX_POWER
 initial_size unit lawful = grind (arith, ints, lawful)

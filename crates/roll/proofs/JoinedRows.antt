@@ -3,7 +3,7 @@
 use Rattle.std.proofs.Common.{◌≡◌, ℕ, zero, suc, ◌+◌, ◌-◌, ◌<◌, ◌≤◌, ⊎_elim, min, Bool, true, false, not, ◌&&◌, ◌||◌, ◌==◌, List, refl, sym, ap, subst, ◌∙◌, arith, ℤ, pos, ◌+ℤ◌, ◌-ℤ◌, ◌*ℤ◌, ◌≤ℤ◌, IsTrue, int_le, nat_lt, if◌then◌else◌}
 use Rattle.std.proofs.lemmas.Int.{ints}
 use Rattle.std.proofs.lemmas.Bool.{cases_Bool, cases_lt, true≢false, not-true, ltb-true, lt-ltb, cond-true, cond-false, cond_both}
-use Rattle.uc_model.specs.Prelude.{bit, Commitment, state_before, was_on, starts, stops, initial_p, initial_down_at, initial_stop_holds, initial_up_at, minimum_down_at, minimum_up_at, must_run_at, start_reduction, stop_reduction, stop_cap, is_category_allowed, IsLawfulThermal}
+use Rattle.uc_model.specs.Prelude.{bit, Commitment, state_before, was_on, starts, stops, initial_p, initial_down_at, initial_stop_holds, initial_up_at, minimum_down_at, minimum_up_at, must_run_at, start_reduction, stop_reduction, stop_cap, IsLawfulThermal}
 use Rattle.uc_model.proofs.Common.{linear, le_trans, mul-zero, int_le-true, le-int_le}
 use Rattle.schedule_check.specs.WholeWatts as watts
 use Rattle.schedule_check.proofs.Produced.{holds_from}
@@ -255,10 +255,6 @@ stop_cap_by : (periods t : ℕ) (test : Bool) → (suc t < periods → IsTrue te
 stop_cap_by periods t test h = grind (arith, ints, h)
 
 -- ---- M6 and M7
-pub category_by : (unit : Thermal) (on : Commitment) (category : ℕ → ℕ) (t : ℕ) → HasLeastCategory unit on t (category t)
-    → IsTrue (if starts unit on t then is_category_allowed unit on (category t) t else category t == 0)
-category_by unit on category t least = grind (arith, ints, least)
-
 -- M7 speaks of the first state alone
 same_stop : (unit : Thermal) (on other : Commitment) → on 0 ≡ other 0 → initial_stop_holds unit on ≡ initial_stop_holds unit other
 same_stop unit on other e = grind (arith, ints, e)

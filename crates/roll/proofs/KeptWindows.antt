@@ -3,8 +3,7 @@ use Rattle.std.proofs.Common.{◌≡◌, ℕ, ◌+◌, ◌<◌, ◌≤◌, ◌++
 use Rattle.std.proofs.lemmas.List.{get_or_append_left, get_or-append-add, get_or-take}
 use Rattle.uc_model.specs.Prelude.{thermal_count, renewable_count, cell_at, shed_at, short_at}
 use Rattle.schedule_check.specs.SizedNumbers.{output_at}
-use Rattle.schedule_check.specs.WholeWatts.{cell}
-use Rattle.roll.specs.Left.{Instance, Thermal, Cell, Printed, CarriedUnit, IsLeftBy}
+use Rattle.roll.specs.Left.{Instance, Cell, Printed}
 use Rattle.roll.specs.NextWindow.{IsNextWindow}
 use Rattle.roll.specs.Kept.{IsKept}
 use Rattle.roll.specs.Stitched.{IsStitched, SameDispatch}
@@ -43,16 +42,7 @@ pub stitched_shown : (instance : Instance) (m n : ℕ) (kept shown stitched : Pr
 stitched_shown instance m n kept shown stitched is more = grind (arith, appended_right, is, more)
 
 -- ---- a window before it
-left_again : (unit : Thermal) (old new : List Cell) (end : ℕ) (left : CarriedUnit) → 1 ≤ end
-    → ((t : ℕ) → t < end → SameDispatch (cell old t) (cell new t)) → IsLeftBy unit old end left → IsLeftBy unit new end left
-left_again unit old new end left some same is = grind (arith, some, same, is)
-
 -- the window behind periods that are the same is the same
 pub next_again : (instance : Instance) (m : ℕ) (old new : Printed) (start len : ℕ) (window : Instance) → AreSame instance m old new → start ≤ m
     → IsNextWindow instance old start len window → IsNextWindow instance new start len window
 next_again instance m old new start len window same within is = grind (arith, same, within, is)
-
--- and so are the periods that are kept of it
-pub shown_again : (instance : Instance) (m : ℕ) (old new shown : Printed) (start n : ℕ) → AreSame instance m old new → start + n ≤ m
-    → IsShownFrom instance start n shown old → IsShownFrom instance start n shown new
-shown_again instance m old new shown start n same within is = grind (arith, same, within, is)

@@ -21,9 +21,6 @@ pub place_within : (periods window step done : ℕ) (place : Place) → done < p
 place_within periods window step done place left wide long is = grind (arith, left, wide, long, is)
 
 -- ---- the windows
-one_behind : (window step j : ℕ) → periods_before window step (suc j) ≡ periods_before window step j + pace window step
-one_behind window step j = omega arith
-
 -- a window that is rolled stays so when more is stitched behind
 window_again : (MayFind : Instance → Found → Type 0) (instance : Instance) (m : ℕ) (old new : Printed) (start len keep : ℕ)
     → AreSame instance m old new → start + keep ≤ m → IsRolledWindow MayFind instance old start len keep

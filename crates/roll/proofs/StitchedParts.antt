@@ -3,8 +3,7 @@ use Rattle.std.proofs.Common.{◌≡◌, ℕ, ◌+◌, ◌-◌, ◌<◌, ◌≤�
 use Rattle.std.proofs.lemmas.Bool.{cases_lt}
 use Rattle.std.proofs.lemmas.List.{get_or_append_left, get_or-append-add, get_or-take, length-append, length-map, length-take-le, length_push}
 use Rattle.std.proofs.lemmas.List.Elements.{All-get_or, All-from_get_or}
-use Rattle.uc_model.specs.Prelude.{Commitment, thermal_unit, thermal_count, renewable_count, HasShapeOf, cell_at, IsLawfulInstance, IsLawfulThermal, IsLimit}
-use Rattle.uc_model.specs.declared.limits.TheConstants.{MAX_START_ROWS}
+use Rattle.uc_model.specs.Prelude.{thermal_unit, thermal_count, renewable_count, HasShapeOf, cell_at, IsLawfulInstance, IsLawfulThermal, IsLimit}
 use Rattle.schedule_check.specs.PlainNumbers.{HasPlainNumbers, IsPlainCell}
 use Rattle.schedule_check.specs.SizedNumbers.{output_at}
 use Rattle.schedule_check.specs.WholeWatts.{cell, commitment, row_of}
@@ -107,9 +106,6 @@ stitched_is instance m n kept shown stitched is next parts = record {
 }
 
 -- ---- plain numbers
-plain_category : (unit : Thermal) (on : Commitment) (t category : ℕ) → IsLawfulThermal unit → HasLeastCategory unit on t category → category ≤ MAX_START_ROWS
-plain_category unit on t category lawful least = grind (arith, lawful, least)
-
 plain_cell : (unit : Thermal) (row : List Cell) (t : ℕ) (old : Cell) → IsLawfulThermal unit → IsPlainCell old → SameDispatch old (cell row t)
     → HasLeastCategory unit (commitment row) t (cell row t).category → IsPlainCell (cell row t)
 plain_cell unit row t old lawful own same least = grind (arith, lawful, own, same, least)

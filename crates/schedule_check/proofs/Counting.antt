@@ -25,10 +25,6 @@ count-more m (suc n) test h =
     (cases_lt m (suc n))
 
 -- ---- the sum over a window
-bit_one : (b : Bool) → bit b ≡ pos (if b then 1 else 0)
-bit_one true = refl
-bit_one false = refl
-
 pub count-sum : (n : ℕ) (test : ℕ → Bool) → sum_below n (λ i. bit (test i)) ≡ pos (count_below n test)
 count-sum zero test = refl
 count-sum (suc n) test = grind (arith, linear, (count-sum n test))

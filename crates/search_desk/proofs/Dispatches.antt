@@ -27,7 +27,7 @@ use Rattle.pivot_closing.proofs.TreeSizes.{entries_below}
 use Rattle.incumbent.specs.Costs.{AtMost}
 use Rattle.search_machine.specs.Prelude.{IsHolding, entries_of, bound_of, kept, IsTrueOutcome, TreeRunsHold}
 use Rattle.search_machine.specs.declared.event.Move.{Move}
-use Rattle.search_machine.specs.declared.event.Move.TheVariants.{Split, Prune, Ray}
+use Rattle.search_machine.specs.declared.event.Move.TheVariants.{Ray}
 use Rattle.search_machine.proofs.Claims.{holdable}
 use Rattle.search_machine.proofs.Growth.{tree_grows}
 use Rattle.search_machine.proofs.OrderlySteps.{free_for, sound_of}
@@ -47,15 +47,8 @@ use Rattle.search_desk.specs.Desks.{BookView, Instance, Opening, Table}
 use Rattle.search_desk.specs.Dispatches.{IsAtAnswer, IsByDispatch, IsFirstByDispatch, IsPivotedBook, KeepsToDispatch}
 use Rattle.search_desk.specs.declared.desk.Evaluated.{Evaluated}
 use Rattle.search_desk.proofs.Claimed.{one_node}
-use Rattle.search_desk.proofs.Costs.{at_most_through}
 
 -- ---- a lower cost that was seen
-at_answer-lower : (instance : Instance) (seen lower : Option ℤ) (table : Table) (pivot : DispatchAnswer) → AtMost lower seen → IsAtAnswer instance seen table pivot
-    → IsAtAnswer instance lower table pivot
-at_answer-lower instance seen lower table (Best printed other) below is = (is.0, at_most_through lower seen (Some (printed_cost instance printed)) below is.1)
-at_answer-lower instance seen lower table (RayAnswer other) below is = is
-at_answer-lower instance seen lower table (Wide what size other pivots) below is = tt
-
 pub by_dispatch-lower : (instance : Instance) (node : Node) (seen lower : Option ℤ) (table : Table) (outcome : Outcome) → AtMost lower seen
     → IsByDispatch instance node seen table outcome → IsByDispatch instance node lower table outcome
 by_dispatch-lower instance node seen lower table (Value v) below is = grind (arith, ints, v, below, is)
@@ -110,10 +103,6 @@ IsOver action = ¬ IsAgain action
 either : (b : Bool) (one other : Move) → IsOver one → IsOver other → IsOver (if b then one else other)
 either true one other first second = first
 either false one other first second = second
-
-value_over : (seen : Option ℤ) (stored : ℤ) (gap : ℕ) (cell : ℕ × ℕ) → IsOver (value_move seen stored gap (Some cell))
-value_over None stored gap cell = λ again. again
-value_over (Some cost) stored gap cell = either (is_within_gap cost (Some stored) gap) (Prune cost) (Split cell.0 cell.1) (λ again. again) (λ again. again)
 
 -- with a cell to split on the node isn't left open
 split_over : (seen : Option ℤ) (stored : ℤ) (gap : ℕ) (k : ℤ) (cell : ℕ × ℕ) (outcome : Outcome) → IsOver (move_of seen stored gap k (Some cell) outcome)

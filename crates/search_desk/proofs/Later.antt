@@ -1,29 +1,12 @@
 -- The scales of a node's later entries, after one entry more.
-use Rattle.std.proofs.Common.{◌≡◌, ◌≢◌, ⊎_elim, ℕ, ◌≤◌, ◌==◌, true, false, All, List, [], ◌∷◌, ◌++◌, drop, get_or, length, sym, subst, arith, Some, slice_get}
+use Rattle.std.proofs.Common.{◌≡◌, ◌≢◌, ⊎_elim, ℕ, ◌==◌, true, false, All, List, [], ◌∷◌, ◌++◌, drop, get_or, length, sym, subst, arith, Some, slice_get}
 use Rattle.std.proofs.lemmas.List.Elements.{All-nil, All-cons, All-append, All-filter, All-tail}
 use Rattle.std.proofs.lemmas.Option.{slice_get_within}
-use Rattle.uc_model.proofs.Common.{linear}
 use Rattle.branch_tree.proofs.Subtrees.{same_or_not}
 use Rattle.search_machine.specs.Prelude.{entries_of}
 use Rattle.search_machine.proofs.Claims.{get_push_cases}
 use Rattle.search_machine.proofs.OwnSteps.{IsTableWithin, entries_own, entries_same}
 use Rattle.search_desk.specs.Desks.{Entry, Table, AreLaterScaled, IsScaledEntry, IsScaledWithin}
-
--- a higher limit
-pub scaled_more : (limit more : ℕ) → limit ≤ more → (table : Table) → IsScaledWithin limit table → IsScaledWithin more table
-scaled_more limit more le table is = omega (arith, linear, is, le)
-
-scaled_all : (limit more : ℕ) → limit ≤ more → (tables : List Table) (entries : List Entry) → All (IsScaledEntry limit tables) entries
-    → All (IsScaledEntry more tables) entries
-scaled_all limit more le tables entries each i d within table is = scaled_more limit more le table (each i d within table is)
-
-pub later_wider : (limit more : ℕ) → limit ≤ more → (tables : List Table) (log : List Entry) → AreLaterScaled limit tables log
-    → AreLaterScaled more tables log
-later_wider limit more le tables log later node = scaled_all limit more le tables (drop 1 (entries_of log node)) (later node)
-
--- no entry yet
-pub later_none : (limit : ℕ) (tables : List Table) → AreLaterScaled limit tables []
-later_none limit tables node = All-nil (IsScaledEntry limit tables)
 
 -- ---- one entry more
 module _ (limit : ℕ) (tables : List Table) (table : Table) where

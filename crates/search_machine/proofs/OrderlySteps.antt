@@ -9,8 +9,7 @@ use Rattle.branch_tree.specs.Prelude.{node_count, TreeView, IsOpenAt, lesser_bou
 use Rattle.branch_tree.proofs.Grown.{open_numbered, root_placed}
 use Rattle.branch_tree.proofs.Subtrees.{one_if}
 use Rattle.search_machine.specs.Machine.{Entry, Table, Holder, WorkerState, Machine, holder_of, IsWorker, desk_in, no_desk, first_desk, start_of}
-use Rattle.search_machine.specs.declared.stored.Stored.{Stored}
-use Rattle.search_machine.specs.Moves.{children_by, Again, Outcome, Split, Move, kept, tree_after, tickets_of, IsFreeFor, IsMoveLegal}
+use Rattle.search_machine.specs.Moves.{children_by, Again, Outcome, Split, Move, kept, tickets_of, IsFreeFor, IsMoveLegal}
 use Rattle.search_machine.specs.Steps.{Claim, Commit, Look, Pop, Publish, Push, Steal, Event, IsLegalBy, committed, committed_by, after, with_desk, with_tickets, IsClaimable}
 use Rattle.search_machine.specs.Orderly.{MAX_BUDGET, WHOLE_GAP, IsOrderly, IsEachTicketOnce, held_count, times_at}
 use Rattle.search_machine.proofs.Claims.{holder_place, held_push, held_ended, holders_push, holders_ended, times_kept, tickets_queued, tickets_taken, tickets_more, tickets_same}
@@ -125,16 +124,6 @@ orderly_after looked m (Steal worker victim) orderly legal = grind (arith, desks
 pub record IsAsLarge (new old : TreeView) : Type 0 where
   pub units : new.units ≡ old.units
   pub periods : new.periods ≡ old.periods
-
-tree_as_large : (tree : TreeView) (node : ℕ) (stored : Stored) (number : ℕ) (exact : Bool) (outcome : Outcome) (action : Move)
-    → IsAsLarge (tree_after tree node stored number exact outcome action) tree
-tree_as_large tree node stored number exact outcome Again = record { units = refl; periods = refl }
-tree_as_large tree node stored number exact outcome _ = record { units = refl; periods = refl }
-
-committed_as_large : (m : Machine) (worker unit : ℕ) (table : Table) (exact : Bool) (outcome : Outcome) (action : Move) (holder : Option Holder)
-    → IsAsLarge (committed_by m worker unit table exact outcome action holder).tree m.tree
-committed_as_large m worker unit table exact outcome action None = record { units = refl; periods = refl }
-committed_as_large m worker unit table exact outcome action (Some holder) = grind arith
 
 pub as_large_after : (m : Machine) (event : Event) → IsAsLarge (after m event).tree m.tree
 as_large_after m (Commit worker unit table exact outcome action) = grind (arith, worker, unit, table, exact, outcome, action)

@@ -7,7 +7,7 @@ use Rattle.branch_tree.specs.Prelude.{IsPlainLeaf, IsPlainTree, NumberedTree, En
 use Rattle.branch_tree.specs.declared.tree.Leaf.{Leaf}
 use Rattle.branch_tree.specs.declared.tree.Leaf.TheVariants as leaf
 use Rattle.branch_tree.specs.declared.found.Outcome.TheVariants as outcome
-use Rattle.search_machine.specs.Machine.{Entry, Table, Holder, Machine, holder_of, leaf_stored, spot_stored, stored_at}
+use Rattle.search_machine.specs.Machine.{Entry, Table, Holder, Machine, holder_of, spot_stored, stored_at}
 use Rattle.search_machine.specs.OwnTables.{Node}
 use Rattle.search_machine.specs.declared.stored.Stored.{Stored}
 use Rattle.search_machine.specs.Moves.{Outcome, Move, Again, Split, Prune, Ray, Empty, bound_of, kept_after, live_leaf, bound_leaf, empty_leaf, unit_of, kept, tree_after}
@@ -26,11 +26,6 @@ IsPlainEvent _ = Unit {0}
 -- ---- what a node stores
 abbrev IsPlainBelow : Node → NumberedTree → Type 0
 IsPlainBelow here tree = EachLeaf (λ node leaf. IsPlainLeaf leaf) here (unnumbered tree)
-
-leaf_plain : (l : Leaf) → IsPlainLeaf l → (leaf_stored l).exact ≡ false
-leaf_plain (leaf.Live table value exact) plain = plain
-leaf_plain (leaf.Bound table value exact) plain = plain
-leaf_plain _ plain = refl
 
 abbrev part_stored : Option Subtree → Stored
 part_stored part = spot_stored (option_map (λ (p : Subtree). spot_of p.tree) part)

@@ -78,10 +78,6 @@ best value old new m w j below is h =
 pub first-is : (first down : ℤ) → IsWithin first → IsWithin (first -ℤ down) → to_z w64 (of_z w64 (to_z w64 (of_z w64 first) -ℤ to_z w64 (of_z w64 down))) ≡ first -ℤ down
 first-is first down low new_low = grind (arith, ints, low, new_low)
 
-pub width-is : (first last up down : ℤ) → pos 0 ≤ℤ up → pos 0 ≤ℤ down → IsWithin first → IsWithin (first -ℤ down) → IsWithin last → IsWithin (last +ℤ up)
-    → up +ℤ down ≡ pos (unsigned_abs (to_z w64 (of_z w64 (to_z w64 (of_z w64 up) +ℤ to_z w64 (of_z w64 down)))))
-width-is first last up down a b low new_low high new_high = grind (arith, ints, a, b, low, new_low, high, new_high)
-
 -- ---- of a function
 pub record IsRamped (f g : Steps) (w : ℕ) (up down : ℤ) : Type 0 where
   pub spread : IsSpread f.runs g.runs w

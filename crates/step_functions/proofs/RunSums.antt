@@ -1,5 +1,5 @@
 -- Runs to whose steps those of other runs are added, one of the others after another.
-use Rattle.std.proofs.Common.{◌≡◌, ℕ, suc, ◌+◌, ◌-◌, ◌*◌, ◌<◌, ◌≤◌, ◌^◌, min, ⊎_elim, List, length, take, drop, refl, sym, ap, subst, ◌∙◌, arith, ℤ, pos, ◌+ℤ◌, unsigned_abs}
+use Rattle.std.proofs.Common.{◌≡◌, ℕ, ◌+◌, ◌-◌, ◌<◌, ◌≤◌, ◌^◌, min, ⊎_elim, List, length, take, drop, sym, ap, subst, ◌∙◌, arith, pos, ◌+ℤ◌, unsigned_abs}
 use Rattle.std.proofs.lemmas.Bool.{cases_lt}
 use Rattle.std.proofs.lemmas.List.{take-append-drop}
 use Rattle.step_functions.specs.Runs.{Run, run_of, slope_at, steps_of}
@@ -21,10 +21,6 @@ pub record IsAddedTo (old others now : List Run) (skipped used from rest number 
   pub front : (k : ℕ) → k < steps_of (take from now) → slope_at now k ≡ slope_at old k +ℤ slope_at others (skipped + k)
   pub back : (k : ℕ) → steps_of (take from now) ≤ k → slope_at now k ≡ slope_at old k
   pub count : length now ≤ length old + number
-
-pub added-none : (old others : List Run) (skipped : ℕ) → HaveSteps old → (0 < length others → skipped < (run_of others 0).length)
-    → IsAddedTo old others old skipped skipped 0 (steps_of old) 0
-added-none old others skipped lengths first = grind (arith, lengths, first)
 
 -- what the next step of the loop wants
 pub fits-rest : (old others now : List Run) (skipped used from rest number : ℕ) → IsAddedTo old others now skipped used from rest number

@@ -1,5 +1,5 @@
 -- A price for each watt that a place lies below another: the first steps are cheaper by it, and the first value dearer.
-use Rattle.std.proofs.Common.{◌≡◌, ℕ, ◌+◌, ◌-◌, ◌*◌, ◌^◌, ◌<◌, ◌≤◌, min, ◌⊎◌, inl, inr, ⊎_elim, List, refl, sym, ap, subst, ◌∙◌, arith, lit<, ℤ, pos, neg_ℤ, ◌+ℤ◌, ◌-ℤ◌, ◌*ℤ◌, ◌<ℤ◌, ◌≤ℤ◌, to_z, of_z, unsigned_abs, FitsSigned, Fits, false}
+use Rattle.std.proofs.Common.{◌≡◌, ℕ, ◌+◌, ◌-◌, ◌*◌, ◌^◌, ◌<◌, ◌≤◌, min, ◌⊎◌, inl, inr, ⊎_elim, List, refl, sym, ap, subst, ◌∙◌, arith, lit<, ℤ, pos, neg_ℤ, ◌+ℤ◌, ◌-ℤ◌, ◌*ℤ◌, ◌<ℤ◌, ◌≤ℤ◌, to_z, of_z, unsigned_abs, FitsSigned, false}
 use lib.Dec.{T}
 use lib.Signed.{le_z, non_neg}
 use Rattle.std.specs.Int.{w64, w128}
@@ -141,17 +141,6 @@ difference-fits place first within low = grind (arith, ints, within, low)
 pub behind-is : (place first : ℤ) → IsWithin place → IsWithin first → le_z (to_z w64 (of_z w64 place)) (to_z w64 (of_z w64 first)) ≡ false → first <ℤ place
 behind-is place first within low more = grind (arith, ints, within, low, more)
 
--- so many watts are a number without a sign
-watts-few : (place first : ℤ) (n : ℕ) → IsWithin place → IsWithin first → place ≡ first +ℤ pos n → n < 2 ^ 64
-watts-few place first n within low at = omega (arith, ints)
-
-pub watts-fit : (place first : ℤ) → IsWithin place → IsWithin first → IsShort place first → T (non_neg (watts_to place first)) × Fits w64 (unsigned_abs (watts_to place first))
-watts-fit place first within low is = grind (arith, ints, within, low, is)
-
--- the steps between two places are few
-pub steps-few : (first : ℤ) (n : ℕ) → IsWithin first → IsWithin (first +ℤ pos n) → n < 2 ^ 64
-steps-few first n low high = omega (arith, ints)
-
 -- the price with the other sign
 pub turned-fits : (price : ℤ) → FitsSigned w128 price → pos 0 ≤ℤ price → FitsSigned w128 (pos 0 -ℤ to_z w128 (of_z w128 price))
 turned-fits price fits sign = fits_signed_from_abs w128 (pos 0 -ℤ to_z w128 (of_z w128 price)) (omega (arith, ints))
@@ -165,9 +154,6 @@ both-fit slope price small own = omega (arith, ints)
 -- a step of the first ones, of which there are no more than all
 pub step-within : (k count all short : ℕ) → k < count → count ≡ min all short → 0 + k < all
 step-within k count all short h least = omega arith
-
-pub least-within : (count all short : ℕ) → count ≡ min all short → count ≤ all
-least-within count all short least = omega arith
 
 -- the first value, which stays small
 pub value-written : (value reached price : ℤ) (short : ℕ) → reached ≡ value +ℤ price *ℤ pos short → IsSmall (value +ℤ price *ℤ pos short)

@@ -1,5 +1,5 @@
 -- The seats of a new pool and the workers, as they are put together.
-use Rattle.std.proofs.Common.{◌≡◌, ◌∙◌, ℕ, zero, suc, ◌+◌, ◌<◌, ◌≤◌, List, [], ◌∷◌, ◌++◌, length, drop, ap, arith, Some, All, slice_get, length-drop}
+use Rattle.std.proofs.Common.{◌≡◌, ◌∙◌, ℕ, zero, suc, ◌+◌, ◌<◌, ◌≤◌, List, [], ◌∷◌, ◌++◌, length, drop, ap, arith, Some, All, slice_get}
 use Rattle.std.proofs.lemmas.List.Elements.{All-cons, All-head, All-nil, All-tail}
 use Rattle.steal_pool.specs.Seats.{SeatOf, IsFresh}
 use Rattle.steal_pool.specs.Pools.{IsFreshPool}
@@ -33,12 +33,6 @@ seat_next workers room made seats rest behind seat pool left first =
       space = omega (arith, put, fresh.room);
       next = next.1;
     }
-
--- where no seat is left each worker has one
-pub seats_done : (workers room made : ℕ) (seats rest : List SeatOf) → IsFreshPool workers room seats → drop made seats ≡ rest → length rest ≡ 0
-    → made ≤ workers → made ≡ workers
-seats_done workers room made seats rest pool left none most =
-    omega (arith, length-drop made seats, ap (λ (l : List SeatOf). length l) left, none, pool.2, most)
 
 -- the last element, and those before it
 pub last_holds : {X : Type 0} (P : X → Type 0) (xs : List X) (x : X) → All P (xs ++ x ∷ []) → P x

@@ -5,8 +5,8 @@ use Rattle.outside.specs.Slots.{SlotState, SameBut}
 use Rattle.outside.specs.Sinks.{SinkState}
 use Rattle.command_line.specs.Command.{Roll}
 use Rattle.command_runs.specs.Outside.{outside_of}
-use Rattle.command_runs.specs.Reading.{HasCause, IsOpenedByNoOther, IsOnlyRead, most_bytes}
-use Rattle.uc_cli.specs.RollRun.{Fault, Instance, Rolled, Slot, Write, roll_options, IsRollAnswer, IsRollDone, IsRollFailure, KeepsToInstance}
+use Rattle.command_runs.specs.Reading.{HasCause}
+use Rattle.uc_cli.specs.RollRun.{Fault, Instance, Rolled, Slot, Write, roll_options, IsRollAnswer, IsRollDone, IsRollFailure}
 use Rattle.uc_cli.specs.inside.Rolls.{IsToldRoll, IsUntoldRoll}
 
 -- a fault before anything was written
@@ -45,13 +45,3 @@ untold asked f g before after err_old err_new instance rounded rolled fault left
     subst (λ fault. IsRollFailure asked before_all after_all fault left) (sym is.is_fault)
     (subst (IsRollFailure asked before_all after_all (Write true)) (sym is.same)
     (record { has = record { instance = instance; rounded = rounded; answer = answer }; report = is.report }))
-
-pub kept_to : (asked : Roll) (f g : Slot → SlotState) (before after err_old err_new : SinkState)
-    → IsOpenedByNoOther asked.instance (f slot.Instance) (g slot.Instance) → IsOnlyRead most_bytes (f slot.Instance) (g slot.Instance)
-    → SameBut slot.Instance f g → KeepsToInstance asked (outside_of f before err_old) (outside_of g after err_new)
-kept_to asked f g before after err_old err_new named read same = record {
-  instance = named;
-  read = read;
-  certificate = same slot.CertIn (λ e. cc);
-  written = same slot.CertOut (λ e. cc);
-}

@@ -27,9 +27,6 @@ during-off_past first end t h = and_right _ _ (le-ltb t end h)
 pub during-past : (first end t : ℕ) → first ≤ t → on_during first end t ≡ false → end ≤ t
 during-past first end t h off = grind (arith, linear, h, off)
 
-during-before : (first end t : ℕ) → t < end → on_during first end t ≡ false → t < first
-during-before first end t h off = grind (arith, linear, h, off)
-
 -- ---- starts and stops
 pub start_parts : (unit : Thermal) (on : Commitment) (t : ℕ) → IsTrue (starts unit on t) → (was_on unit on t ≡ false) × (on t ≡ true)
 start_parts unit on t h = let parts = and_parts _ _ h in (not-true _ parts.0, parts.1)

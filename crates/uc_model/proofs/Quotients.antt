@@ -1,10 +1,10 @@
 -- Laws of floor and ceiling, `IsFloor a b n` and `IsCeiling a b n`, for a positive b.
 -- Cite from a crate above by `use Rattle.uc_model.proofs.Quotients.{IsFloor-greatest}`.
-use Rattle.std.proofs.Common.{◌≡◌, ◌%◌, ◌≢◌, ◌-◌, unsigned_abs, arith, ℤ, pos, negsuc, ◌+ℤ◌, ◌*ℤ◌, neg_ℤ, ◌≤ℤ◌, ◌<ℤ◌}
+use Rattle.std.proofs.Common.{◌≡◌, ◌≢◌, ◌-◌, arith, ℤ, pos, negsuc, ◌+ℤ◌, ◌*ℤ◌, neg_ℤ, ◌≤ℤ◌, ◌<ℤ◌}
 use Rattle.std.specs.Int.{int_div_euclid, int_rem_euclid}
 use Rattle.std.proofs.lemmas.Int.{ints, by_lt_z}
 use Rattle.uc_model.specs.Division.{IsFloor, IsCeiling, quotient_up}
-use Rattle.uc_model.proofs.Ring.{linear, add-mul, neg-mul, one-mul, mul-le-mul_right, le_antisymm, pos_nonneg}
+use Rattle.uc_model.proofs.Ring.{linear, add-mul, neg-mul, one-mul, mul-le-mul_right, le_antisymm}
 
 -- ---- a bound by a multiple
 -- from m * b < n * b + b it follows that m ≤ n
@@ -52,24 +52,7 @@ IsCeiling_unique a b m n positive ceiling other =
     le_antisymm m n (IsCeiling-least a b m n positive ceiling other.above) (IsCeiling-least a b n m positive other ceiling.above)
 
 -- ---- both
--- the ceiling by the floor: the floor where nothing is left, and else one more
-pub IsCeiling-exact : (a b n : ℤ) → pos 0 <ℤ b → IsFloor a b n → n *ℤ b ≡ a → IsCeiling a b n
-IsCeiling-exact a b n positive floor exact = record { above = omega (arith, linear); before = omega (arith, linear) }
-
-pub IsCeiling-next : (a b n : ℤ) → IsFloor a b n → (n *ℤ b) <ℤ a → IsCeiling a b (n +ℤ pos 1)
-IsCeiling-next a b n floor rest = grind (arith, ints, floor, rest)
-
 -- ---- the Euclidean quotient and remainder
-pub int_rem_euclid_nonneg : (a b : ℤ) → pos 0 ≤ℤ int_rem_euclid a b
-int_rem_euclid_nonneg (pos a) b = pos_nonneg (a % unsigned_abs b)
-int_rem_euclid_nonneg (negsuc a) b = pos_nonneg (unsigned_abs b - 1 - a % unsigned_abs b)
-
--- a is its floor's multiple of b, and the remainder
-pub quotient-remainder : (a b : ℤ) → pos 0 <ℤ b → int_div_euclid a b *ℤ b +ℤ int_rem_euclid a b ≡ a
-quotient-remainder (pos a) (pos b) positive = omega (arith, ints)
-quotient-remainder (negsuc a) (pos b) positive = omega (arith, ints)
-quotient-remainder a (negsuc b) positive = absurd (omega (arith, linear))
-
 -- the ceiling is the quotient where the remainder is 0
 pub IsCeiling-int_div_euclid : (a b : ℤ) → pos 0 <ℤ b → int_rem_euclid a b ≡ pos 0 → IsCeiling a b (int_div_euclid a b)
 IsCeiling-int_div_euclid a b positive none = grind (arith, ints, positive, none)
@@ -79,9 +62,6 @@ pub IsCeiling-int_div_euclid_next : (a b : ℤ) → pos 0 <ℤ b → int_rem_euc
 IsCeiling-int_div_euclid_next a b positive some = grind (arith, ints, positive, some)
 
 -- ---- the quotient rounded up, as a number
-neg_neg : (a : ℤ) → neg_ℤ (neg_ℤ a) ≡ a
-neg_neg a = omega (arith, linear)
-
 pub quotient_up-is : (a b : ℤ) → pos 0 <ℤ b → IsCeiling a b (quotient_up a b)
 quotient_up-is a b positive = grind (arith, ints, positive)
 

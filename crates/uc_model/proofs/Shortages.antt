@@ -12,9 +12,9 @@ use Rattle.uc_model.specs.Cost.{shortage_cost}
 use Rattle.uc_model.specs.PrintedSchedule.{Printed, LacksNothing, watt_denominator, shed_at, short_at, printed_schedule, printed_shortage_cost}
 use Rattle.uc_model.specs.Limits.{greatest_shortage_cost}
 use Rattle.uc_model.proofs.Ring.{linear, mul-add, mul_comm, mul_assoc, mul_left_comm, mul-zero, mul_nonneg, scale-le-scale, le_from_mul, pos_nonneg, pos-mul, add-le-add}
-use Rattle.uc_model.proofs.Sums.{sum_below-le, sum_below-add, sum_below-mul_left, sum_below-zero, sum_below_nonneg}
+use Rattle.uc_model.proofs.Sums.{sum_below-le, sum_below-add, sum_below-mul_left, sum_below_nonneg}
 use Rattle.uc_model.proofs.Obeyed.{rule_at}
-use Rattle.uc_model.proofs.Quotients.{IsCeiling-least, quotient_up-is, quotient_up-one}
+use Rattle.uc_model.proofs.Quotients.{IsCeiling-least, quotient_up-is}
 
 -- ---- the parts of M16 and M17
 pub record IsShortage (q price : ℕ) (most missing : ℤ) : Type 0 where
@@ -172,16 +172,3 @@ no_shed periods printed t none ht = ap (λ powers. slice_index_or powers t (pos 
 
 pub no_short : (periods : ℕ) (printed : Printed) (t : ℕ) → LacksNothing periods printed → t < periods → short_at printed t ≡ pos 0
 no_short periods printed t none ht = ap (λ powers. slice_index_or powers t (pos 0)) none.short ∙ get_or-replicate periods t (pos 0) (pos 0) ht
-
-pub no_shortage_cost : (instance : Instance) (printed : Printed) → LacksNothing instance.periods printed
-    → sum_below instance.periods (printed_shortage_cost instance printed) ≡ pos 0
-no_shortage_cost instance printed none =
-    sum_below-zero instance.periods (printed_shortage_cost instance printed) (λ t ht.
-    let shed = free instance.a (shed_at printed t) (no_shed instance.periods printed t none ht) in
-    let short = free instance.b (short_at printed t) (no_short instance.periods printed t none ht) in
-    omega (arith, linear))
-  where
-    free : (price : ℕ) (missing : ℤ) → missing ≡ pos 0 → quotient_up (pos price *ℤ missing) (pos (watt_denominator printed)) ≡ pos 0
-    free price missing nothing =
-        ap (λ d. quotient_up (pos price *ℤ missing) (pos d)) none.denominator ∙ quotient_up-one (pos price *ℤ missing)
-        ∙ ap (λ z. pos price *ℤ z) nothing ∙ mul-zero (pos price)

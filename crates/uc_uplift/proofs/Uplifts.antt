@@ -1,7 +1,7 @@
 -- What a certificate that was checked gives for uplifts, and how a run of `uplift` ends by its steps: reading and checking (from the
 -- files f to h), picking schedule and table, the uplifts, and the report.
 use Rattle.std.proofs.Common.{◌≡◌, ◌∙◌, ℕ, zero, suc, ◌<◌, ◌≤◌, ◌-◌, length, get_or, true, List, All, refl, sym, ap, subst, inr, ⊎_elim, arith, Some, None}
-use Rattle.std.proofs.lemmas.Option.{none-some, get_or_from_slice_get, slice_get_within, slice_get_past, slice_get-get_or}
+use Rattle.std.proofs.lemmas.Option.{none-some, get_or_from_slice_get, slice_get_within, slice_get-get_or}
 use Rattle.std.specs.Option.{IfSome}
 use Rattle.dual_model.specs.Prelude.{Certificate, IsLawfulTable}
 use Rattle.outside.specs.declared.slot.Slot.TheVariants as slot
@@ -133,7 +133,3 @@ pub named : (tables : List Table) (number : ℕ) (table : Table) → 0 < number 
 named tables zero table some within is = absurd (omega arith)
 named tables (suc i) table some within is =
     ap Some (is table ∙ ap (λ n. get_or tables n table) (omega arith)) ∙ sym (slice_get-get_or tables i table within)
-
-pub unnamed : (tables : List Table) (number : ℕ) → length tables < number → None ≡ table_of tables number
-unnamed tables zero past = absurd (omega arith)
-unnamed tables (suc i) past = sym (slice_get_past tables i (omega arith))

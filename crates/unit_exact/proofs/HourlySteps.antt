@@ -72,10 +72,6 @@ hourly-more periods table unit terms on t before new so_far is ramps =
       last = sym (ap (λ (g : Given). g.output) same);
     }
 
-pub hourly-all : (periods : ℕ) (table : Table) (unit : Thermal) (terms : Terms) (on : Commitment) (t : ℕ) (before : ℤ) → t ≡ periods
-    → IsHourlyTo periods table unit terms on t before → IsHourly periods table unit terms on
-hourly-all periods table unit terms on t before whole so_far = grind (arith, ints, whole, so_far)
-
 -- ---- one hour
 -- what reserve earns at its price: nothing is taken where that isn't above 0
 earns : (mu worth reserve : ℤ) → worth ≡ int_max mu (pos 0) → (worth ≡ pos 0 → reserve ≡ pos 0) → mu *ℤ reserve ≡ worth *ℤ reserve

@@ -74,10 +74,6 @@ pub hours-size : (n periods : ℕ) → n < periods → periods ≤ 168 → MAX_H
 hours-size n periods l few = omega (arith, l, few)
 
 -- ---- room
-pub room-more : (n periods x count runs room : ℕ) → n < periods → count ≤ n * (x + 2) → runs ≤ x → ((periods + 2) * (x + 2)) ≤ room
-    → count + runs + 2 < room
-room-more n periods x count runs room l pieces few enough = grind (arith, l, pieces, few, enough)
-
 pub pieces-more : (n x old runs new : ℕ) → old ≤ n * (x + 2) → runs ≤ x → new ≤ old + runs + 2 → new ≤ suc n * (x + 2)
 pieces-more n x old runs new pieces few more = grind (arith, pieces, few, more)
 

@@ -1,6 +1,5 @@
 -- The least way by its first switch: what is known of the earlier ones, the next one, and those behind it.
-use Rattle.std.proofs.Common.{◌≡◌, ℕ, suc, ◌-◌, ◌<◌, Bool, false, not, ◌==◌, sym, ap, ◌∙◌, arith, ℤ, ◌≤ℤ◌, IsTrue, Option, Some, None, if◌then◌else◌}
-use Rattle.std.specs.Int.{int_min}
+use Rattle.std.proofs.Common.{◌≡◌, ℕ, suc, ◌-◌, ◌<◌, Bool, false, not, ◌==◌, sym, ap, ◌∙◌, arith, ℤ, IsTrue, Option, Some, None, if◌then◌else◌}
 use Rattle.std.proofs.lemmas.Int.{ints}
 use Rattle.std.proofs.lemmas.Bool.{cond-true, cond-false, eq-eqb, ne_eqb}
 use Rattle.dual_model.specs.CostToGo.{lesser_of, total_of}
@@ -12,9 +11,6 @@ use Rattle.unit_exact.specs.inside.Problems.{Table, Thermal}
 use Rattle.unit_exact.specs.inside.Switches.{switch_total}
 
 -- ---- the lesser of several
-min_first : (a b : ℤ) → a ≤ℤ b → int_min a b ≡ a
-min_first a b h = grind (arith, ints)
-
 -- what is found below what is known is as good as the cost
 pub lesser-below : (known cost found : Option ℤ) → IsCostBelow known cost found → lesser_of known found ≡ lesser_of known cost
 lesser-below known cost found is = grind (arith, ints, is)

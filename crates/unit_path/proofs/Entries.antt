@@ -1,5 +1,5 @@
 -- What the table says of a period from which a way goes on, be it one of the horizon or its end.
-use Rattle.std.proofs.Common.{◌≡◌, ℕ, ◌<◌, ◌≤◌, true, Bool, List, arith}
+use Rattle.std.proofs.Common.{◌≡◌, ℕ, ◌<◌, ◌≤◌, true, List, arith}
 use Rattle.uc_model.specs.Prelude.{period_count, may_start, may_stop}
 use Rattle.dual_model.specs.Prelude.{may_be_off, may_be_on}
 use Rattle.unit_path.specs.inside.Choices.{Fix, Terms, Thermal, IsLeastStart, IsLeastStop}
@@ -14,9 +14,6 @@ pub cold_start-entry : (terms : Terms) (unit : Thermal) (fix : Fix) (from : ℕ)
     → (since t : ℕ) → from ≤ t → since ≤ t → t ≤ period_count terms → (t < period_count terms → may_start unit since t ≡ true) → (t < period_count terms → IsCold unit since t)
     → IsLeastStart terms unit fix since t (hour_in hours t).cold_start
 cold_start-entry terms unit fix from hours table since t low h high may cold = grind (arith, table, low, h, high, may, cold)
-
-until-end : (may : ℕ → Bool) (periods t until : ℕ) → periods ≡ t → until ≡ periods → IsUntil may periods t until
-until-end may periods t until e u = grind (arith, e, u)
 
 pub on_until-entry : (terms : Terms) (unit : Thermal) (fix : Fix) (from : ℕ) (hours : List Hour) → IsTableFrom terms unit fix from hours
     → (t : ℕ) → from ≤ t → t ≤ period_count terms → IsUntil (may_be_on fix) (period_count terms) t (hour_in hours t).on_until

@@ -1,6 +1,6 @@
 -- What the last stop adds to the start categories: those whose lags the gap since then lies between. So a start costs the least
 -- of what it costs without a stop in the horizon and of these, and after a longer gap than any lag nothing is added.
-use Rattle.std.proofs.Common.{◌≡◌, ℕ, zero, suc, ◌+◌, ◌-◌, ◌<◌, ◌≤◌, Bool, true, false, ◌&&◌, ◌||◌, cond, refl, sym, ap, ◌∙◌, arith, ℤ, Some, None, nat_lt, nat_le}
+use Rattle.std.proofs.Common.{◌≡◌, ℕ, zero, suc, ◌+◌, ◌-◌, ◌<◌, ◌≤◌, Bool, true, false, ◌&&◌, ◌||◌, cond, refl, sym, ap, ◌∙◌, arith, ℤ, Some, None, nat_le}
 use Rattle.std.specs.Int.{int_min}
 use Rattle.std.proofs.lemmas.Int.{ints}
 use Rattle.std.proofs.lemmas.Bool.{lt-leb, ltb-true}
@@ -55,14 +55,8 @@ not_added true true near free e = e refl
 not_added true false near free e = refl
 not_added false ordered near free e = refl
 
-near-below : (gap lag t l : ℕ) → t - l ≡ gap → 1 ≤ lag → nat_le (t - l) (lag - 1) ≡ nat_lt gap lag
-near-below gap lag t l e some = grind (arith, ints, e, some)
-
 lag-next : (unit : Thermal) (s : ℕ) → category_lag unit (suc (suc s)) ≡ (row_of unit.startup (suc s)).lag
 lag-next unit s = let e : suc (suc s) - 1 ≡ suc s = omega arith in ap (λ k. (row_of unit.startup k).lag) e
-
-lag-own : (unit : Thermal) (s : ℕ) → category_lag unit (suc s) ≡ (row_of unit.startup s).lag
-lag-own unit s = let e : suc s - 1 ≡ s = omega arith in ap (λ k. (row_of unit.startup k).lag) e
 
 may_cost-gap : (unit : Thermal) (gap t s : ℕ) → gap ≤ t
     → may_cost_as unit (Some (t - gap)) t s ≡ (may_cost_as unit None t s || is_within_lags unit.startup s gap t)
@@ -87,8 +81,3 @@ pub sigma-cold_since : (unit : Thermal) (since t longest : ℕ) → 0 < since �
 sigma-cold_since unit zero t longest some most h = absurd (omega arith)
 sigma-cold_since unit (suc l) t longest some most h =
     sigma-cold unit l t longest most (omega (arith, (let e : suc l - 1 ≡ l = omega arith in e)))
-
-pub sigma-gap_since : (unit : Thermal) (since t : ℕ) → 0 < since → since ≤ suc t
-    → sigma unit (Some (t - (t - (since - 1)))) t ≡ sigma unit (stop_since since) t
-sigma-gap_since unit zero t some h = absurd (omega arith)
-sigma-gap_since unit (suc l) t some h = ap (λ k. sigma unit (Some k) t) (omega arith)

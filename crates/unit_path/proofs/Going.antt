@@ -3,19 +3,13 @@ use Rattle.std.proofs.Common.{◌≡◌, ℕ, suc, ◌-◌, ◌<◌, ◌≤◌, 
 use Rattle.std.proofs.lemmas.Bool.{cond-true, cond-false, eq-eqb, ne_eqb}
 use Rattle.uc_model.specs.Prelude.{IsLawfulThermal, period_count}
 use Rattle.dual_model.specs.Prelude.{AreSizedTerms, move, cost_to_go, end_cost, IsWithin, MAX_COST_TO_GO}
-use Rattle.dual_model.specs.CostToGo.{lesser_of, since_after, total_of}
+use Rattle.dual_model.specs.CostToGo.{lesser_of, total_of}
 use Rattle.dual_model.proofs.CostSizes.{cost_to_go-fits}
 use Rattle.unit_path.specs.inside.Choices.{Fix, Terms, Thermal, start_total, stop_cost}
 
 -- the least cost of going on from a state before period t
 abbrev pub to_go : Terms → Thermal → Fix → ℕ → Bool → ℕ → Option ℤ
 to_go terms unit fix t was since = cost_to_go terms unit fix (period_count terms - t) t was since
-
-pub to_go-step : (terms : Terms) (unit : Thermal) (fix : Fix) (t : ℕ) → t < period_count terms → (was : Bool) (since : ℕ)
-    → to_go terms unit fix t was since
-    ≡ lesser_of (total_of (move terms unit fix t was since true) (to_go terms unit fix (suc t) true (since_after was since true t)))
-    (total_of (move terms unit fix t was since false) (to_go terms unit fix (suc t) false (since_after was since false t)))
-to_go-step terms unit fix t h was since = grind (arith, h)
 
 pub to_go-end : (terms : Terms) (unit : Thermal) (fix : Fix) (t : ℕ) → t ≡ period_count terms → (was : Bool) (since : ℕ)
     → to_go terms unit fix t was since ≡ end_cost terms unit t was since

@@ -13,13 +13,6 @@ use Rattle.unit_path.proofs.RestLaws.{lasted-later, off-barred, off-free, rest-u
 use Rattle.unit_path.proofs.Switched.{start-total_of}
 
 -- ---- chosen starts
--- a start behind a rest that costs nothing
-pub start-at : (terms : Terms) (unit : Thermal) (fix : Fix) (since t : ℕ) (at : Option ℕ) (cost : ℤ) → t ≤ unwrap_or at (period_count terms)
-    → unwrap_or at (period_count terms) ≤ period_count terms → rests terms unit fix since t (unwrap_or at (period_count terms) - t) ≡ Some (pos 0)
-    → start_total terms unit fix since (unwrap_or at (period_count terms)) ≡ Some cost
-    → IsStart terms unit fix since t (record { cost = cost; at = at })
-start-at terms unit fix since t at cost low high free is = grind (arith, low, high, free, is)
-
 pub start-further : (terms : Terms) (unit : Thermal) (fix : Fix) (since t from : ℕ) (choice : Option Choice) → t ≤ from
     → rests terms unit fix since t (from - t) ≡ Some (pos 0) → IfSome choice (IsStart terms unit fix since from) → IfSome choice (IsStart terms unit fix since t)
 start-further terms unit fix since t from None h free start = tt

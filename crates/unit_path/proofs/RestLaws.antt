@@ -18,9 +18,6 @@ lasted-later left most (suc s) t k h may = let low = leb-true (s + most) t may i
 pub rest-allowed : (terms : Terms) (unit : Thermal) (fix : Fix) (since t : ℕ) → may_be_off unit fix t ≡ true → move terms unit fix t false since false ≡ Some (pos 0)
 rest-allowed terms unit fix since t e = cond-true (may_be_off unit fix t) (Some (pos 0)) None e
 
-pub rest-barred : (terms : Terms) (unit : Thermal) (fix : Fix) (since t : ℕ) → may_be_off unit fix t ≡ false → move terms unit fix t false since false ≡ None
-rest-barred terms unit fix since t e = cond-false (may_be_off unit fix t) (Some (pos 0)) None e
-
 pub start-barred : (terms : Terms) (unit : Thermal) (fix : Fix) (since t : ℕ) → may_start unit since t ≡ false → move terms unit fix t false since true ≡ None
 start-barred terms unit fix since t e = grind (arith, e)
 

@@ -1,7 +1,7 @@
 -- A run of on hours on the least way: how it splits, and that until it may end it has to go on.
-use Rattle.std.proofs.Common.{◌≡◌, ℕ, suc, ◌+◌, ◌-◌, ◌*◌, ◌<◌, ◌≤◌, Bool, true, false, ◌&&◌, sym, ap, ◌∙◌, arith, ℤ, ◌+ℤ◌, to_z, of_z, FitsSigned, Some, None, ◌==◌, nat_lt, unsigned_abs}
+use Rattle.std.proofs.Common.{◌≡◌, ℕ, suc, ◌+◌, ◌-◌, ◌*◌, ◌<◌, ◌≤◌, true, false, ◌&&◌, sym, ap, ◌∙◌, arith, ℤ, ◌+ℤ◌, to_z, of_z, FitsSigned, Some, None, ◌==◌, unsigned_abs}
 use Rattle.std.specs.Int.{w128}
-use Rattle.std.proofs.lemmas.Bool.{cond-false, lt-ltb, ne_eqb, or_left}
+use Rattle.std.proofs.lemmas.Bool.{cond-false}
 use Rattle.uc_model.specs.declared.limits.TheConstants.{MAX_PERIODS}
 use Rattle.uc_model.proofs.Common.{abs_add}
 use Rattle.uc_model.proofs.Sizes.{wide}
@@ -9,7 +9,7 @@ use Rattle.uc_model.specs.Prelude.{period_count, may_stop}
 use Rattle.dual_model.specs.Prelude.{end_cost, holds_initially, hour_before, may_be_on, move, MAX_MOVE}
 use Rattle.dual_model.specs.CostToGo.{lesser_of, total_of}
 use Rattle.unit_path.specs.inside.Choices.{Fix, Terms, Thermal, stays, stop_cost}
-use Rattle.unit_path.specs.inside.Hours.{leave_cost, stay_cost}
+use Rattle.unit_path.specs.inside.Hours.{leave_cost}
 use Rattle.dual_model.proofs.Costs.{lesser-comm, total-assoc, total-none, total-zero}
 use Rattle.dual_model.proofs.Following.{forced-to, lasting-split}
 use Rattle.unit_path.proofs.Going.{on-step, to_go}
@@ -26,15 +26,6 @@ stop-barred terms unit fix since t e = grind (arith, e)
 pub stop-allowed : (terms : Terms) (unit : Thermal) (fix : Fix) (since t : ℕ) → may_stop unit since t ≡ true
     → move terms unit fix t true since false ≡ leave_cost terms unit fix t (since == t)
 stop-allowed terms unit fix since t e = grind (arith, e)
-
--- the moves of a unit that has been on since an earlier period
-pub stay-later : (terms : Terms) (unit : Thermal) (fix : Fix) (since t : ℕ) → since < t
-    → move terms unit fix t true since true ≡ stay_cost terms unit fix t false
-stay-later terms unit fix since t h = ap (λ b. stay_cost terms unit fix t b) (ne_eqb since t (λ e. omega arith))
-
--- M7 says something of the first period alone
-pub holds-later : (unit : Thermal) (t : ℕ) (stop : Bool) → 0 < t → holds_initially unit t stop ≡ true
-holds-later unit t stop h = or_left (nat_lt 0 t) _ (lt-ltb 0 t h)
 
 -- where it may be on, it costs the hour before to stay on, of a later period
 pub stay-hour : (terms : Terms) (unit : Thermal) (fix : Fix) (since t : ℕ) → since < t → may_be_on fix t ≡ true

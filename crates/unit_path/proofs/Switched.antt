@@ -1,21 +1,12 @@
 -- The entries of a switch in the table, as the least ways behind them.
-use Rattle.std.proofs.Common.{arith, ◌≡◌, ℕ, suc, ◌<◌, Bool, true, false, ◌*ℤ◌, Option, Some, None, ◌==◌}
+use Rattle.std.proofs.Common.{arith, ◌≡◌, ℕ, ◌<◌, true, ◌*ℤ◌, Option, Some, ◌==◌}
 use Rattle.std.proofs.lemmas.Bool.{cases_Bool, cond-true, cond-false}
 use Rattle.uc_model.specs.Prelude.{sigma, period_count, may_start, may_stop}
-use Rattle.dual_model.specs.Prelude.{may_be_off, stop_since, IsWithin, MAX_COST_TO_GO}
+use Rattle.dual_model.specs.Prelude.{stop_since, IsWithin, MAX_COST_TO_GO}
 use Rattle.dual_model.specs.CostToGo.{total_of}
 use Rattle.unit_path.specs.inside.Choices.{Fix, Terms, Thermal, Choice, choice_cost, start_total, stop_cost}
 use Rattle.unit_path.specs.inside.Hours.{leave_cost, IsStartIn, IsStopIn}
 use Rattle.unit_path.proofs.Going.{start_total-at, to_go}
-
-pub leave-barred : (terms : Terms) (unit : Thermal) (fix : Fix) (t : ℕ) (start : Bool) → may_be_off unit fix t ≡ false → leave_cost terms unit fix t start ≡ None
-leave-barred terms unit fix t start e = grind (arith, e)
-
--- a stop's way costs the entry's, where the unit may stop
-pub stop-in : (terms : Terms) (unit : Thermal) (fix : Fix) (t : ℕ) (start : Bool) (choice : Option Choice) → IsStopIn terms unit fix t choice
-    → total_of (leave_cost terms unit fix t start) (choice_cost choice)
-    ≡ total_of (leave_cost terms unit fix t start) (to_go terms unit fix (suc t) false (suc t))
-stop-in terms unit fix t start choice entry = grind (arith, entry)
 
 pub stop-total : (terms : Terms) (unit : Thermal) (fix : Fix) (since t : ℕ) (choice : Option Choice) → t < period_count terms
     → may_stop unit since t ≡ true → IsStopIn terms unit fix t choice
@@ -24,9 +15,6 @@ stop-total terms unit fix since t choice h may entry = grind (arith, h, may, ent
 
 pub start-fits : (terms : Terms) (unit : Thermal) (fix : Fix) (t : ℕ) (choice : Option Choice) → IsStartIn terms unit fix t choice → IsWithin MAX_COST_TO_GO (choice_cost choice)
 start-fits terms unit fix t choice entry = grind (arith, entry)
-
-pub stop-fits : (terms : Terms) (unit : Thermal) (fix : Fix) (t : ℕ) (choice : Option Choice) → IsStopIn terms unit fix t choice → IsWithin MAX_COST_TO_GO (choice_cost choice)
-stop-fits terms unit fix t choice entry = grind (arith, entry)
 
 -- a start's way, where the unit has been off for long enough
 pub start-total_of : (terms : Terms) (unit : Thermal) (fix : Fix) (since t : ℕ) (choice : Option Choice) → t < period_count terms

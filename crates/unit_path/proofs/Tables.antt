@@ -45,11 +45,6 @@ until-step may periods t next until h on off later = grind (arith, ints, h, on, 
 moves-fit : (n : ℕ) (cost : Option ℤ) → n ≤ 168 → IsWithin (MAX_MOVE * n + MAX_MOVE) cost → IsWithin MAX_COST_TO_GO cost
 moves-fit n cost h size = more_room (MAX_MOVE * n + MAX_MOVE) MAX_COST_TO_GO cost (omega arith) size
 
--- of a way that the table has for each period and for the end
-table-moves : (terms : Terms) (way : ℕ → Option Choice) → IsWithinMoves 0 (way (period_count terms)) → (t : ℕ) → t ≤ period_count terms
-    → (t < period_count terms → IsWithinMoves (period_count terms - t) (way t)) → IsWithinMoves (period_count terms - t) (way t)
-table-moves terms way end t high hour = grind (arith, ints, end, high, hour)
-
 pub onward-moves : (terms : Terms) (unit : Thermal) (fix : Fix) (from : ℕ) (hours : List Hour) → IsTableFrom terms unit fix from hours
     → (t : ℕ) → from ≤ t → t ≤ period_count terms → IsWithinMoves (period_count terms - t) (hour_in hours t).onward
 onward-moves terms unit fix from hours table t low high = grind (arith, ints, table, low, high)

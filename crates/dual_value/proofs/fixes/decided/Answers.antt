@@ -3,7 +3,7 @@ use Rattle.std.proofs.Common.{arith, ◌≡◌, true}
 use Rattle.uc_model.specs.Prelude.{commitment_of}
 use Rattle.dual_value.proofs.FixBits.{decided-against, decided-with, differ, plain-more, IsMore}
 use Rattle.dual_value.proofs.fixes.decided.Goals as goal
-use Rattle.dual_value.proofs.fixes.decided.Goals.{After-switch_on, else-is_on-via-then-is_on+else-is_on-fixing, else-is_on-via-else-is_on}
+use Rattle.dual_value.proofs.fixes.decided.Goals.{After-switch_on}
 
 -- what was decided of the period is the same
 same : (c : After-switch_on) → commitment_of c.args.fix.now.known c.args.fixing.now.t ≡ true → commitment_of c.args.fix.now.on c.args.fixing.now.t ≡ c.args.fixing.now.on

@@ -1,21 +1,11 @@
 -- The ends move by the ramps, and each value is one that was there.
-use Rattle.std.proofs.Common.{◌≡◌, ◌*◌, ◌≤◌, subst, arith, ◌+ℤ◌, ◌-ℤ◌, to_z, of_z, unsigned_abs}
+use Rattle.std.proofs.Common.{◌≡◌, subst, arith, ◌+ℤ◌, ◌-ℤ◌, to_z, of_z}
 use Rattle.std.specs.Int.{w64}
 use Rattle.std.proofs.lemmas.Int.{ints}
-use Rattle.uc_model.proofs.Common.{linear}
-use Rattle.step_functions.specs.Functions.{Steps, IsLeastBetween, last_place, value_at}
-use Rattle.hull_function.specs.Hours.{IsNear}
-use Rattle.hull_function.specs.Problems.{MAX_POWER}
+use Rattle.step_functions.specs.Functions.{IsLeastBetween, last_place, value_at}
 use Rattle.hull_function.proofs.HourSums.{limit-is}
 use Rattle.hull_function.proofs.Represented.{ramped}
 use Rattle.hull_function.proofs.costs.spread.Goals as goal
-
--- ends of the function lie near
-first_near : (f : Steps) → IsNear 3 f → unsigned_abs f.first ≤ 3 * MAX_POWER
-first_near f near = near f.first (record { low = omega (arith, linear); high = omega (arith, linear) })
-
-last_near : (f : Steps) → IsNear 3 f → unsigned_abs (last_place f) ≤ 3 * MAX_POWER
-last_near f near = near (last_place f) (record { low = omega (arith, linear); high = omega (arith, linear) })
 
 pub ramp-requires-clause-first : goal.ramp-requires-clause-first
 ramp-requires-clause-first c = grind (arith, ints, c)

@@ -14,10 +14,6 @@ use Rattle.leaf_values.proofs.GainSteps.{entries-with, entry-read, exact-read, g
 use Rattle.leaf_values.proofs.exact.reaches_from.Goals as goal
 use Rattle.leaf_values.proofs.exact.reaches_from.Goals.{After-is_reached}
 
--- a unit of the loop is one of the instance
-unit-known : (g end len long count : ℕ) → g < end → end ≡ len → len ≡ long → long ≡ count → g < count
-unit-known g end len long count before is same all = omega (arith, before, is, same, all)
-
 known_unit : (c : After-is_reached) → c.loop-g.g < thermal_count c.args.instance.now
 known_unit c = grind arith
 

@@ -1,5 +1,5 @@
 -- Each place holds its cell's term.
-use Rattle.std.proofs.Common.{arith, ◌≡◌, ℕ, ◌<◌, ◌≤◌, Bool, true, false, ℤ, pos, lit<, Option, None, IfSome, List, slice_index_or, unsigned_abs}
+use Rattle.std.proofs.Common.{arith, ◌≡◌, ℕ, ◌<◌, ◌≤◌, Bool, ℤ, pos, lit<, Option, None, IfSome, List, slice_index_or, unsigned_abs}
 use Rattle.std.specs.Int.{w64}
 use Rattle.std.proofs.lemmas.Int.{to_z-of_z}
 use Rattle.uc_model.specs.declared.instance.Thermal.{Thermal}
@@ -10,12 +10,6 @@ use Rattle.dual_model.specs.declared.limits.TheConstants.{MAX_UNIT_PRICE}
 use Rattle.uc_model.specs.Prelude.{place, cell_cap}
 use Rattle.dual_model.specs.Prelude.{IsCellTerm, IsTermOfRow}
 use Rattle.period_term.proofs.unit_terms.period_terms.Goals as goal
-
-place-within : (s e : Bool) → place s e < 4
-place-within false false = lit< tt
-place-within true false = lit< tt
-place-within false true = lit< tt
-place-within true true = lit< tt
 
 -- the terms of four caps, of which each is that of its cell
 in_places : (periods : ℕ) (unit : Thermal) (k : ℤ) (row : ℤ × ℤ × ℤ) (t : ℕ) (caps : List ℤ) (terms : List (Option ℤ))

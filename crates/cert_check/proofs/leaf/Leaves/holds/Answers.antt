@@ -1,5 +1,5 @@
 -- The least value says whether it holds; where there is none the scale is another.
-use Rattle.std.proofs.Common.{arith, ◌≡◌, ℤ, Option, Some, None, MatchOption, subst}
+use Rattle.std.proofs.Common.{arith, ◌≡◌, ℤ, Option, Some, MatchOption, subst}
 use Rattle.leaf_values.specs.declared.least.Least.{Least}
 use Rattle.cert_check.specs.inside.Leaves.{Claim, FitsScale, IsLeastFor}
 use Rattle.cert_check.proofs.LeafNumbers.{holds-by-least}
@@ -9,9 +9,6 @@ use Rattle.cert_check.proofs.leaf.Leaves.holds.Goals as goal
 of-some : (k : ℤ) (claim : Claim) (answer : Option Least) (least : Least) → MatchOption answer (¬ FitsScale k claim) (IsLeastFor k claim) → answer ≡ Some least
     → IsLeastFor k claim least
 of-some k claim answer least told is = subst (λ o. MatchOption o (¬ FitsScale k claim) (IsLeastFor k claim)) is told
-
-of-none : (k : ℤ) (claim : Claim) (answer : Option Least) → MatchOption answer (¬ FitsScale k claim) (IsLeastFor k claim) → answer ≡ None → ¬ FitsScale k claim
-of-none k claim answer told is = subst (λ o. MatchOption o (¬ FitsScale k claim) (IsLeastFor k claim)) is told
 
 pub reaches-requires-clause-scale : goal.reaches-requires-clause-scale
 reaches-requires-clause-scale c = grind (arith, c)

@@ -7,17 +7,10 @@ use Rattle.std.proofs.lemmas.Int.{ints, clamps}
 use Rattle.step_functions.specs.Functions.{IsWithin, last_place}
 use Rattle.step_functions.proofs.function.ConvexFunction.cut.Goals as goal
 use Rattle.step_functions.proofs.function.ConvexFunction.cut.Goals.{After-last-last, After-max, After-min}
-use Rattle.step_functions.proofs.function.ConvexFunction.cut.Goals.{then-high-low-via-then-high-low, then-high-low-via-else-high-low+then-high-first, then-high-low-via-else-high-low+else-high-first+then-last-low}
 
 -- ---- what the comparisons say
-not-below : (a b : ℤ) → IsWithin a → IsWithin b → lt_z (to_z w64 (of_z w64 a)) (to_z w64 (of_z w64 b)) ≡ false → b ≤ℤ a
-not-below a b own other more = grind (arith, ints, own, other, more)
-
 below : (a b : ℤ) → IsWithin a → IsWithin b → lt_z (to_z w64 (of_z w64 a)) (to_z w64 (of_z w64 b)) ≡ true → b ≤ℤ a → ⊥
 below a b own other less more = grind (arith, ints, own, other, less, more)
-
-at-most : (a b : ℤ) → IsWithin a → IsWithin b → le_z (to_z w64 (of_z w64 a)) (to_z w64 (of_z w64 b)) ≡ true → a ≤ℤ b
-at-most a b own other less = grind (arith, ints, own, other, less)
 
 -- the ends of a function, as they are read
 record AreEnds (f l first last low high : ℤ) : Type 0 where
@@ -44,34 +37,17 @@ least : (l high : ℤ) → l ≤ℤ high → l ≡ int_min l high
 least l high h = omega (arith, ints, clamps)
 
 -- ---- the ends that are cut
-right-is : (l last high m : ℤ) → last ≡ l → IsWithin last → IsWithin high → m ≡ int_min (to_z w64 (of_z w64 high)) (to_z w64 (of_z w64 last))
-    → to_z w64 (of_z w64 m) ≡ int_min l high
-right-is l last high m same own other is = omega (arith, ints, clamps)
-
-left-is : (f first low m : ℤ) → first ≡ f → IsWithin first → IsWithin low → m ≡ int_max (to_z w64 (of_z w64 low)) (to_z w64 (of_z w64 first))
-    → to_z w64 (of_z w64 m) ≡ int_max f low
-left-is f first low m same own other is = omega (arith, ints, clamps)
-
 right : (c : After-min) → to_z w64 (of_z w64 c.min.result) ≡ int_min (last_place c.args.self.now) c.args.high
 right c = grind (arith, ints)
 
 left : (c : After-max) → to_z w64 (of_z w64 c.max.result) ≡ int_max c.args.self.now.first c.args.low
 left c = grind (arith, ints)
 
-right-low : (f l high : ℤ) (n : ℕ) → l ≡ f +ℤ pos n → f ≤ℤ high → f ≤ℤ int_min l high
-right-low f l high n is h = omega (arith, ints, clamps)
-
-right-high : (l high : ℤ) → int_min l high ≤ℤ l
-right-high l high = omega (arith, ints, clamps)
-
 left-low : (f low : ℤ) → f ≤ℤ int_max f low
 left-low f low = omega (arith, ints, clamps)
 
 left-high : (f l low high : ℤ) (n : ℕ) → l ≡ f +ℤ pos n → low ≤ℤ high → f ≤ℤ high → low ≤ℤ l → int_max f low ≤ℤ int_min l high
 left-high f l low high n is a b c = omega (arith, ints, clamps)
-
-within-left : (f low n p : ℤ) → n ≡ int_max f low → n ≤ℤ p → f ≤ℤ p
-within-left f low n p is h = omega (arith, ints, clamps)
 
 -- ---- none between
 pub returns-then-high-low-clause-some : goal.returns-then-high-low-clause-some

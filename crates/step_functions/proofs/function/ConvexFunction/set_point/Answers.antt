@@ -3,8 +3,7 @@ use Rattle.std.proofs.Common.{◌≡◌, ℕ, sym, ◌∙◌, arith, List, [], �
 use Rattle.std.proofs.lemmas.Int.{to_z-of_z}
 use Rattle.uc_model.proofs.Common.{add-zero}
 use Rattle.step_functions.specs.Runs.{Run}
-use Rattle.step_functions.specs.Functions.{Steps, IsSmall, IsWithin, value_at}
-use Rattle.step_functions.specs.inside.Kept.{IsKept}
+use Rattle.step_functions.specs.Functions.{Steps, value_at}
 use Rattle.step_functions.proofs.Values.{value_at-place}
 use Rattle.step_functions.proofs.function.ConvexFunction.set_point.Goals as goal
 
@@ -15,9 +14,6 @@ point_at place value room = record { first = place; value = value; runs = []; ro
 written : (first value place v : ℤ) (runs : List Run) (room n : ℕ) → first ≡ place → value ≡ v → runs ≡ [] → room ≡ n
     → (record { first = first; value = value; runs = runs; room = room }) ≡ point_at place v n
 written first value place v runs room n first_is value_is runs_are room_is = λ i. record { first = first_is i; value = value_is i; runs = runs_are i; room = room_is i }
-
-point-kept : (place value : ℤ) (room : ℕ) → IsWithin place → IsSmall value → IsKept (point_at place value room)
-point-kept place value room within small = grind (arith, within, small)
 
 point-value : (place value : ℤ) (room : ℕ) → value_at (point_at place value room) place ≡ value
 point-value place value room = value_at-place (point_at place value room) place 0 (sym (add-zero place)) ∙ add-zero value
