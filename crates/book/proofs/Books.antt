@@ -24,12 +24,8 @@ use Rattle.search_machine.specs.declared.event.Event.TheVariants as event
 use Rattle.search_machine.proofs.Claims.{IsHoldable, holdable, holder_place}
 use Rattle.search_machine.proofs.Growth.{tree_grows, leaf_part, holds_of_leaf}
 use Rattle.search_machine.proofs.OrderlySteps.{free_for, sound_of}
-use Rattle.book.specs.BookView.{BookView, state_of, opened}
-use Rattle.book.specs.Calls.{claimed, committed, given_back, MayBe}
-use Rattle.book.specs.Claims.{Claim, Status, Committed, GivenBack, holder_by, holders, claim_of, ended}
-use Rattle.book.specs.Opening.{Opening, IsTrueOpening, start_by}
-use Rattle.book.specs.Replay.{with_unit, number_of, replay, replayed}
-use Rattle.book.specs.Running.{IsReplayed, IsHeldOnce, IsRunning}
+use Rattle.book.specs.Prelude.{BookView, state_of, claimed, committed, given_back, MayBe, Claim, Status, Committed, GivenBack, holder_by, holders, claim_of, ended, Opening, IsTrueOpening, start_by, with_unit, number_of, replay, replayed, IsReplayed, IsHeldOnce, IsRunning}
+use Rattle.book.specs.BookView.{opened}
 use Rattle.book.specs.inside.Chains.{raised}
 use Rattle.book.specs.inside.Kept.{Rooms, IsKept}
 use Rattle.book.proofs.Scales.{scales_raised}

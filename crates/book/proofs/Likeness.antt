@@ -14,7 +14,7 @@ use Rattle.branch_tree.specs.declared.found.Outcome.{Outcome}
 use Rattle.uc_model.specs.declared.instance.Instance.{Instance}
 use Rattle.search_machine.specs.declared.event.Event.TheVariants as event
 use Rattle.search_machine.proofs.Claims.{one_held}
-use Rattle.book.specs.Replay.{with_unit}
+use Rattle.book.specs.Prelude.{with_unit}
 
 -- the state with other claims and desks, and with its log's units renamed
 abbrev pub renamed : (ℕ → ℕ) → List (Option Holder) → List WorkerState → Machine → Machine

@@ -5,8 +5,7 @@ use Rattle.std.proofs.lemmas.List.{map-append}
 use Rattle.search_machine.specs.Prelude.{IsHeldIn}
 use Rattle.search_machine.specs.declared.holder.Holder.{Holder}
 use Rattle.search_machine.proofs.Claims.{get_push_cases, get_set_cases, held_more, held_new, held_before, still_held, was_held}
-use Rattle.book.specs.Claims.{Claim, Held, holder_by, holder_of, holders}
-use Rattle.book.specs.Running.{IsHeldOnce}
+use Rattle.book.specs.Prelude.{Claim, Held, holder_by, holder_of, holders, IsHeldOnce}
 use Rattle.book.specs.inside.Kept.{AreNoted}
 
 -- ---- one node is held once

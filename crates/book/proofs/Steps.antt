@@ -14,12 +14,8 @@ use Rattle.uc_model.specs.declared.instance.Instance.{Instance}
 use Rattle.search_machine.specs.declared.event.Event.{Event}
 use Rattle.search_machine.specs.declared.event.Event.TheVariants as event
 use Rattle.search_machine.proofs.Claims.{get_push_last}
-use Rattle.book.specs.BookView.{BookView, Entry, Table, state_of, opened}
-use Rattle.book.specs.Calls.{claimed, committed, given_back}
-use Rattle.book.specs.Claims.{Claim, Status, Move, Held, Committed, GivenBack, holder_by, holder_of, holders, stays, kept_claims, are_kept, unit_anew, move_of, ended, IsRising}
-use Rattle.book.specs.Opening.{Opening, start_by}
-use Rattle.book.specs.Replay.{with_unit, number_of, log_anew, claim_event, commit_event, woven, replay, replayed}
-use Rattle.book.specs.Running.{IsMarked, IsReplayed}
+use Rattle.book.specs.Prelude.{BookView, Entry, Table, state_of, claimed, committed, given_back, Claim, Status, Move, Held, Committed, GivenBack, holder_by, holder_of, holders, stays, kept_claims, are_kept, unit_anew, move_of, ended, IsRising, Opening, start_by, with_unit, number_of, log_anew, claim_event, commit_event, woven, replay, replayed, IsMarked, IsReplayed}
+use Rattle.book.specs.BookView.{opened}
 use Rattle.book.proofs.LeftOut.{less_one, units_of, without, without_here, event_anew, run_anew, state_without, left_out, after_all-append, run_joined}
 use Rattle.book.proofs.Likeness.{StillHolds, legal_renamed, true_renamed, after_commit, committed_renamed}
 use Rattle.book.proofs.Units.{map_same, get_here, ended_part, anew_less, anew_push, kept_length, kept_flags, kept_with, kept_without, number_here, holders_with, holder_anew, kept_held, kept_fewer, marked_within, marked_push, push_move, marked_ended, same_move, here_move}

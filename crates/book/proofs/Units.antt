@@ -8,9 +8,7 @@ use Rattle.branch_tree.proofs.Changes.{from_some, get-append}
 use Rattle.search_machine.specs.Prelude.{holder_in, IsHeldIn}
 use Rattle.search_machine.specs.declared.holder.Holder.{Holder}
 use Rattle.search_machine.proofs.Claims.{holder_place}
-use Rattle.book.specs.BookView.{Entry}
-use Rattle.book.specs.Claims.{Claim, Status, Held, Committed, GivenBack, holder_by, holder_of, holders, IsHeldBy, stays, kept_claims, are_kept, unit_anew, no_claim, ended, move_by, move_of}
-use Rattle.book.specs.Running.{IsMarked}
+use Rattle.book.specs.Prelude.{Entry, Claim, Status, Held, Committed, GivenBack, holder_by, holder_of, holders, IsHeldBy, stays, kept_claims, are_kept, unit_anew, no_claim, ended, move_by, move_of, IsMarked}
 use Rattle.book.proofs.LeftOut.{less_one}
 
 -- ---- lists

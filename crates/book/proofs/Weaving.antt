@@ -6,8 +6,7 @@ use Rattle.std.proofs.lemmas.List.{take-append-drop, take-append-le, drop-append
 use Rattle.std.proofs.lemmas.List.Sums.{sum_by-append, sum_by-cons, sum_by-take-drop}
 use Rattle.search_machine.specs.declared.event.Event.{Event}
 use Rattle.search_machine.specs.declared.event.Event.TheVariants as event
-use Rattle.book.specs.Claims.{Claim, Status, stays, kept_claims, IsRising}
-use Rattle.book.specs.Replay.{claim_event, woven}
+use Rattle.book.specs.Prelude.{Claim, Status, stays, kept_claims, IsRising, claim_event, woven}
 
 -- ---- rising lists
 pub rising_weak : (least less entries : ℕ) (claims : List Claim) → less ≤ least → IsRising least entries claims → IsRising less entries claims

@@ -6,3 +6,4 @@ pub mod Replay
 pub mod Running
 pub mod Calls
 pub mod inside
+pub mod Prelude

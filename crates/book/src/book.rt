@@ -71,10 +71,7 @@ impl<C: Case> Book<C> {
     ghost use Rattle.branch_tree.specs.NumberedTree.{node_count};
     ghost use Rattle.branch_tree.specs.StoredTree.{tree_bound};
     ghost use Rattle.branch_tree.specs.TreeView.{HasFreeCell, IsFreeAt};
-    ghost use Rattle.search_machine.specs.Machine.{IsOpen, IsHeld, IsHolding, entries_of};
-    ghost use Rattle.search_machine.specs.Moves.{kept, MayGoOn, MayPrune, IsMoveLegal};
-    ghost use Rattle.search_machine.specs.Runs.{IsTrueOutcome, IsSettled};
-    ghost use Rattle.search_machine.specs.Steps.{IsFresh, IsStoredTable};
+    ghost use Rattle.search_machine.specs.Prelude.{IsOpen, IsHeld, IsHolding, entries_of, kept, MayGoOn, MayPrune, IsMoveLegal, IsTrueOutcome, IsSettled, IsFresh, IsStoredTable};
     ghost use Rattle.book.specs.BookView.{state_of, opened};
     ghost use Rattle.book.specs.Calls.{IsClaimAnswer, IsUnitHeld, IsStoredAt, AreChildren, MayBe, IsCommitAnswer, IsAbandonAnswer, IsHeldUnit, claimed, committed, given_back};
     ghost use Rattle.book.specs.Opening.{IsTrueOpening};

@@ -63,7 +63,7 @@ impl Model for Claims {
 
 impl Claims {
     ghost use Rattle.std.specs.Prelude.{◌≡◌, ◌↔◌, ℕ, ◌+◌, ◌<◌, ◌++◌, ◌∷◌, [], IsTrue, IfOk, IfSome, None, length};
-    ghost use Rattle.search_machine.specs.Machine.{IsHeldIn};
+    ghost use Rattle.search_machine.specs.Prelude.{IsHeldIn};
     ghost use Rattle.book.specs.Claims.{Held, IsHeldBy, holders, holder_by, ended};
 
     /// No claims, with room for so many, over so many nodes.

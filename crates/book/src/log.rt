@@ -40,7 +40,7 @@ impl Model for Log {
 
 impl Log {
     ghost use Rattle.std.specs.Prelude.{◌≡◌, ◌↔◌, ◌<◌, ◌<ℤ◌, ◌++◌, ◌∷◌, [], pos, All, IsTrue, IfOk, length, replicate, slice_index_or};
-    ghost use Rattle.search_machine.specs.Machine.{entries_of};
+    ghost use Rattle.search_machine.specs.Prelude.{entries_of};
     ghost use Rattle.book.specs.inside.Chains.{IsElsewhere, raised};
 
     /// No entries, with room for so many, over so many nodes.

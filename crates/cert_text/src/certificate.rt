@@ -1,7 +1,7 @@
 //! A whole certificate, in the version of the format in which it is written.
 
 ghost use Rattle.std.specs.Prelude.{◌≡◌, OnOk, OnErr, if◌then◌else◌};
-ghost use Rattle.outside.specs.Sinks.{WriterWrites, WritesFront};
+ghost use Rattle.outside.specs.Prelude.{WriterWrites, WritesFront};
 ghost use Rattle.dual_model.specs.Prelude.{Certificate};
 ghost use Rattle.branch_tree.specs.Prelude.{HasLayout, certificate_of};
 ghost use Rattle.cert_text.specs.CertificateText.{Second, Third, version_line, size_line, claim_line, listing_of, written_text};

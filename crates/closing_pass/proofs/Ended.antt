@@ -11,13 +11,10 @@ use Rattle.branch_tree.specs.Prelude.{is_schedule_within, tree_bound, IsOpenAt, 
 use Rattle.branch_tree.proofs.Grown.{all_closed}
 use Rattle.search_machine.specs.Prelude.{IsHeld, IsOpen, IsBestWithin, TreeRunsHold}
 use Rattle.search_machine.proofs.TrueSteps.{closed_within}
-use Rattle.book.specs.BookView.{BookView, state_of}
-use Rattle.book.specs.Claims.{holder_of, holders, stays_by}
+use Rattle.book.specs.Prelude.{BookView, state_of, holder_of, holders, stays_by, Opening, IsRunning}
 use Rattle.book.specs.declared.claims.Claim.{Claim}
 use Rattle.book.specs.declared.claims.Status.{Status}
 use Rattle.book.specs.declared.claims.Status.TheVariants.{Held, Committed, GivenBack}
-use Rattle.book.specs.Opening.{Opening}
-use Rattle.book.specs.Running.{IsRunning}
 use Rattle.book.proofs.Books.{run_holds}
 use Rattle.search_desk.specs.Best.{cost_of}
 use Rattle.closing_pass.specs.Closings.{IsEnded, is_finished}

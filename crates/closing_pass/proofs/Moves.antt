@@ -8,7 +8,8 @@ use Rattle.branch_tree.specs.declared.found.Outcome.TheVariants as outcome
 use Rattle.search_machine.specs.Prelude.{stored_at, IsMoveLegal, MayGoOn, bound_of, kept, kept_after}
 use Rattle.search_machine.specs.declared.event.Move.{Move}
 use Rattle.search_machine.specs.declared.stored.Stored.{Stored}
-use Rattle.book.specs.BookView.{BookView, Table, state_of}
+use Rattle.book.specs.Prelude.{BookView, state_of}
+use Rattle.book.specs.BookView.{Table}
 use Rattle.search_desk.specs.Commits.{bound_after, move_of, open_move, value_move}
 
 -- ---- what the node stores then

@@ -12,10 +12,7 @@ use Rattle.branch_tree.specs.declared.found.Outcome.{Outcome}
 use Rattle.search_machine.specs.Prelude.{Machine, entries_of, stored_at, IsMoveLegal, IsFresh, TreeRunsHold}
 use Rattle.search_machine.specs.declared.event.Move.{Move}
 use Rattle.search_machine.proofs.TrueSteps.{NeverDecreases}
-use Rattle.book.specs.BookView.{BookView, state_of}
-use Rattle.book.specs.Calls.{IsCommitted, IsHeldUnit, IsStoredAt, MayCommit}
-use Rattle.book.specs.Opening.{Opening}
-use Rattle.book.specs.Running.{IsRunning}
+use Rattle.book.specs.Prelude.{BookView, state_of, IsCommitted, IsHeldUnit, IsStoredAt, MayCommit, Opening, IsRunning}
 use Rattle.opening.specs.Outcomes.{IsSized}
 use Rattle.closing_pass.specs.inside.Tables.{Instance, IsNewScale, IsTrialAt, Settling, Table, Trial}
 use Rattle.closing_pass.specs.Closings.{IsLeft}

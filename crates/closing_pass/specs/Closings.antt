@@ -2,8 +2,7 @@
 use Rattle.std.specs.Prelude.{Bool, true, ℕ, All, ℤ, Option, Some, None}
 use Rattle.uc_model.specs.declared.schedule.Printed.{Printed}
 use Rattle.branch_tree.specs.Prelude.{is_schedule_within}
-use Rattle.book.specs.BookView.{BookView}
-use Rattle.book.specs.Opening.{Opening}
+use Rattle.book.specs.Prelude.{BookView, Opening}
 use Rattle.search_desk.specs.Best.{cost_of}
 use Rattle.search_desk.specs.Desks.{IsKeptBy, IsKeptClaim}
 use Rattle.search_desk.specs.Grown.{IsSpentUnlessClosed}

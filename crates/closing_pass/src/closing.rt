@@ -3,7 +3,7 @@
 ghost use Rattle.std.specs.Prelude.{◌≡◌, ℕ, ◌≤◌, IfOk, IfSome, None};
 ghost use Rattle.uc_model.specs.declared.tolerance.TheConstants.{WHOLE_GAP};
 ghost use Rattle.branch_tree.specs.Prelude.{tree_bound};
-ghost use Rattle.book.specs.Calls.{IsHeldUnit};
+ghost use Rattle.book.specs.Prelude.{IsHeldUnit};
 ghost use Rattle.decided_nodes.specs.Pivoting.{uses_exact_dispatch};
 ghost use Rattle.found_schedule.specs.Found.{IsFoundIfAny};
 ghost use Rattle.search_desk.specs.Best.{IsNoWorse, cost_of};

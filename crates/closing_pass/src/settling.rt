@@ -7,8 +7,7 @@ ghost use Rattle.branch_tree.specs.Prelude.{node_count, IsNodeAt, HasFreeCell, I
 ghost use Rattle.dual_model.specs.Prelude.{IsNodeOf, IsLawfulTable};
 ghost use Rattle.search_machine.specs.Prelude.{entries_of, stored_at, IsMoveLegal, MayGoOn, IsTrueOutcome};
 ghost use Rattle.search_machine.specs.declared.limits.TheConstants.{MAX_BUDGET};
-ghost use Rattle.book.specs.BookView.{state_of};
-ghost use Rattle.book.specs.Calls.{IsCommitted, IsHeldUnit, MayCommit};
+ghost use Rattle.book.specs.Prelude.{state_of, IsCommitted, IsHeldUnit, MayCommit};
 ghost use Rattle.opening.specs.Outcomes.{IsOutcomeAt};
 ghost use Rattle.decided_nodes.specs.Pivoting.{uses_exact_dispatch};
 ghost use Rattle.decided_nodes.specs.declared.pivoting.Pivoting.TheVariants.{Exhaustive};

@@ -1,7 +1,7 @@
 -- How a run ends, by what is known of what it came to.
 use Rattle.std.proofs.Common.{sym, subst, inl, inr, Option, Result, Ok, Err, IfOk, IfErr}
-use Rattle.outside.specs.Sinks.{SinkState}
-use Rattle.command_runs.specs.Ending.{End, Failure, Fault, Found, Ends, IsFaulty, IsEndOf}
+use Rattle.outside.specs.Prelude.{SinkState}
+use Rattle.command_runs.specs.Prelude.{End, Failure, Fault, Found, Ends, IsFaulty, IsEndOf}
 
 pub faulty : (HasFailed : Fault → Option Found → Type 0) (failure : Failure) (before after : SinkState) (end : End)
     → HasFailed failure.fault failure.found → IsEndOf (Err failure) before after end → IsFaulty HasFailed before after end

@@ -3,9 +3,8 @@ use Rattle.std.proofs.Common.{◌≡◌, ℕ, ◌+◌, ◌≤◌, List, [], ◌+
 use Rattle.std.specs.Option.{option_map}
 use Rattle.outside.specs.declared.reading.SlurpFault.{SlurpFault}
 use Rattle.outside.specs.declared.reading.SlurpFault.TheVariants.{Failed, TooLong, NoMemory}
-use Rattle.outside.specs.Slots.{SlotState, CountsFault}
-use Rattle.outside.specs.Reading.{Reads, ReadsAll, ReadsBeyond, ReadsSome, FailsToRead}
-use Rattle.command_runs.specs.Reading.{Unopened, IsOnlyRead}
+use Rattle.outside.specs.Prelude.{SlotState, CountsFault, Reads, ReadsAll, ReadsBeyond, ReadsSome, FailsToRead}
+use Rattle.command_runs.specs.Prelude.{Unopened, IsOnlyRead}
 
 from_reads : (most : ℕ) (name taken : List ℕ) (old new : SlotState) → Reads name taken old new → length taken ≤ most + 1
     → IsOnlyRead most old new

@@ -1,6 +1,6 @@
 -- Why bytes were refused that stand for no instance, or for one whose shortages cost too much.
 use Rattle.std.proofs.Common.{◌≡◌, ◌∙◌, ℕ, List, inl, inr, sym, subst}
-use Rattle.command_runs.specs.Reading.{Fault, Json, Memory, ReadOptions, Refused, IsPriced, IsRefusal, too_dear}
+use Rattle.command_runs.specs.Prelude.{Fault, Json, Memory, ReadOptions, Refused, IsPriced, IsRefusal, too_dear}
 use Rattle.command_runs.specs.inside.Prices.{Instance, StandFor, HasNone, IsDear}
 
 pub none_given : (options : ReadOptions) (bytes : List ℕ) (fault : Fault) → HasNone options.exact bytes fault → IsRefusal options bytes fault

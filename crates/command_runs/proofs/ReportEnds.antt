@@ -2,7 +2,7 @@
 use Rattle.std.proofs.Common.{true, subst, sym, Result, Ok, Err, IfOk, IfErr, None}
 use Rattle.std.specs.Prelude.{OnOk, OnErr}
 use Rattle.report.specs.declared.fault.Fault.TheVariants.{Write}
-use Rattle.command_runs.specs.Ending.{End, Failure, IsReportEnd}
+use Rattle.command_runs.specs.Prelude.{End, Failure, IsReportEnd}
 
 pub told_end : {E : Type 0} (told : Result (Unit {0}) E) (ended : Result End Failure) (Told : Type 0) (IsDone : End → Type 0)
     → IsReportEnd told ended → OnOk told Told → (Told → IsDone (record { code = 0; found = None; rolled = None })) → IfOk ended IsDone

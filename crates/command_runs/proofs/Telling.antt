@@ -1,10 +1,8 @@
 -- A report that was written whole and could not be flushed.
 use Rattle.std.proofs.Common.{ℕ, List, sym, subst, ap}
-use Rattle.outside.specs.Counts.{HasRisen}
-use Rattle.outside.specs.ToldBytes.{Appends}
-use Rattle.outside.specs.Sinks.{SinkState, SinkWrites, SinkCountsFault}
+use Rattle.outside.specs.Prelude.{HasRisen, Appends, SinkState, SinkWrites, SinkCountsFault}
 use Rattle.outside.proofs.Appending.{all-appended}
-use Rattle.command_runs.specs.Writing.{FailsToTell}
+use Rattle.command_runs.specs.Prelude.{FailsToTell}
 
 pub unflushed : (text : List ℕ) (before written end : SinkState) → SinkWrites text before written → SinkCountsFault written end
     → FailsToTell text before end

@@ -1,8 +1,7 @@
 -- The cause of a fault in reading a slot is one of the instance's file, or of the certificate's.
 use Rattle.outside.specs.declared.slot.Slot.TheVariants as slot
-use Rattle.outside.specs.Slots.{SlotState}
-use Rattle.command_runs.specs.Certificates.{Fault, Long, Memory, Read, most_certificate_bytes, HasReadCause}
-use Rattle.command_runs.specs.Reading.{ReadOptions, most_bytes, HasCause}
+use Rattle.outside.specs.Prelude.{SlotState}
+use Rattle.command_runs.specs.Prelude.{Fault, Long, Memory, Read, most_certificate_bytes, HasReadCause, ReadOptions, most_bytes, HasCause}
 use Rattle.command_runs.specs.inside.Unread.{IsUnread}
 
 pub instance_cause : (options : ReadOptions) (old new : SlotState) (fault : Fault) → IsUnread slot.Instance most_bytes old new fault

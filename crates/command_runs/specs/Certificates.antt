@@ -2,9 +2,7 @@
 use Rattle.std.specs.Prelude.{◌≡◌, ℕ, ◌^◌, ◌≤◌, ⊤, List, length}
 use Rattle.dual_model.specs.Prelude.{Certificate}
 use Rattle.outside.specs.declared.slot.Slot.TheVariants as slot
-use Rattle.outside.specs.Counts.{HasRisen}
-use Rattle.outside.specs.ToldBytes.{Tells}
-use Rattle.outside.specs.Slots.{SlotState}
+use Rattle.outside.specs.Prelude.{HasRisen, Tells, SlotState}
 use Rattle.cert_text.specs.CertificateText.{certificate_text, listing_of}
 use Rattle.cert_text.specs.TextConditions.{HasText}
 use Rattle.cert_text.specs.Grammar.{IsKindAt}

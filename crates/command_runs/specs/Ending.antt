@@ -1,6 +1,6 @@
 -- How a run ends, by what it came to. This project's own.
 use Rattle.std.specs.Prelude.{◌≡◌, ◌⊎◌, true, Option, Result, Ok, Err, None}
-use Rattle.outside.specs.Sinks.{SinkState}
+use Rattle.outside.specs.Prelude.{SinkState}
 pub use Rattle.branch_tree.specs.declared.found.Found.{Found}
 use Rattle.report.specs.FaultText.{status_of}
 pub use Rattle.report.specs.declared.fault.Fault.{Fault}

@@ -4,3 +4,4 @@ pub mod Certificates
 pub mod Writing
 pub mod Ending
 pub mod inside
+pub mod Prelude

@@ -1,7 +1,6 @@
 -- The outside of a run, before it and after it.
 use Rattle.outside.specs.declared.slot.Slot.{Slot}
-use Rattle.outside.specs.Slots.{SlotState}
-use Rattle.outside.specs.Sinks.{SinkState}
+use Rattle.outside.specs.Prelude.{SlotState, SinkState}
 
 -- the outside of a run, as far as its traits tell it: the files, the output and the error output
 pub record Outside : Type 0 where

@@ -9,9 +9,7 @@ use Rattle.uc_model.specs.declared.field.Field.TheVariants.{NoField}
 use Rattle.uc_model.specs.declared.field_refusal.FieldRefusal.{FieldRefusal}
 use Rattle.outside.specs.declared.slot.Slot.TheVariants as slot
 pub use Rattle.outside.specs.declared.slot.Stage.TheVariants.{Unopened, Finished}
-use Rattle.outside.specs.Counts.{HasRisen}
-use Rattle.outside.specs.ToldBytes.{Tells}
-use Rattle.outside.specs.Slots.{SlotState, matched}
+use Rattle.outside.specs.Prelude.{HasRisen, Tells, SlotState, matched}
 use Rattle.instance.specs.Bytes.{StandFor, StandForCounted}
 use Rattle.instance.specs.Bytes as read
 use Rattle.instance.specs.declared.from_bytes.ReadFault.{ReadFault}

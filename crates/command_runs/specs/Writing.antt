@@ -2,10 +2,7 @@
 use Rattle.std.specs.Prelude.{◌≡◌, ℕ, List, [], Some}
 use Rattle.uc_model.specs.declared.instance.Instance.{Instance}
 use Rattle.outside.specs.declared.slot.Stage.TheVariants.{Finished}
-use Rattle.outside.specs.Counts.{HasRisen}
-use Rattle.outside.specs.ToldBytes.{Tells, Appends, AppendsFront}
-use Rattle.outside.specs.Slots.{SlotState}
-use Rattle.outside.specs.Sinks.{SinkState}
+use Rattle.outside.specs.Prelude.{HasRisen, Tells, Appends, AppendsFront, SlotState, SinkState}
 use Rattle.branch_tree.specs.Prelude.{certificate_of}
 use Rattle.branch_tree.specs.declared.found.Found.{Found}
 use Rattle.cert_text.specs.CertificateText.{written_text}

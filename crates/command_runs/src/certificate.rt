@@ -2,7 +2,7 @@
 
 ghost use Rattle.std.specs.Prelude.{◌≡◌, IfOk, IfErr};
 ghost use Rattle.outside.specs.declared.slot.Slot.TheVariants.{CertIn};
-ghost use Rattle.outside.specs.Slots.{SameBut};
+ghost use Rattle.outside.specs.Prelude.{SameBut};
 ghost use Rattle.cert_text.specs.Reading.{IsTextOf};
 ghost use Rattle.command_runs.specs.Reading.{Unopened, IsOpenedByNoOther, IsOnlyRead};
 ghost use Rattle.command_runs.specs.Certificates.{most_certificate_bytes, kind_number, HasReadCause};

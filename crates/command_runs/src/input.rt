@@ -3,7 +3,7 @@
 ghost use Rattle.std.specs.Prelude.{◌≡◌, ℕ, IfOk, IfErr};
 ghost use Rattle.uc_model.specs.Prelude.{IsLawfulInstance};
 ghost use Rattle.outside.specs.declared.slot.Slot.TheVariants.{Instance as InstanceSlot};
-ghost use Rattle.outside.specs.Slots.{SameBut};
+ghost use Rattle.outside.specs.Prelude.{SameBut};
 ghost use Rattle.command_line.specs.Asked.{HasPrices};
 ghost use Rattle.command_runs.specs.Reading.{Unopened, most_bytes, too_dear as too_dear_refusal, IsPriced, StandForPriced, HasInstance, HasCause, IsRefusal, IsOpenedByNoOther, IsOnlyRead};
 ghost use Rattle.command_runs.specs.inside.Prices.{Instance, StandFor, StandForCounted, HasNone, IsDear};

@@ -2,7 +2,7 @@
 
 ghost use Rattle.std.specs.Prelude.{◌≡◌, OnOk, OnErr};
 ghost use Rattle.outside.specs.declared.slot.Slot.TheVariants.{CertOut};
-ghost use Rattle.outside.specs.Slots.{SameBut};
+ghost use Rattle.outside.specs.Prelude.{SameBut};
 ghost use Rattle.branch_tree.specs.Prelude.{HasLayout};
 ghost use Rattle.command_runs.specs.Reading.{Instance, Unopened, IsOpenedByNoOther};
 ghost use Rattle.command_runs.specs.Writing.{IsSaved, FailsToSave, text_of_certificate};

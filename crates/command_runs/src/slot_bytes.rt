@@ -1,8 +1,7 @@
 //! The bytes of a slot that is read.
 
 ghost use Rattle.std.specs.Prelude.{◌≡◌, ◌≤◌, length, IfOk, IfErr};
-ghost use Rattle.outside.specs.ToldBytes.{Tells};
-ghost use Rattle.outside.specs.Slots.{SameBut};
+ghost use Rattle.outside.specs.Prelude.{Tells, SameBut};
 ghost use Rattle.command_runs.specs.Reading.{Unopened, IsOpenedByNoOther, IsOnlyRead};
 ghost use Rattle.command_runs.specs.inside.Unread.{IsUnread};
 

@@ -8,9 +8,7 @@ use Rattle.uc_model.specs.declared.limits.TheConstants.{COST_MAX}
 use Rattle.schedule_check.specs.Accepted.{IsAccepted}
 use Rattle.schedule_check.specs.WholeWatts.{HasPrice}
 use Rattle.schedule_check.proofs.Priced.{priced}
-use Rattle.dispatch_repair.specs.Dispatch.{HasPeriods}
-use Rattle.dispatch_repair.specs.Rooms.{IsObstacleOf}
-use Rattle.dispatch_repair.specs.Stuck.{IsDispatchOf}
+use Rattle.dispatch_repair.specs.Prelude.{HasPeriods, IsObstacleOf, IsDispatchOf}
 use Rattle.dispatch_repair.proofs.Obeying.{obeying}
 use Rattle.dispatch_repair.specs.declared.schedule.Obstacle.{Obstacle}
 use Rattle.dispatch_repair.proofs.Periods.{stuck_of}

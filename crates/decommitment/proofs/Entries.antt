@@ -5,12 +5,11 @@ use Rattle.std.proofs.lemmas.Int.{ints}
 use Rattle.std.proofs.lemmas.Bool.{cases_lt}
 use Rattle.uc_model.specs.Prelude.{IsLawfulInstance, IsPower, commitment_of, thermal_unit, thermal_count, renewable_count, bit, sum_below}
 use Rattle.uc_model.proofs.Common.{linear, mul-one, mul-zero, below_or_last, sum_below-zero, narrow}
-use Rattle.dispatch_repair.specs.Amounts.{IsSizedEnd, IsSizedOutput, amount_at, thermal_amount}
-use Rattle.dispatch_repair.specs.Period.{Instance, Period, Source, FromRenewable, FromThermal, commitment_at, low_of, high_of, renewable_sum}
-use Rattle.dispatch_repair.specs.Segments.{source_at, source_count}
+use Rattle.dispatch_repair.specs.Prelude.{IsSizedEnd, IsSizedOutput, thermal_amount, Period, Source, FromRenewable, FromThermal, commitment_at, low_of, high_of, renewable_sum, source_at, source_count, HaveRanges, IsFirstObstacle, IsSum}
+use Rattle.dispatch_repair.specs.Amounts.{amount_at}
+use Rattle.dispatch_repair.specs.Period.{Instance}
 use Rattle.uc_model.specs.declared.stuck.Why.{Why}
-use Rattle.dispatch_repair.specs.Stuck.{HaveRanges, IsFirstObstacle}
-use Rattle.dispatch_repair.specs.Totals.{MAX_POWER, MAX_UNITS, IsSum}
+use Rattle.dispatch_repair.specs.Totals.{MAX_POWER, MAX_UNITS}
 use Rattle.dispatch_repair.specs.declared.segment.Segment.{Segment}
 use Rattle.dispatch_repair.specs.declared.obstacle.Totals.{Totals}
 use Rattle.dispatch_repair.proofs.CurveSegments.{renewable_at, thermal_at}

@@ -4,10 +4,10 @@ use Rattle.std.proofs.Common.{◌≡◌, ◌≢◌, ℕ, ◌+◌, ◌-◌, ◌*�
 use Rattle.std.proofs.lemmas.Bool.{cases_lt, lt-ltb, le-ltb, cond-true, cond-false}
 use Rattle.uc_model.specs.Prelude.{IsLawfulInstance, sum_below, thermal_count, renewable_count}
 use Rattle.uc_model.proofs.Common.{IsWithin, within_of_abs, abs_of_within, within_const_sum, linear, pos-mul, sum_below-same, sum_below-sub}
-use Rattle.dispatch_repair.specs.Amounts.{IsSizedEnd, amount_at, thermal_amount}
+use Rattle.dispatch_repair.specs.Prelude.{IsSizedEnd, thermal_amount, source_count, IsSizedSum, IsSum}
+use Rattle.dispatch_repair.specs.Amounts.{amount_at}
 use Rattle.dispatch_repair.specs.Period.{Instance}
-use Rattle.dispatch_repair.specs.Segments.{source_count}
-use Rattle.dispatch_repair.specs.Totals.{MAX_POWER, MAX_UNITS, IsSizedSum, IsSum}
+use Rattle.dispatch_repair.specs.Totals.{MAX_POWER, MAX_UNITS}
 use Rattle.dispatch_repair.proofs.Filling.{sum_below-raised}
 use Rattle.decommitment.specs.inside.Fills.{Given, AreGiven, IsSizedAmount}
 use Rattle.decommitment.proofs.Levels.{set_each}

@@ -4,7 +4,7 @@ use Rattle.std.proofs.Common.{◌≡◌, ℕ, suc, ◌<◌, ◌≤◌, inl, inr,
 use Rattle.std.specs.Int.{int_min, int_max}
 use Rattle.std.proofs.lemmas.Bool.{cases_lt, lt-ltb, le-ltb, cond-true, cond-false}
 use Rattle.uc_model.proofs.Common.{linear, le_or_lt, le_trans, below_or_last, int_min_left, int_min_right}
-use Rattle.dispatch_repair.specs.Segments.{segment_at}
+use Rattle.dispatch_repair.specs.Prelude.{segment_at}
 use Rattle.dispatch_repair.specs.declared.segment.Segment.{Segment}
 use Rattle.dispatch_repair.proofs.Filled.{max_left, max_right}
 use Rattle.dispatch_repair.proofs.Shortages.{max_le}

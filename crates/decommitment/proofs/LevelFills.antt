@@ -6,14 +6,10 @@ use Rattle.std.proofs.lemmas.Int.{ints}
 use Rattle.std.proofs.lemmas.Bool.{cases_lt}
 use Rattle.uc_model.specs.Prelude.{IsLawfulInstance, sum_below, thermal_count, renewable_count}
 use Rattle.uc_model.proofs.Common.{linear, sum_below-le, sum_below-split}
-use Rattle.dispatch_repair.specs.Amounts.{AreHeadsOf, AreRangesOf, IsSizedOutput, amount_at, range_at, thermal_amount}
-use Rattle.dispatch_repair.specs.Dispatch.{period_after}
-use Rattle.dispatch_repair.specs.Filled.{IsDispatchedFrom}
-use Rattle.dispatch_repair.specs.Filling.{AddsUp, CostsUpTo, IsFilledTo, IsFull, IsLeft, IsTaken}
-use Rattle.dispatch_repair.specs.MeritOrder.{Slope, HasNextSlope}
-use Rattle.dispatch_repair.specs.Period.{Instance, Pattern, Period}
-use Rattle.dispatch_repair.specs.Segments.{AreInMeritOrder, no_segment, segment_at, source_at, source_count}
-use Rattle.dispatch_repair.specs.Totals.{IsSizedLeft, AreTotalsOf}
+use Rattle.dispatch_repair.specs.Prelude.{AreHeadsOf, AreRangesOf, IsSizedOutput, range_at, thermal_amount, period_after, IsDispatchedFrom, AddsUp, CostsUpTo, IsFilledTo, IsFull, IsLeft, IsTaken, HasNextSlope, Period, AreInMeritOrder, no_segment, segment_at, source_at, source_count, IsSizedLeft, AreTotalsOf}
+use Rattle.dispatch_repair.specs.Amounts.{amount_at}
+use Rattle.dispatch_repair.specs.MeritOrder.{Slope}
+use Rattle.dispatch_repair.specs.Period.{Instance, Pattern}
 use Rattle.dispatch_repair.specs.declared.fill.Left.{Left}
 use Rattle.dispatch_repair.specs.declared.range.Range.{Range}
 use Rattle.dispatch_repair.specs.declared.segment.Segment.{Segment}

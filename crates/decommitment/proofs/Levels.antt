@@ -5,8 +5,7 @@ use Rattle.std.specs.Int.{int_min}
 use Rattle.std.proofs.lemmas.Bool.{cases_lt, cases_eq, cond_both}
 use Rattle.uc_model.proofs.Common.{linear, le_antisymm, le_or_lt, le_trans, int_min_left, int_min_right}
 use Rattle.dispatch_repair.specs.Amounts.{amount_at}
-use Rattle.dispatch_repair.specs.Period.{Period, low_of, high_of}
-use Rattle.dispatch_repair.specs.Segments.{segment_at, source_at, source_count}
+use Rattle.dispatch_repair.specs.Prelude.{Period, low_of, high_of, segment_at, source_at, source_count}
 use Rattle.dispatch_repair.specs.declared.segment.Segment.{Segment}
 use Rattle.decommitment.specs.inside.Levels.{Step, AreAtLevel, IsAtLevel, IsReached, IsRisen, IsSunk}
 

@@ -5,9 +5,8 @@ use Rattle.std.specs.declared.alloc.Global.{Global}
 use Rattle.std.specs.declared.vec.Vec.{Vec}
 use Rattle.std.proofs.lemmas.Bool.{cases_lt}
 use Rattle.std.proofs.lemmas.List.{get_or_append_left, get_or_push, length_push, map-set}
-use Rattle.dispatch_repair.specs.Rooms.{rows_of}
+use Rattle.dispatch_repair.specs.Prelude.{rows_of, segment_at}
 use Rattle.uc_model.proofs.Common.{below_or_last}
-use Rattle.dispatch_repair.specs.Segments.{segment_at}
 use Rattle.dispatch_repair.specs.declared.segment.Segment.{Segment}
 use Rattle.dispatch_repair.proofs.RowsEdits.{row_read}
 use Rattle.decommitment.specs.inside.Levels.{AreOwnPlaces, ArePlacesOf, IsAmong, IsOwnPlace, IsPlacePushed, place_at, places_at}

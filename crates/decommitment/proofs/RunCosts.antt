@@ -8,8 +8,8 @@ use Rattle.uc_model.specs.declared.schedule.Cell.{Cell}
 use Rattle.uc_model.proofs.Common.{below_or_last, sum_below-same}
 use Rattle.schedule_check.proofs.AddedSums.{added}
 use Rattle.schedule_check.specs.WholeWatts.{HasPrice, cell, lacking_alone}
-use Rattle.dispatch_repair.specs.Amounts.{amount_at, thermal_amount}
-use Rattle.dispatch_repair.specs.Dispatch.{IsCommittedCell}
+use Rattle.dispatch_repair.specs.Prelude.{thermal_amount, IsCommittedCell}
+use Rattle.dispatch_repair.specs.Amounts.{amount_at}
 use Rattle.dispatch_repair.proofs.RowsCommitted.{other_cell, push_each}
 use Rattle.decommitment.specs.DropCommitment.{Instance, Pattern, Printed}
 use Rattle.decommitment.specs.inside.Runs.{Fill, AreDispatched, AreSized, AreUnitCosts, GivesSame, IsCellOf, IsRowOf, IsUnitCost, LacksSo, cost_at, lack_at, outputs_at}

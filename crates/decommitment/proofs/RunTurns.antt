@@ -8,10 +8,9 @@ use Rattle.uc_model.specs.Prelude.{quotient_up, IsLawfulInstance, printed_cell_c
 use Rattle.uc_model.specs.declared.limits.TheConstants.{COST_MAX}
 use Rattle.uc_model.proofs.Sizes.{wide}
 use Rattle.dispatch_repair.specs.declared.segment.Segment.{Segment}
-use Rattle.dispatch_repair.specs.Rooms.{IsRoomOf}
-use Rattle.dispatch_repair.specs.Stuck.{Stuck, IsDispatchOf}
+use Rattle.dispatch_repair.specs.Prelude.{IsRoomOf, IsDispatchOf, AreSame}
+use Rattle.dispatch_repair.specs.Stuck.{Stuck}
 use Rattle.decommitment.specs.DropCommitment.{Instance, Pattern, Printed, Ending, Dispatched, StuckIn, IsDropPass, IsEndingOf, IsStuckIn, is_better}
-use Rattle.dispatch_repair.specs.OneDispatch.{AreSame}
 use Rattle.decommitment.specs.Standings.{IsDropped}
 use Rattle.decommitment.specs.declared.pass.Standing.TheVariants as standing
 use Rattle.decommitment.specs.declared.stand.Stand.TheVariants as stand

@@ -4,8 +4,7 @@ use Rattle.std.proofs.lemmas.List.{get_or-map, get_or_append_left, get_or_push, 
 use Rattle.uc_model.specs.Prelude.{IsLawfulInstance, cell_at, shed_at, short_at, thermal_count, thermal_unit}
 use Rattle.uc_model.specs.declared.schedule.Cell.{Cell}
 use Rattle.uc_model.proofs.Common.{below_or_last}
-use Rattle.dispatch_repair.specs.Amounts.{AreBeforePeriod, IsSizedOutput, next_period, thermal_amount}
-use Rattle.dispatch_repair.specs.Filled.{IsDispatchedFrom}
+use Rattle.dispatch_repair.specs.Prelude.{AreBeforePeriod, IsSizedOutput, next_period, thermal_amount, IsDispatchedFrom}
 use Rattle.dispatch_repair.specs.declared.segment.Segment.{Segment}
 use Rattle.dispatch_repair.proofs.Endings.{IsThrough, begun, more}
 use Rattle.dispatch_repair.proofs.Periods.{dispatch_through, initial_size, obstacle_of}

@@ -5,10 +5,9 @@ use Rattle.std.specs.Int.{int_min}
 use Rattle.std.proofs.lemmas.Int.{ints}
 use Rattle.uc_model.specs.Prelude.{IsLawfulInstance, thermal_count}
 use Rattle.uc_model.proofs.Common.{within_of_abs, linear, le_trans, narrow}
-use Rattle.dispatch_repair.specs.Amounts.{MAX_POWER, IsRangeOf, IsSizedEnd, amount_at}
-use Rattle.dispatch_repair.specs.Period.{Instance, Period}
-use Rattle.dispatch_repair.specs.Segments.{AreInMeritOrder, segment_at, source_count}
-use Rattle.dispatch_repair.specs.Stuck.{HaveRanges}
+use Rattle.dispatch_repair.specs.Prelude.{IsRangeOf, IsSizedEnd, Period, AreInMeritOrder, segment_at, source_count, HaveRanges}
+use Rattle.dispatch_repair.specs.Amounts.{MAX_POWER, amount_at}
+use Rattle.dispatch_repair.specs.Period.{Instance}
 use Rattle.dispatch_repair.specs.declared.segment.Segment.{Segment}
 use Rattle.decommitment.specs.inside.Fills.{Fill, AreGiven, IsSizedAmount, IsStanding, IsWalked}
 use Rattle.decommitment.specs.inside.Levels.{Range, Step, AreAtLevel, IsAtLevel, IsLeastAt, IsRisen, IsSunk}

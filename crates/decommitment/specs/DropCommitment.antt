@@ -9,8 +9,7 @@ pub use Rattle.uc_model.specs.declared.instance.Instance.{Instance}
 pub use Rattle.uc_model.specs.declared.pattern.Pattern.{Pattern}
 pub use Rattle.uc_model.specs.declared.schedule.Printed.{Printed}
 use Rattle.uc_model.specs.declared.stuck.Stuck.{Stuck}
-use Rattle.dispatch_repair.specs.MostOn.{AreMostOn, IsOffFrom}
-use Rattle.dispatch_repair.specs.Stuck.{IsDispatchOf, IsStuckOf}
+use Rattle.dispatch_repair.specs.Prelude.{AreMostOn, IsOffFrom, IsDispatchOf, IsStuckOf}
 
 -- how the dispatch of a commitment ends: with a schedule and its cost, or stuck in a period
 pub data Ending : Type 0 where

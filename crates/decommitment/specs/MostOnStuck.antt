@@ -5,8 +5,7 @@ use Rattle.uc_model.specs.declared.instance.Instance.{Instance}
 use Rattle.uc_model.specs.declared.pattern.Pattern.{Pattern}
 use Rattle.uc_model.specs.declared.schedule.Printed.{Printed}
 use Rattle.uc_model.specs.declared.stuck.Stuck.{Stuck}
-use Rattle.dispatch_repair.specs.MostOn.{AreMostOn}
-use Rattle.dispatch_repair.specs.Stuck.{IsStuckOf}
+use Rattle.dispatch_repair.specs.Prelude.{AreMostOn, IsStuckOf}
 
 -- the most-on commitment gets stuck, here and for this reason
 pub record IsMostOnStuck (instance : Instance) (stuck : Stuck) : Type 0 where

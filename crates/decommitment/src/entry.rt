@@ -2,8 +2,7 @@
 
 ghost use Rattle.std.specs.Prelude.{◌≡◌, ℕ, ◌+◌, ◌*◌, ◌<◌, ◌≤◌, IsTrue, MatchOption, length, slice_index_or, slice_set, suc, unsigned_abs};
 ghost use Rattle.uc_model.specs.Prelude.{IsLawfulInstance, commitment_of, renewable_count, thermal_count};
-ghost use Rattle.dispatch_repair.specs.Amounts.{IsSizedOutput, thermal_amount};
-ghost use Rattle.dispatch_repair.specs.Stuck.{HaveRanges, IsFirstObstacle};
+ghost use Rattle.dispatch_repair.specs.Prelude.{IsSizedOutput, thermal_amount, HaveRanges, IsFirstObstacle};
 ghost use Rattle.decommitment.specs.inside.Fills.{AreEntered, AreGiven, AreWide, HasSizes, IsAlike, IsBaseOf, IsEntered, IsHourOf, base_parts, base_period, exchanged_totals as totals_with, hour_period, unit_part as part_of};
 
 use crate::fill::{Base, Fill, Hour, System};

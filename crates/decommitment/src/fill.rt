@@ -3,9 +3,7 @@
 ghost use Rattle.std.specs.Prelude.{◌≡◌, ℕ, ◌<◌, pos, ◌+ℤ◌, IfOk, IsTrue, MatchOption, length};
 ghost use Rattle.uc_model.specs.Prelude.{renewable_count};
 ghost use Rattle.dispatch_repair.specs.Amounts.{amount_at};
-ghost use Rattle.dispatch_repair.specs.Stuck.{IsFirstObstacle};
-ghost use Rattle.dispatch_repair.specs.Segments.{source_count};
-ghost use Rattle.dispatch_repair.specs.Totals.{AreSizedTotals, IsSizedLeft, IsSizedSum};
+ghost use Rattle.dispatch_repair.specs.Prelude.{IsFirstObstacle, source_count, AreSizedTotals, IsSizedLeft, IsSizedSum};
 ghost use Rattle.decommitment.specs.inside.Fills.{ComesTo, IsBaseOf, IsBegun, IsBegunTo, IsClear, IsCopy, IsHourOf, IsMet, IsReady, IsSizedAim, IsStarted, hour_period, no_given, no_part, no_totals};
 
 use crate::entry::{Part, enter, renew_stretch};

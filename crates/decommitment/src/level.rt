@@ -2,10 +2,8 @@
 
 ghost use Rattle.std.specs.Prelude.{◌≡◌, ◌-◌, ◌*◌, ◌<◌, ◌≤◌, ◌⊎◌, pos, ◌+ℤ◌, ◌-ℤ◌, ◌≤ℤ◌, ◌<ℤ◌, int_lt, length, suc, slice_set, unsigned_abs, if◌then◌else◌};
 ghost use Rattle.uc_model.specs.Prelude.{IsLawfulInstance, thermal_count};
-ghost use Rattle.dispatch_repair.specs.Amounts.{AreBeforePeriod, IsRangeOf, IsSizedEnd, amount_at, next_period};
-ghost use Rattle.dispatch_repair.specs.Segments.{source_count};
-ghost use Rattle.dispatch_repair.specs.Stuck.{HaveRanges};
-ghost use Rattle.dispatch_repair.specs.Totals.{IsSizedSum};
+ghost use Rattle.dispatch_repair.specs.Prelude.{AreBeforePeriod, IsRangeOf, IsSizedEnd, next_period, source_count, HaveRanges, IsSizedSum};
+ghost use Rattle.dispatch_repair.specs.Amounts.{amount_at};
 ghost use Rattle.decommitment.specs.inside.Fills.{AreGiven, IsHourOf, IsSizedAim, IsSizedAmount, IsStanding, IsWalked, hour_period};
 ghost use Rattle.decommitment.specs.inside.Levels.{IsRisen, IsSunk};
 

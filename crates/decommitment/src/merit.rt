@@ -3,8 +3,7 @@
 ghost use Rattle.std.specs.Prelude.{◌≡◌, ℕ, ◌<◌, ◌≤◌, ◌≤ℤ◌, IfOk, [], length, slice_index_or, if◌then◌else◌};
 ghost use Rattle.std.specs.Int.{int_max, int_min};
 ghost use Rattle.uc_model.specs.Prelude.{IsLawfulInstance};
-ghost use Rattle.dispatch_repair.specs.Rooms.{rows_of};
-ghost use Rattle.dispatch_repair.specs.Segments.{segment_at};
+ghost use Rattle.dispatch_repair.specs.Prelude.{rows_of, segment_at};
 ghost use Rattle.decommitment.specs.inside.Levels.{AreOwnPlaces, ArePlacesOf, IsLeastAt, IsMeritOf, IsPlacePushed};
 
 use dispatch_repair::fill::end;

@@ -2,10 +2,8 @@
 
 ghost use Rattle.std.specs.Prelude.{◌≡◌, ◌<◌, List, ℤ, IfOk, length, suc};
 ghost use Rattle.uc_model.specs.Prelude.{IsLawfulInstance, thermal_count};
-ghost use Rattle.dispatch_repair.specs.MostOn.{AreMostOn};
-ghost use Rattle.dispatch_repair.specs.Rooms.{IsRoomOf};
+ghost use Rattle.dispatch_repair.specs.Prelude.{AreMostOn, IsRoomOf, IsDispatchOf, IsStuckOf};
 ghost use Rattle.dispatch_repair.specs.declared.segment.Segment.{Segment};
-ghost use Rattle.dispatch_repair.specs.Stuck.{IsDispatchOf, IsStuckOf};
 ghost use Rattle.decommitment.specs.DropCommitment.{Instance, IsStuckIn, Printed};
 ghost use Rattle.dual_model.specs.Prelude.{HasEachPattern};
 ghost use Rattle.decommitment.specs.Standings.{IsDropped};

@@ -2,7 +2,7 @@
 
 ghost use Rattle.std.specs.Prelude.{◌<◌, IfOk};
 ghost use Rattle.uc_model.specs.Prelude.{IsLawfulInstance, thermal_count};
-ghost use Rattle.dispatch_repair.specs.MostOn.{AreMostOn};
+ghost use Rattle.dispatch_repair.specs.Prelude.{AreMostOn};
 ghost use Rattle.dual_model.specs.Prelude.{HasEachPattern};
 ghost use Rattle.decommitment.specs.DropCommitment.{IsFewestOnOf};
 

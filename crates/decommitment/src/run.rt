@@ -2,10 +2,7 @@
 
 ghost use Rattle.std.specs.Prelude.{◌≡◌, ◌<◌, ◌≤◌, [], IfOk, MatchOption, length, IfSome, None};
 ghost use Rattle.uc_model.specs.Prelude.{IsLawfulInstance, thermal_count};
-ghost use Rattle.dispatch_repair.specs.Amounts.{next_period};
-ghost use Rattle.dispatch_repair.specs.Rooms.{IsRoomOf};
-ghost use Rattle.dispatch_repair.specs.Segments.{source_count};
-ghost use Rattle.dispatch_repair.specs.Stuck.{IsFirstObstacle};
+ghost use Rattle.dispatch_repair.specs.Prelude.{next_period, IsRoomOf, source_count, IsFirstObstacle};
 ghost use Rattle.decommitment.specs.inside.Fills.{HasEntered, IsFill, IsFillingOf};
 ghost use Rattle.decommitment.specs.inside.Runs.{AreFills, AreInitial, IsEdge, IsNext, IsOrigin, IsReach, IsSetting, IsStoodAt, instance_of, order_of, outputs_before};
 

@@ -3,7 +3,7 @@
 use Rattle.std.proofs.Common.{◌≡◌, ℕ, zero, suc, ◌+◌, ◌<◌, ◌≤◌, ⊎_elim, refl, sym, ap, subst, ◌∙◌, arith, List, [], ◌∷◌, ◌++◌, length, ℤ, pos, unsigned_abs, IsTrue, slice_index_or}
 use Rattle.std.proofs.lemmas.Bool.{cases_lt, cases_eq}
 use Rattle.std.proofs.lemmas.List.{length-append, get_or_append_left, get_or-append-add}
-use Rattle.dispatch_program.specs.Programs.{Program, multiplier}
+use Rattle.dispatch_program.specs.Prelude.{Program, multiplier}
 use Rattle.dispatch_rules.specs.Prelude.{limit_of}
 use Rattle.dispatch_rules.specs.declared.limit.LimitAt.{LimitAt}
 use Rattle.dispatch_prices.specs.ReadOff.{AreMultipliers, is_priced, limit_in}

@@ -2,7 +2,7 @@
 -- Cite by `use Rattle.dispatch_prices.proofs.Places.{counted_most}`.
 use Rattle.std.proofs.Common.{◌≡◌, ℕ, zero, suc, ◌+◌, ◌<◌, ◌≤◌, Bool, true, ⊎_elim, ap, arith}
 use Rattle.std.proofs.lemmas.Bool.{cases_lt}
-use Rattle.dispatch_program.specs.Programs.{Program, bump, counted, is_limit, has_artificial, place, RightSide, SumValue, Slack, Artificial}
+use Rattle.dispatch_program.specs.Prelude.{Program, bump, counted, is_limit, has_artificial, place, RightSide, SumValue, Slack, Artificial}
 use Rattle.dispatch_program.proofs.Starts.{counted-le}
 
 -- as many or more below a greater number

@@ -9,7 +9,7 @@ use Rattle.uc_model.proofs.Common.{sum_below-same}
 use Rattle.dual_model.specs.Prelude.{IsPrice, IsRowPriced, row_of}
 use Rattle.dual_model.specs.declared.table.Table.{Table}
 use Rattle.pivot_run.specs.Tables as pivots
-use Rattle.dispatch_program.specs.Programs.{multiplier}
+use Rattle.dispatch_program.specs.Prelude.{multiplier}
 use Rattle.dispatch_rules.specs.Prelude.{limit_of, rule_of, Task, Limit, limit, is_same, program, times_at}
 use Rattle.dispatch_rules.specs.declared.limit.LimitAt.{LimitAt}
 use Rattle.dispatch_rules.specs.declared.limit.LimitRule.{LimitRule}

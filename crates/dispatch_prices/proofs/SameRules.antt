@@ -2,9 +2,9 @@
 -- Cite by `use Rattle.dispatch_prices.proofs.SameRules.{multiplier_same, has_size}`.
 use Rattle.std.proofs.Common.{◌≡◌, ℕ, zero, suc, ◌+◌, ◌<◌, ◌≤◌, Bool, not, ◌||◌, ⊎_elim, inl, inr, refl, sym, ap, subst, ◌∙◌, arith, List, length, ℤ, pos, ◌-ℤ◌, ◌*ℤ◌, neg_ℤ, int_lt, slice_index_or, if◌then◌else◌}
 use Rattle.std.proofs.lemmas.List.{length-map, get_or-map}
-use Rattle.pivot_run.specs.Rows.{entry}
+use Rattle.pivot_run.specs.Prelude.{entry}
 use Rattle.pivot_run.specs.Tables as pivots
-use Rattle.dispatch_program.specs.Programs.{Program, Slack, Artificial, SumValue, RightSide, bump, counted, is_limit, is_negated, has_artificial, sign, place, multiplier}
+use Rattle.dispatch_program.specs.Prelude.{Program, Slack, Artificial, SumValue, RightSide, bump, counted, is_limit, is_negated, has_artificial, sign, place, multiplier}
 use Rattle.dispatch_program.proofs.LastTables.{count}
 use Rattle.dispatch_rules.specs.Prelude.{Task, limit, limits, is_demand, right_of, program}
 use Rattle.uc_model.specs.Prelude.{Demand}

@@ -8,9 +8,8 @@ use Rattle.uc_model.specs.Prelude.{rule_number, Demand, Reserve, RampUp, RampDow
 use Rattle.uc_model.proofs.Common.{le_refl, sum_below_nonneg}
 use Rattle.dual_model.specs.Prelude.{HasLawfulSigns, IsRowSigned}
 use Rattle.dual_model.specs.declared.table.Table.{Table}
-use Rattle.pivot_run.specs.Rows.{entry}
-use Rattle.dispatch_program.specs.LastRows.{IsLastRow}
-use Rattle.dispatch_program.specs.Programs.{Artificial, Slack, SumValue, multiplier, place, sign}
+use Rattle.pivot_run.specs.Prelude.{entry}
+use Rattle.dispatch_program.specs.Prelude.{IsLastRow, Artificial, Slack, SumValue, multiplier, place, sign}
 use Rattle.dispatch_rules.specs.Prelude.{Task, Limit, limit, is_demand, is_same, limits, limit_at, program, scale_of, times_at, up_of, down_of}
 use Rattle.dispatch_rules.proofs.Multipliers.{same-equal}
 use Rattle.dispatch_prices.specs.ReadOff.{all_rows, is_nothing, kept, ramp_row, rows_in}

@@ -9,9 +9,9 @@ use Rattle.dual_model.proofs.ValueKinds.{least_starts, values_exist_at_schedules
 use Rattle.dual_model.proofs.Locality.{SameBelow, starts-same, sigma-same}
 use Rattle.dual_model.specs.declared.table.Table.{Table}
 use Rattle.dual_model.specs.declared.node.Node.{Node}
-use Rattle.pivot_run.specs.Pivots.{row_at}
+use Rattle.pivot_run.specs.Prelude.{row_at}
 use Rattle.pivot_run.specs.Tables as pivots
-use Rattle.dispatch_program.specs.LastTables.{basis_values}
+use Rattle.dispatch_program.specs.Prelude.{basis_values}
 use Rattle.dispatch_program.proofs.LastTables.{ends_are_last, bases_give_values}
 use Rattle.dispatch_rules.specs.Prelude.{Task, program, IsTask, cost_times, scale_of, IsDispatch, Printed}
 use Rattle.dispatch_rules.proofs.RunEnds.{runs_give_dispatches}

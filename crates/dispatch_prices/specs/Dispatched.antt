@@ -8,10 +8,9 @@ use Rattle.dual_model.specs.Prelude.{HasLawfulSigns, cost_by_least_starts, IsNod
 use Rattle.dual_model.specs.Fixings as nodes
 use Rattle.dual_model.specs.declared.table.Table.{Table}
 use Rattle.dual_model.specs.declared.node.Node.{Node}
-use Rattle.pivot_run.specs.Pivots.{row_at}
+use Rattle.pivot_run.specs.Prelude.{row_at}
 use Rattle.pivot_run.specs.Tables as pivots
-use Rattle.dispatch_program.specs.LastTables.{IsReached, AreShares, basis_values}
-use Rattle.dispatch_program.specs.ProgramRuns.{IsCheapest}
+use Rattle.dispatch_program.specs.Prelude.{IsReached, AreShares, basis_values, IsCheapest}
 use Rattle.dispatch_rules.specs.Prelude.{Task, program, IsTask, IsReadOff, IsNodeOf, IsDispatch, Prints, Printed}
 
 -- the commitment of each unit is allowed

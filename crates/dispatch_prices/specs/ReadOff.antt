@@ -4,10 +4,9 @@ use Rattle.std.specs.Prelude.{◌≡◌, ℕ, ◌<◌, ◌≤◌, ◌==◌, ◌�
 use Rattle.std.specs.Ordering.{int_eq}
 use Rattle.uc_model.specs.Prelude.{sum_below, rule_number}
 use Rattle.dual_model.specs.declared.table.RampRow.{RampRow}
-use Rattle.pivot_run.specs.Rows.{entry}
+use Rattle.pivot_run.specs.Prelude.{entry}
 use Rattle.pivot_run.specs.Tables as pivots
-use Rattle.dispatch_program.specs.Programs.{Program, Artificial, SumValue, place, sign, multiplier}
-use Rattle.dispatch_program.specs.LastTables.{IsReached}
+use Rattle.dispatch_program.specs.Prelude.{Program, Artificial, SumValue, place, sign, multiplier, IsReached}
 use Rattle.dispatch_rules.specs.Prelude.{limit_of, Task, Limit, is_same, is_demand, amounts, limits, listed, right_of, program}
 use Rattle.dispatch_rules.specs.declared.limit.LimitAt.{LimitAt}
 use Rattle.dispatch_rules.specs.declared.limit.LimitRule.TheVariants.{Demand}

@@ -1,7 +1,7 @@
 -- What the code holds of the end of a run, and what keeps it from reading prices off.
 use Rattle.std.specs.Prelude.{◌≡◌, ℕ, ◌+◌, ◌<◌, ◌≤◌, ◌⊎◌, Bool, List, length, ℤ, pos, neg_ℤ, unsigned_abs, IsTrue, if◌then◌else◌}
-use Rattle.pivot_run.specs.Pivots.{IsWide}
-use Rattle.dispatch_program.specs.Programs.{Program, RightSide, Slack, Artificial, place, multiplier}
+use Rattle.pivot_run.specs.Prelude.{IsWide}
+use Rattle.dispatch_program.specs.Prelude.{Program, RightSide, Slack, Artificial, place, multiplier}
 use Rattle.dispatch_rules.specs.Prelude.{limit_of, Task, IsReadOff, down_of, scale_of, up_of}
 use Rattle.std.specs.List.{All}
 use Rattle.dual_model.specs.Prelude.{IsPrice, IsRowPriced}

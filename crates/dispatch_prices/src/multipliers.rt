@@ -1,7 +1,7 @@
 //! The multipliers of the priced rules, read off a last row.
 ghost use Rattle.std.specs.Prelude.{◌≡◌, [], ◌∷◌, ◌++◌, ◌+◌, ◌*◌, ◌^◌, ◌<◌, ◌≤◌, true, length, unsigned_abs, IfErr, IfOk, OnOk, ◌*ℤ◌, ◌-ℤ◌};
-ghost use Rattle.pivot_run.specs.Pivots.{IsNarrow, row_at};
-ghost use Rattle.dispatch_program.specs.Programs.{Artificial, bump, counted, has_artificial, is_limit, place};
+ghost use Rattle.pivot_run.specs.Prelude.{IsNarrow, row_at};
+ghost use Rattle.dispatch_program.specs.Prelude.{Artificial, bump, counted, has_artificial, is_limit, place};
 ghost use Rattle.dispatch_rules.specs.Prelude.{limit_of, is_demand};
 ghost use Rattle.dispatch_prices.specs.ReadOff.{AreMultipliers, ReadingForms, RuleForms, is_priced, limit_in};
 ghost use Rattle.dispatch_prices.specs.Readings.{ArePlaces, HasSize, IsLarge, IsMultiplierAt, IsProductOf, IsProductOfEither, IsUnfit, rules_at, sign_of};

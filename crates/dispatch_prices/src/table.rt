@@ -1,7 +1,7 @@
 //! The table of prices at the end of a run.
 ghost use Rattle.std.specs.Prelude.{◌≡◌, ℕ, [], ◌∷◌, ◌++◌, ◌+◌, ◌<◌, ◌≤◌, length, pos, unsigned_abs, IfErr, IfOk, OnOk, slice_index_or, ◌≤ℤ◌};
 ghost use Rattle.uc_model.specs.Prelude.{IsLawfulInstance};
-ghost use Rattle.pivot_run.specs.Pivots.{IsNarrow, row_at};
+ghost use Rattle.pivot_run.specs.Prelude.{IsNarrow, row_at};
 ghost use Rattle.dispatch_rules.specs.Prelude.{limit_of, rule_of, Task, is_same, limit, program};
 ghost use Rattle.dispatch_prices.specs.ReadOff.{HasSmallMultipliers, ReadingForms, all_rows, kept, ramp_row as cell_row};
 ghost use Rattle.dispatch_prices.specs.Readings.{IsEndAt, IsPriceTable, IsUnfit};

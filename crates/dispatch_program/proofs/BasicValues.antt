@@ -5,10 +5,9 @@ use Rattle.std.proofs.lemmas.Bool.{cases_eq, cond_both, eqb-true, eq-eqb, true�
 use Rattle.std.proofs.lemmas.Int.{by_lt_z}
 use Rattle.uc_model.specs.Prelude.{sum_below}
 use Rattle.uc_model.proofs.Common.{linear, le_refl, mul_left_comm, mul_nonneg, mul-zero, mul-neg, mul-lt-mul_left, sum_below-zero, sum_below-single, sum_below_nonneg}
-use Rattle.pivot_run.specs.Tables.{IsBasic, Table, basic, number}
-use Rattle.pivot_run.specs.Values.{at_column, values_of}
+use Rattle.pivot_run.specs.Prelude.{IsBasic, Table, basic, number, at_column, values_of}
 use Rattle.pivot_run.proofs.Values.{at_column-nonneg}
-use Rattle.dispatch_program.specs.LastTables.{AreShares, SharesExist}
+use Rattle.dispatch_program.specs.Prelude.{AreShares, SharesExist}
 
 -- ---- a value in one column
 pub at_own : (a : ℕ) (z : ℤ) → at_column a z a ≡ z

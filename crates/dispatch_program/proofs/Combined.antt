@@ -5,12 +5,9 @@ use Rattle.std.proofs.Common.{◌≡◌, ◌≢◌, ℕ, zero, suc, ◌+◌, ◌
 use Rattle.std.proofs.lemmas.Bool.{cases_Bool, cond-true, cond-false, cond_both, eqb-true, eq-eqb, cases_eq, cases_lt, true≢false}
 use Rattle.uc_model.specs.Prelude.{sum_below}
 use Rattle.uc_model.proofs.Common.{linear, mul-one, one-mul, mul-zero, zero-mul, mul-neg, mul_assoc, sub-mul, mul-sub, mul_left_comm, sum_below-same, sum_below-sub, sum_below-zero, sum_below-single, sum_below-mul_left}
-use Rattle.pivot_run.specs.Rows.{entry}
-use Rattle.pivot_run.specs.Pivots.{row_at}
-use Rattle.pivot_run.specs.Solutions.{dot, Solves}
-use Rattle.pivot_run.specs.Values.{at_column}
+use Rattle.pivot_run.specs.Prelude.{entry, row_at, dot, Solves, at_column}
 use Rattle.pivot_run.proofs.Values.{dot-add, dot-at_column}
-use Rattle.dispatch_program.specs.Programs.{Program, Column, Unknown, Slack, Artificial, SumValue, CostValue, RightSide, sign, one_at, is_limit, is_negated, has_artificial, rule_number, rules_off, sum_number, cost_number, place, HasColumn, own_column, multiplier}
+use Rattle.dispatch_program.specs.Prelude.{Program, Column, Unknown, Slack, Artificial, SumValue, CostValue, RightSide, sign, one_at, is_limit, is_negated, has_artificial, rule_number, rules_off, sum_number, cost_number, place, HasColumn, own_column, multiplier}
 
 -- what the rows of the start hold, column by column
 pub record AreStart (p : Program) (rows : List (List ℤ)) : Type 0 where

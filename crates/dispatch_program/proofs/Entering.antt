@@ -3,15 +3,11 @@
 use Rattle.std.proofs.Common.{◌≡◌, ℕ, ◌<◌, Option, None, Some, IsSome, refl, sym, ap, subst, ◌∙◌, arith, length, ℤ, pos, ◌*ℤ◌, neg_ℤ, ◌≤ℤ◌, ◌<ℤ◌, if◌then◌else◌}
 use Rattle.std.proofs.lemmas.Bool.{cond_both}
 use Rattle.uc_model.proofs.Common.{linear, zero-mul, neg-mul, mul-zero, mul_comm, mul_nonneg, mul-lt-mul_left, sum_below-zero, sum_below_nonneg}
-use Rattle.pivot_run.specs.Solutions.{Solves}
-use Rattle.pivot_run.specs.Tables.{Table, basic, leaving, number}
-use Rattle.pivot_run.specs.Values.{at_column, values_of}
+use Rattle.pivot_run.specs.Prelude.{Solves, Table, basic, leaving, number, at_column, values_of}
 use Rattle.pivot_run.proofs.Ratios.{IsLeaving, leaving_is}
 use Rattle.pivot_run.proofs.Solutions.{no_factor}
 use Rattle.pivot_run.proofs.Values.{at_column-nonneg, values_solve}
-use Rattle.dispatch_program.specs.Programs.{Program, Artificial, SumValue, RightSide, Slack, HasColumn, is_limit, has_artificial, place, start_rows, free_columns}
-use Rattle.dispatch_program.specs.ProgramValues.{IsRay, artificial_sum}
-use Rattle.dispatch_program.specs.LastTables.{IsReached, AreShares, SumsGoOn, HasZeros, IsRayOf, EnteringGivesRays}
+use Rattle.dispatch_program.specs.Prelude.{Program, Artificial, SumValue, RightSide, Slack, HasColumn, is_limit, has_artificial, place, start_rows, free_columns, IsRay, artificial_sum, IsReached, AreShares, SumsGoOn, HasZeros, IsRayOf, EnteringGivesRays}
 use Rattle.dispatch_program.proofs.Starts.{counted-le}
 use Rattle.dispatch_program.proofs.Lines.{sum_is}
 use Rattle.dispatch_program.proofs.BasicValues.{at_own, at_other, value_none, value_basic, value_low, share_positive, shares_exist}

@@ -5,16 +5,10 @@ use Rattle.std.proofs.Common.{◌≡◌, ◌≢◌, ℕ, ◌+◌, ◌-◌, ◌<�
 use Rattle.std.proofs.lemmas.Bool.{cases_lt, cases_eq, cond-true, cond_both}
 use Rattle.std.proofs.lemmas.Int.{by_lt_z}
 use Rattle.uc_model.proofs.Common.{linear, mul_comm, mul_left_comm, mul_nonneg, mul-neg, mul-zero, zero-mul, mul-lt-mul_left, sum_below_nonneg, term-le-sum_below}
-use Rattle.pivot_run.specs.Pivots.{row_at}
-use Rattle.pivot_run.specs.Solutions.{Solves}
-use Rattle.pivot_run.specs.Tables.{Table, basic, number}
-use Rattle.pivot_run.specs.Values.{at_column}
+use Rattle.pivot_run.specs.Prelude.{row_at, Solves, Table, basic, number, at_column}
 use Rattle.pivot_run.proofs.Solutions.{no_factor}
 use Rattle.pivot_run.proofs.Values.{values_solve}
-use Rattle.dispatch_program.specs.Programs.{Program, Slack, Artificial, SumValue, CostValue, RightSide, HasColumn, is_limit, has_artificial, place, start_rows}
-use Rattle.dispatch_program.specs.LastRows.{IsLastRow}
-use Rattle.dispatch_program.specs.ProgramValues.{AreValues}
-use Rattle.dispatch_program.specs.LastTables.{IsReached, NoneEnters, EndsAreLast, HasNoArtificial, NoSumIsLeft, SumsAreLow, NoSumNoArtificial, AreShares, basis_values, BasesGiveValues}
+use Rattle.dispatch_program.specs.Prelude.{Program, Slack, Artificial, SumValue, CostValue, RightSide, HasColumn, is_limit, has_artificial, place, start_rows, IsLastRow, AreValues, IsReached, NoneEnters, EndsAreLast, HasNoArtificial, NoSumIsLeft, SumsAreLow, NoSumNoArtificial, AreShares, basis_values, BasesGiveValues}
 use Rattle.dispatch_program.proofs.Starts.{counted-le, rows_long, sum_basic, cost_basic}
 use Rattle.dispatch_program.proofs.Lines.{sum_is}
 use Rattle.dispatch_program.proofs.BasicValues.{at_own, at_other, value_none, value_basic, value_low, share_positive, shares_exist}

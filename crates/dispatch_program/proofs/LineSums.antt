@@ -5,9 +5,8 @@ use Rattle.std.proofs.lemmas.Bool.{cond-true, cond-false, cond_both}
 use Rattle.std.proofs.lemmas.List.{length-map}
 use Rattle.uc_model.specs.Prelude.{sum_below}
 use Rattle.uc_model.proofs.Common.{linear, one-mul, neg-mul, mul-neg, mul-zero, zero-mul, mul_assoc, mul_comm, mul-add, sum_below-same, sum_below-zero, sum_below-single, sum_below-mul_left}
-use Rattle.pivot_run.specs.Solutions.{dot}
-use Rattle.dispatch_program.specs.Programs.{Program, Column, Unknown, Slack, Artificial, SumValue, CostValue, RightSide, RuleLine, CostLine, sign, one_at, is_limit, is_negated, has_artificial, rule_number, line_number, picked, counted, all, columns_of, lines_of, slacks, artificials, place}
-use Rattle.dispatch_program.specs.ProgramValues.{AreValues, ValuesObey}
+use Rattle.pivot_run.specs.Prelude.{dot}
+use Rattle.dispatch_program.specs.Prelude.{Program, Column, Unknown, Slack, Artificial, SumValue, CostValue, RightSide, RuleLine, CostLine, sign, one_at, is_limit, is_negated, has_artificial, rule_number, line_number, picked, counted, all, columns_of, lines_of, slacks, artificials, place, AreValues, ValuesObey}
 use Rattle.dispatch_program.proofs.Combined.{one_at-same, one_at-other}
 use Rattle.dispatch_program.proofs.Starts.{length-picked, counted-all, row_is, cost_row_is, lines_long}
 

@@ -5,9 +5,8 @@ use Rattle.std.proofs.lemmas.Bool.{cond_both}
 use Rattle.std.proofs.lemmas.List.{length-map}
 use Rattle.uc_model.specs.Prelude.{sum_below}
 use Rattle.uc_model.proofs.Common.{linear, one-mul, neg-mul, mul-zero, zero-mul, sum_below-same, sum_below-zero, sum_below-single, sum_below-add, sum_below-neg, sum_below-mul_right, sum_below-swap}
-use Rattle.pivot_run.specs.Solutions.{dot, Solves}
-use Rattle.dispatch_program.specs.Programs.{Program, Unknown, Slack, Artificial, SumValue, CostValue, RightSide, RuleLine, one_at, is_limit, has_artificial, rule_number, sum_number, rules_off, line_number, columns_of, lines_of, start_rows, place}
-use Rattle.dispatch_program.specs.ProgramValues.{artificial_sum, SumIsArtificial}
+use Rattle.pivot_run.specs.Prelude.{dot, Solves}
+use Rattle.dispatch_program.specs.Prelude.{Program, Unknown, Slack, Artificial, SumValue, CostValue, RightSide, RuleLine, one_at, is_limit, has_artificial, rule_number, sum_number, rules_off, line_number, columns_of, lines_of, start_rows, place, artificial_sum, SumIsArtificial}
 use Rattle.dispatch_program.proofs.Combined.{one_at-same, one_at-other}
 use Rattle.dispatch_program.proofs.Starts.{row_is, sum_row_is, lines_long}
 use Rattle.dispatch_program.proofs.LineSums.{line_dot}

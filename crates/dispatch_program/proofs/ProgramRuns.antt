@@ -4,17 +4,13 @@ use Rattle.std.proofs.Common.{◌≡◌, ◌⊎◌, ⊎_elim, inl, inr, ℕ, zer
 use Rattle.std.specs.Option.{option_and_then, option_map}
 use Rattle.std.proofs.lemmas.Bool.{cases_lt}
 use Rattle.uc_model.proofs.Common.{linear}
-use Rattle.pivot_run.specs.Pivots.{row_at}
-use Rattle.pivot_run.specs.Tables.{Table, basic, entering, leaving, number, pivoted_table, right_side}
-use Rattle.pivot_run.specs.Runs.{next}
-use Rattle.pivot_run.specs.Stages.{State, advanced, plan_at, plan_of, state_of}
+use Rattle.pivot_run.specs.Prelude.{row_at, Table, basic, entering, leaving, number, pivoted_table, right_side, next, State, advanced, plan_of, state_of}
+use Rattle.pivot_run.specs.Stages.{plan_at}
 use Rattle.pivot_run.specs.declared.target.Target.TheVariants.{Row}
 use Rattle.pivot_run.proofs.Orders.{int_lt-true, int_lt-false}
 use Rattle.pivot_run.proofs.PivotKeeps.{keeps_itself, next_parts}
 use Rattle.pivot_run.proofs.Ratios.{IsLeast, IsLeaving, leaving_is}
-use Rattle.dispatch_program.specs.Programs.{Program, RightSide, Slack, is_limit, place, start_table, free_columns}
-use Rattle.dispatch_program.specs.LastTables.{IsReached, NoSumIsLeft, NoneEnters, HasZeros}
-use Rattle.dispatch_program.specs.ProgramRuns.{state_at, RunsReachTables, SumIsLeft, IsCheapest, IsStuck, RunsEnd}
+use Rattle.dispatch_program.specs.Prelude.{Program, RightSide, Slack, is_limit, place, start_table, free_columns, IsReached, NoSumIsLeft, NoneEnters, HasZeros, state_at, RunsReachTables, SumIsLeft, IsCheapest, IsStuck, RunsEnd}
 use Rattle.dispatch_program.proofs.Starts.{counted-le}
 use Rattle.dispatch_program.proofs.StartTables.{start_is_table, rule_column}
 use Rattle.dispatch_program.proofs.LastTables.{no_sum_no_artificial, sums_are_low}

@@ -5,15 +5,12 @@ use Rattle.std.specs.Ordering.{int_eq}
 use Rattle.std.proofs.lemmas.Bool.{cases_eq, cases_lt, cond-true}
 use Rattle.std.proofs.lemmas.List.{get_or-set_same}
 use Rattle.uc_model.proofs.Common.{linear}
-use Rattle.pivot_run.specs.Rows.{entry, reduced, cleared}
-use Rattle.pivot_run.specs.Pivots.{pivot_row, row_at}
-use Rattle.pivot_run.specs.Tables.{Table, basic, leaving, number, pivoted_table, right_side}
+use Rattle.pivot_run.specs.Prelude.{entry, reduced, cleared, pivot_row, row_at, Table, basic, leaving, number, pivoted_table, right_side}
 use Rattle.pivot_run.proofs.Solutions.{length-pivoted, row-pivoted_other, pivoted_solves, pivoted_solved}
 use Rattle.pivot_run.proofs.Basis.{basic_other, basis_kept}
 use Rattle.pivot_run.proofs.PivotKeeps.{pivot_keeps, table_kept}
 use Rattle.pivot_run.proofs.ZeroSides.{zero_sides_kept}
-use Rattle.dispatch_program.specs.Programs.{Program, Artificial, SumValue, CostValue, RightSide, HasColumn, has_artificial, place, start_table, free_columns}
-use Rattle.dispatch_program.specs.LastTables.{IsReached, NoSumIsLeft, HasZeros}
+use Rattle.dispatch_program.specs.Prelude.{Program, Artificial, SumValue, CostValue, RightSide, HasColumn, has_artificial, place, start_table, free_columns, IsReached, NoSumIsLeft, HasZeros}
 use Rattle.dispatch_program.proofs.Starts.{counted_has}
 use Rattle.dispatch_program.proofs.BasicValues.{two_columns, shares_exist}
 use Rattle.dispatch_program.proofs.LastTables.{count, sum_column, cost_column, sums_are_low}

@@ -3,10 +3,9 @@
 use Rattle.std.proofs.Common.{◌≡◌, ◌≢◌, ℕ, ◌+◌, ◌-◌, ◌<◌, ◌≤◌, ⊎_elim, true, false, refl, sym, ap, subst, ◌∙◌, arith, length, ℤ, pos, ◌*ℤ◌, neg_ℤ, ◌≤ℤ◌, ◌<ℤ◌, int_lt, if◌then◌else◌}
 use Rattle.std.proofs.lemmas.Bool.{cases_lt, cases_eq, cases_Bool, cond_both, cond-true, cond-false}
 use Rattle.uc_model.proofs.Common.{linear, one-mul, neg-mul}
-use Rattle.pivot_run.specs.Tables.{IsBasic, basic, number}
+use Rattle.pivot_run.specs.Prelude.{IsBasic, basic, number}
 use Rattle.pivot_run.proofs.Orders.{int_lt-true, int_lt-false}
-use Rattle.dispatch_program.specs.Programs.{Program, Column, Slack, Artificial, SumValue, CostValue, RightSide, HasColumn, is_limit, has_artificial, rule_number, sum_number, cost_number, start_rows, place, own_column, start_table}
-use Rattle.dispatch_program.specs.LastTables.{IsStart, StartsAreTables}
+use Rattle.dispatch_program.specs.Prelude.{Program, Column, Slack, Artificial, SumValue, CostValue, RightSide, HasColumn, is_limit, has_artificial, rule_number, sum_number, cost_number, start_rows, place, own_column, start_table, IsStart, StartsAreTables}
 use Rattle.dispatch_program.proofs.Combined.{one_at-same, one_at-other, own_there, own_in_rule, own_in_sum, own_in_cost}
 use Rattle.dispatch_program.proofs.Starts.{start_is, rows_long, row_long, basis_long, counted-le, rule_basic, sum_basic, cost_basic, place-lt, columns_long}
 

@@ -3,10 +3,8 @@
 use Rattle.std.proofs.Common.{◌≡◌, ℕ, zero, suc, ◌+◌, ◌-◌, ◌<◌, ◌≤◌, Bool, true, false, ⊎_elim, refl, sym, ap, subst, ◌∙◌, arith, List, [], ◌∷◌, ◌++◌, map, length, slice_index_or, pos, IsTrue, if◌then◌else◌}
 use Rattle.std.proofs.lemmas.Bool.{cond-true, cases_Bool, cases_lt}
 use Rattle.std.proofs.lemmas.List.{length-append, length-map, get_or-map, get_or_append_left, get_or-append-add}
-use Rattle.pivot_run.specs.Rows.{entry}
-use Rattle.pivot_run.specs.Pivots.{row_at}
-use Rattle.pivot_run.specs.Tables.{basic}
-use Rattle.dispatch_program.specs.Programs.{Program, Column, Unknown, Slack, Artificial, SumValue, CostValue, RightSide, Line, RuleLine, SumLine, CostLine, line_number, picked, bump, counted, all, is_limit, has_artificial, columns_of, lines_of, start_rows, place, slacks, artificials, HasColumn, own_column, basic_column, start_table, free_columns}
+use Rattle.pivot_run.specs.Prelude.{entry, row_at, basic}
+use Rattle.dispatch_program.specs.Prelude.{Program, Column, Unknown, Slack, Artificial, SumValue, CostValue, RightSide, Line, RuleLine, SumLine, CostLine, line_number, picked, bump, counted, all, is_limit, has_artificial, columns_of, lines_of, start_rows, place, slacks, artificials, HasColumn, own_column, basic_column, start_table, free_columns}
 use Rattle.dispatch_program.proofs.Combined.{AreStart}
 
 -- ---- picked places

@@ -9,11 +9,7 @@ use Rattle.std.proofs.lemmas.Option.{some_pair_parts}
 use Rattle.std.proofs.lemmas.List.{get_or-take, get_or_past, length-take}
 use Rattle.std.proofs.lemmas.List.Sums.{fails_before_first}
 use Rattle.std.proofs.lemmas.List.Quantifiers.{position-Some}
-use Rattle.pivot_run.specs.Rows.{entry}
-use Rattle.pivot_run.specs.Pivots.{row_at}
-use Rattle.pivot_run.specs.Tables.{Table, basic, entering, number, right_side}
-use Rattle.pivot_run.specs.Driven.{driven, first_driven, is_some_number, or_later}
-use Rattle.pivot_run.specs.Stages.{after_sum, cost_target, drives, on_row, rows_target, target}
+use Rattle.pivot_run.specs.Prelude.{entry, row_at, Table, basic, entering, number, right_side, driven, first_driven, is_some_number, or_later, after_sum, cost_target, drives, on_row, rows_target, target}
 use Rattle.pivot_run.specs.declared.target.Target.{Target}
 use Rattle.pivot_run.specs.declared.target.Target.TheVariants.{Row, Drive, Ended}
 use Rattle.pivot_run.proofs.Orders.{int_lt-true, int_lt-false}

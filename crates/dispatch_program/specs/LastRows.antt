@@ -2,8 +2,7 @@
 -- Source: the simplex multipliers (G. B. Dantzig, "Linear Programming and Extensions", 1963), in whole numbers.
 use Rattle.std.specs.Prelude.{◌≡◌, ℕ, ◌<◌, List, ℤ, pos, ◌+ℤ◌, ◌*ℤ◌, ◌≤ℤ◌, IsTrue}
 use Rattle.uc_model.specs.Prelude.{sum_below}
-use Rattle.pivot_run.specs.Rows.{entry}
-use Rattle.pivot_run.specs.Solutions.{Solves, dot}
+use Rattle.pivot_run.specs.Prelude.{entry, Solves, dot}
 use Rattle.dispatch_program.specs.Programs.{Program, Unknown, Slack, CostValue, RightSide, is_limit, start_rows, place, multiplier}
 
 -- a row that each solution of the start solves

@@ -1,10 +1,7 @@
 -- What a run of pivots from the start of a program's table comes to: its last rows, and the values that its basis gives.
 -- Source: the simplex method in two phases (G. B. Dantzig, "Linear Programming and Extensions", 1963).
 use Rattle.std.specs.Prelude.{◌≡◌, ◌≢◌, ℕ, ◌+◌, ◌<◌, ◌≤◌, None, IsSome, length, ℤ, pos, ◌*ℤ◌, neg_ℤ, ◌≤ℤ◌, ◌<ℤ◌, IsTrue}
-use Rattle.pivot_run.specs.Pivots.{row_at}
-use Rattle.pivot_run.specs.Tables.{IsBasic, IsTable, Table, basic, leaving, number, right_side}
-use Rattle.pivot_run.specs.Runs.{Keeps}
-use Rattle.pivot_run.specs.Values.{values_of}
+use Rattle.pivot_run.specs.Prelude.{row_at, IsBasic, IsTable, Table, basic, leaving, number, right_side, Keeps, values_of}
 use Rattle.dispatch_program.specs.Programs.{Program, Unknown, Slack, Artificial, SumValue, CostValue, RightSide, HasColumn, is_limit, place, start_table, free_columns}
 use Rattle.dispatch_program.specs.LastRows.{IsLastRow}
 use Rattle.dispatch_program.specs.ProgramValues.{AreValues, IsRay}

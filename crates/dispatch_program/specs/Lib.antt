@@ -3,3 +3,4 @@ pub mod LastRows
 pub mod ProgramValues
 pub mod LastTables
 pub mod ProgramRuns
+pub mod Prelude

@@ -1,8 +1,8 @@
 -- The run of a program's table from its start, in which all columns before the artificial ones may enter, and how it ends.
 -- Source: the simplex method in two phases (G. B. Dantzig, "Linear Programming and Extensions", 1963).
 use Rattle.std.specs.Prelude.{◌≡◌, ℕ, ◌+◌, ◌<◌, ◌⊎◌, None, pos, ◌<ℤ◌}
-use Rattle.pivot_run.specs.Tables.{Table, leaving, number}
-use Rattle.pivot_run.specs.Stages.{State, plan_at, state_after, state_of}
+use Rattle.pivot_run.specs.Prelude.{Table, leaving, number, State, state_after, state_of}
+use Rattle.pivot_run.specs.Stages.{plan_at}
 use Rattle.dispatch_program.specs.Programs.{Program, RightSide, place, start_table, free_columns}
 use Rattle.dispatch_program.specs.LastTables.{IsReached, NoneEnters, NoSumIsLeft, HasZeros}
 

@@ -2,7 +2,7 @@
 -- Source: G. B. Dantzig, "Linear Programming and Extensions", 1963.
 use Rattle.std.specs.Prelude.{◌≡◌, ℕ, ◌<◌, true, false, ℤ, pos, ◌*ℤ◌, neg_ℤ, ◌≤ℤ◌, ◌<ℤ◌, IsTrue, if◌then◌else◌}
 use Rattle.uc_model.specs.Prelude.{sum_below}
-use Rattle.pivot_run.specs.Solutions.{Solves}
+use Rattle.pivot_run.specs.Prelude.{Solves}
 use Rattle.dispatch_program.specs.Programs.{Program, Unknown, Slack, Artificial, SumValue, CostValue, RightSide, is_limit, has_artificial, start_rows, place}
 
 -- values that solve the start, over the denominator d: none is below 0, and those of the artificial columns are 0

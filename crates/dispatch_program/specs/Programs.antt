@@ -4,8 +4,7 @@
 -- (G. B. Dantzig, "Linear Programming and Extensions", 1963).
 use Rattle.std.specs.Prelude.{ℕ, zero, suc, ◌+◌, ◌<◌, ◌==◌, Bool, true, false, not, ◌||◌, List, [], ◌∷◌, ◌++◌, map, ℤ, pos, ◌-ℤ◌, ◌*ℤ◌, neg_ℤ, int_lt, IsTrue, if◌then◌else◌}
 use Rattle.uc_model.specs.Prelude.{sum_below}
-use Rattle.pivot_run.specs.Rows.{entry}
-use Rattle.pivot_run.specs.Tables.{Table}
+use Rattle.pivot_run.specs.Prelude.{entry, Table}
 
 pub record Program : Type 0 where
   -- how many unknowns and rules there are

@@ -9,8 +9,7 @@ use Rattle.schedule_check.specs.CommitmentRules as of_row
 use Rattle.schedule_check.specs.CommitmentRules.{RowKeeps}
 use Rattle.schedule_check.specs.WholeWatts.{commitment, rule_of}
 use Rattle.schedule_check.proofs.CommitmentOrder.{turn, turn_of, on_commitments}
-use Rattle.dispatch_repair.specs.Period.{Instance, Pattern, commitment_at}
-use Rattle.dispatch_repair.specs.Stuck.{IsCommitmentRule, KeepsRule, IsRegular, IsFirstBrokenRule}
+use Rattle.dispatch_repair.specs.Prelude.{Instance, Pattern, commitment_at, IsCommitmentRule, KeepsRule, IsRegular, IsFirstBrokenRule}
 use Rattle.dispatch_repair.specs.inside.Broken.{BrokenRule, IsFirstAmong, IsFirstOf, IsEarlier}
 use Rattle.dispatch_repair.proofs.RowRules.{turn_kept, turn_keeps}
 

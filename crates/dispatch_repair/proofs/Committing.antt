@@ -6,9 +6,7 @@ use Rattle.std.proofs.lemmas.List.Elements.{All-from_get_or}
 use Rattle.uc_model.specs.Prelude.{Commitment, starts, IsLawfulInstance, cell_at, thermal_unit, thermal_count, renewable_count, category_cost, category_count, is_category_allowed}
 use Rattle.uc_model.proofs.Common.{linear, le_or_lt}
 use Rattle.start_costs.specs.Cheapest.{Thermal, IsCheapestAbove}
-use Rattle.dispatch_repair.specs.Period.{Instance, Pattern, Printed, commitment_at}
-use Rattle.dispatch_repair.specs.Dispatch.{Cell, IsCommittedCell}
-use Rattle.dispatch_repair.specs.Rooms.{AreCommitted}
+use Rattle.dispatch_repair.specs.Prelude.{Instance, Pattern, Printed, commitment_at, Cell, IsCommittedCell, AreCommitted}
 use Rattle.dispatch_repair.specs.inside.Rows.{cell_of, list_of}
 use Rattle.dispatch_repair.proofs.Listed.{listed, listed_length}
 

@@ -10,9 +10,7 @@ use Rattle.cost_curves.specs.LeastCost.{IsRightSlope}
 use Rattle.cost_curves.proofs.HullValues.{line, line-segment, output_is, whole_width}
 use Rattle.cost_curves.proofs.Lines.{sub_positive}
 use Rattle.cost_curves.proofs.Slopes.{slopes_rise}
-use Rattle.dispatch_repair.specs.Period.{Instance, FromRenewable, FromThermal}
-use Rattle.dispatch_repair.specs.MeritOrder.{Slope, HasNextSlope}
-use Rattle.dispatch_repair.specs.Segments.{Point, Segment, IsAtMost, free_segment, corner_segment, IsSegmentOf, IsNextOn, IsCovered, AreSegmentsOf, source_at, width_at}
+use Rattle.dispatch_repair.specs.Prelude.{Instance, FromRenewable, FromThermal, Slope, HasNextSlope, Point, Segment, IsAtMost, free_segment, corner_segment, IsSegmentOf, IsNextOn, IsCovered, AreSegmentsOf, source_at, width_at}
 
 -- ---- places of sources
 pub renewable_at : (instance : Instance) (w : ℕ) → w < renewable_count instance → source_at instance w ≡ FromRenewable w

@@ -5,16 +5,10 @@ use Rattle.std.proofs.lemmas.Int.{ints}
 use Rattle.std.proofs.lemmas.List.Elements.{All-get_or}
 use Rattle.uc_model.specs.Prelude.{initial_p, IsLawfulInstance, IsPower, thermal_unit, thermal_count, renewable_count, demand_at, sum_below}
 use Rattle.uc_model.proofs.Common.{within_of_abs, linear, pos-mul, pos-le-pos, sum_below-const, sum_below-le}
-use Rattle.dispatch_repair.specs.Period.{Instance, Pattern, Printed, Period, low_of, head_of, heads, total_output, demand_of, need_of, thermal_limit, thermal_sum}
-use Rattle.dispatch_repair.specs.Shortage.{served, shed_of, short_of}
-use Rattle.dispatch_repair.specs.Dispatch.{period_after}
-use Rattle.dispatch_repair.specs.Segments.{Segment, AreInMeritOrder, source_count}
-use Rattle.dispatch_repair.specs.Stuck.{Stuck, IsDispatchOf, IsFree, IsRegular, IsStuckOf}
-use Rattle.dispatch_repair.specs.Amounts.{IsSizedOutput, amount_at, thermal_amount}
-use Rattle.dispatch_repair.specs.Filled.{Shortage, IsDispatchedFrom}
-use Rattle.dispatch_repair.specs.Filling.{PeriodStart, IsFirstLeft, IsStart}
+use Rattle.dispatch_repair.specs.Prelude.{Instance, Pattern, Printed, Period, low_of, head_of, total_output, demand_of, need_of, thermal_limit, thermal_sum, served, shed_of, short_of, period_after, Segment, AreInMeritOrder, source_count, Stuck, IsDispatchOf, IsFree, IsRegular, IsStuckOf, IsSizedOutput, thermal_amount, Shortage, IsDispatchedFrom, PeriodStart, IsFirstLeft, IsStart, MAX_POWER, MAX_UNITS}
+use Rattle.dispatch_repair.specs.Period.{heads}
+use Rattle.dispatch_repair.specs.Amounts.{amount_at}
 use Rattle.dispatch_repair.specs.inside.Rows.{IsWritten, list_of, written}
-use Rattle.dispatch_repair.specs.Totals.{MAX_POWER, MAX_UNITS}
 use Rattle.dispatch_repair.proofs.Committing.{idle, idle_committed}
 use Rattle.dispatch_repair.proofs.Filled.{max_right}
 use Rattle.dispatch_repair.proofs.Listed.{listed, listed_length}

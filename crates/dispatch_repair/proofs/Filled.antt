@@ -8,10 +8,8 @@ use Rattle.std.proofs.lemmas.Bool.{cond_both}
 use Rattle.uc_model.specs.Prelude.{sum_below, bit, Commitment, starts, start_reduction, start_cap, stop_cap, cap, thermal_unit, thermal_count, point_p, point_count, cell_at, shed_at, short_at}
 use Rattle.uc_model.proofs.Common.{linear, le_trans, le_antisymm, mul_nonneg, sum_below-sub, bit_nonneg, int_min_left, int_min_right}
 use Rattle.schedule_check.specs.SizedNumbers.{output_at}
-use Rattle.dispatch_repair.specs.Period.{Instance, Pattern, Printed, Thermal, Period, Source, FromThermal, commitment_at, output_before, head_of, need_of}
-use Rattle.dispatch_repair.specs.Shortage.{served}
-use Rattle.dispatch_repair.specs.MeritOrder.{IsInMeritOrder, IsReserveInOrder}
-use Rattle.dispatch_repair.specs.Dispatch.{IsFilled, amounts, period_after}
+use Rattle.dispatch_repair.specs.Prelude.{Instance, Pattern, Printed, Thermal, Period, Source, FromThermal, commitment_at, output_before, head_of, need_of, served, IsInMeritOrder, IsReserveInOrder, IsFilled, period_after}
+use Rattle.dispatch_repair.specs.Dispatch.{amounts}
 
 -- ---- least and greatest numbers
 pub max_left : (a b : ℤ) → a ≤ℤ int_max a b

@@ -5,10 +5,8 @@ use Rattle.std.proofs.lemmas.Int.{ints}
 use Rattle.std.proofs.lemmas.Bool.{cases_lt, cases_eq}
 use Rattle.uc_model.specs.Prelude.{sum_below, thermal_count, renewable_count}
 use Rattle.uc_model.proofs.Common.{linear, le_or_lt, le_antisymm, sum_below-same, sum_below-add, sum_below-single}
-use Rattle.dispatch_repair.specs.MeritOrder.{Instance, Slope, HasNextSlope}
-use Rattle.dispatch_repair.specs.Amounts.{Range, range_at, amount_at, thermal_amount}
-use Rattle.dispatch_repair.specs.Filling.{Left, IsLeft, IsOpen, IsFull, IsSpent, IsRaise, CostsUpTo, IsWorth, IsTaken, AddsUp, IsFilledTo}
-use Rattle.dispatch_repair.specs.Segments.{Segment, comes_before, source_at, source_count, segment_at, no_segment, IsSegmentOf, AreInMeritOrder}
+use Rattle.dispatch_repair.specs.Prelude.{Instance, Slope, HasNextSlope, Range, range_at, thermal_amount, Left, IsLeft, IsOpen, IsFull, IsSpent, IsRaise, CostsUpTo, IsWorth, IsTaken, AddsUp, IsFilledTo, Segment, comes_before, source_at, source_count, segment_at, no_segment, IsSegmentOf, AreInMeritOrder}
+use Rattle.dispatch_repair.specs.Amounts.{amount_at}
 use Rattle.dispatch_repair.proofs.MeritSegments.{up_to-from}
 use Rattle.dispatch_repair.proofs.SourceSlopes.{at_most_trans}
 

@@ -9,9 +9,8 @@ use Rattle.uc_model.specs.declared.stuck.Why.TheVariants as why
 use Rattle.uc_model.proofs.Common.{linear, mul-add, mul-sub, mul_assoc, le_from_mul, sum_below-same, sum_below-add, sum_below-mul_left, sum_below-le, int_le-true, int_eq-true, IsShortage, shortage_parts}
 use Rattle.dual_model.proofs.Locality.{cap-same}
 use Rattle.dual_model.proofs.PricedRules.{within_cap}
-use Rattle.dispatch_repair.specs.Period.{Period, Source, FromRenewable, FromThermal, low_of, high_of, head_of, heads, thermal_sum, renewable_sum, minimums, total_output, demand_of, need_of}
-use Rattle.dispatch_repair.specs.Shortage.{greatest_room}
-use Rattle.dispatch_repair.specs.Stuck.{Why, IsFirstObstacle, GoesOn, KeepsDispatchRules, HasNoDispatch}
+use Rattle.dispatch_repair.specs.Prelude.{Period, Source, FromRenewable, FromThermal, low_of, high_of, head_of, thermal_sum, renewable_sum, total_output, demand_of, need_of, greatest_room, Why, IsFirstObstacle, GoesOn, KeepsDispatchRules, HasNoDispatch}
+use Rattle.dispatch_repair.specs.Period.{heads, minimums}
 use Rattle.dispatch_repair.proofs.Shortages.{price_cases}
 
 -- ---- numbers over q against whole ones

@@ -6,12 +6,9 @@ use Rattle.std.proofs.lemmas.Bool.{cases_lt, lt-ltb, cond-true, cond_both}
 use Rattle.std.proofs.lemmas.List.{get_or_default}
 use Rattle.uc_model.specs.Prelude.{IsLawfulInstance, IsPower, sum_below, thermal_unit, thermal_count, renewable_count, point, point_p, point_count}
 use Rattle.uc_model.proofs.Common.{linear, le_or_lt, le_antisymm, le_trans, sum_below-same, sum_below-le, sum_below-split, int_min_left, int_min_right}
-use Rattle.dispatch_repair.specs.Period.{Instance, Period, Source, FromRenewable, FromThermal, IsSourceOf, low_of, high_of, head_of, heads, minimums, thermal_sum, renewable_sum, demand_of, thermal_limit, is_off_next}
-use Rattle.dispatch_repair.specs.MeritOrder.{Slope, HasNextSlope, HasLastSlope, ComesBefore, IsPreferred, CanMove, IsInMeritOrder, thermal_part}
-use Rattle.dispatch_repair.specs.Stuck.{HaveRanges}
-use Rattle.dispatch_repair.specs.Amounts.{Range, range_at, amount_at, amount_of, thermal_amount, AreRangesOf, IsSizedOutput}
-use Rattle.dispatch_repair.specs.Filling.{Left, IsOpen, IsFull, CostsUpTo, IsWorth, IsTaken, IsFilledTo, IsFirstLeft, IsFillable}
-use Rattle.dispatch_repair.specs.Segments.{Segment, IsNextOn, source_at, source_count, segment_at, no_segment, width_at, AreInMeritOrder}
+use Rattle.dispatch_repair.specs.Prelude.{Instance, Period, Source, FromRenewable, FromThermal, IsSourceOf, low_of, high_of, head_of, thermal_sum, renewable_sum, demand_of, thermal_limit, is_off_next, Slope, HasNextSlope, HasLastSlope, ComesBefore, IsPreferred, CanMove, IsInMeritOrder, thermal_part, HaveRanges, Range, range_at, amount_of, thermal_amount, AreRangesOf, IsSizedOutput, Left, IsOpen, IsFull, CostsUpTo, IsWorth, IsTaken, IsFilledTo, IsFirstLeft, IsFillable, Segment, IsNextOn, source_at, source_count, segment_at, no_segment, width_at, AreInMeritOrder}
+use Rattle.dispatch_repair.specs.Period.{heads, minimums}
+use Rattle.dispatch_repair.specs.Amounts.{amount_at}
 use Rattle.dispatch_repair.proofs.CurveSegments.{renewable_at, thermal_at}
 use Rattle.dispatch_repair.proofs.SourceSlopes.{next_of, next_run}
 use Rattle.dispatch_repair.proofs.Filled.{max_left}

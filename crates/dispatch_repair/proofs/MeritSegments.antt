@@ -8,7 +8,7 @@ use Rattle.std.proofs.lemmas.Bool.{ltb-true, or_cases, and_parts}
 use Rattle.std.proofs.lemmas.List.Sorted.{All-permutation, Contains-permutation}
 use Rattle.uc_model.proofs.Common.{linear, int_lt-true, int_eq-true}
 use Rattle.cost_curves.proofs.Lines.{flatter_trans}
-use Rattle.dispatch_repair.specs.Segments.{Instance, Segment, width_of, comes_before, segment_at, no_segment, IsSegmentOf, AreSegmentsOf, AreInMeritOrder, source_count}
+use Rattle.dispatch_repair.specs.Prelude.{Instance, Segment, width_of, comes_before, segment_at, no_segment, IsSegmentOf, AreSegmentsOf, AreInMeritOrder, source_count}
 
 -- ---- the test of products and places
 abbrev is_less : ℤ → ℤ → ℕ → ℕ → Bool

@@ -4,7 +4,7 @@ use Rattle.std.proofs.Common.{◌≡◌, ℕ, arith, ℤ, ◌≤ℤ◌, ◌<ℤ�
 use Rattle.std.specs.Int.{w64}
 use Rattle.std.proofs.lemmas.Int.{ints}
 use Rattle.uc_model.proofs.Common.{narrow}
-use Rattle.dispatch_repair.specs.Totals.{IsSizedTotal}
+use Rattle.dispatch_repair.specs.Prelude.{IsSizedTotal}
 
 pub at_most : (a b : ℤ) → int_lt a b ≡ false → b ≤ℤ a
 at_most a b h = grind (arith, ints)

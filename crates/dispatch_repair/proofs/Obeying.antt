@@ -14,9 +14,9 @@ use Rattle.schedule_check.proofs.Produced.{holds_to}
 use Rattle.schedule_check.proofs.CommitmentOrder.{turn, on_commitments}
 use Rattle.schedule_check.proofs.FirstPlaces.{watts, obeys_stands}
 use Rattle.schedule_check.specs.SizedNumbers.{output_at}
-use Rattle.dispatch_repair.specs.Period.{Instance, Pattern, Printed, FromRenewable, commitment_at, output_before, minimums}
-use Rattle.dispatch_repair.specs.Dispatch.{IsDispatchThrough, amounts}
-use Rattle.dispatch_repair.specs.Stuck.{IsRegular}
+use Rattle.dispatch_repair.specs.Prelude.{Instance, Pattern, Printed, FromRenewable, commitment_at, output_before, IsDispatchThrough, IsRegular}
+use Rattle.dispatch_repair.specs.Period.{minimums}
+use Rattle.dispatch_repair.specs.Dispatch.{amounts}
 use Rattle.dispatch_repair.proofs.RowRules.{turn_rule}
 use Rattle.dispatch_repair.proofs.Filled.{filled_period, cell_within, cell-le-cap, cell-le-ramp, cell_idle, reserve_reached, cap-le-start_cap, cap-le-stop_cap}
 use Rattle.dispatch_repair.proofs.Shortages.{IsPart, filled_shed, filled_short, price_cases}

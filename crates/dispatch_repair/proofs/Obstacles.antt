@@ -4,9 +4,7 @@ use Rattle.std.proofs.lemmas.Bool.{both_ways}
 use Rattle.uc_model.specs.Prelude.{thermal_count}
 use Rattle.uc_model.specs.declared.stuck.Why.TheVariants as why
 use Rattle.uc_model.proofs.Common.{le_or_lt, below_or_last}
-use Rattle.dispatch_repair.specs.Period.{Period, FromThermal, low_of, high_of, total_output, demand_of, need_of}
-use Rattle.dispatch_repair.specs.Shortage.{greatest_room}
-use Rattle.dispatch_repair.specs.Stuck.{Why, HaveRanges, HasBalance, IsBox, IsFree, IsFirstObstacle}
+use Rattle.dispatch_repair.specs.Prelude.{Period, FromThermal, low_of, high_of, total_output, demand_of, need_of, greatest_room, Why, HaveRanges, HasBalance, IsBox, IsFree, IsFirstObstacle}
 use Rattle.dispatch_repair.proofs.Shortages.{price_cases}
 
 -- what a period comes to

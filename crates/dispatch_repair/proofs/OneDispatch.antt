@@ -12,16 +12,11 @@ use Rattle.uc_model.specs.declared.stuck.Why.TheVariants as why
 use Rattle.uc_model.proofs.Common.{linear, le_trans, below_or_last, sum_below-same}
 use Rattle.start_costs.specs.Cheapest.{IsCheapestAbove}
 use Rattle.schedule_check.specs.SizedNumbers.{output_at}
-use Rattle.dispatch_repair.specs.Dispatch.{HasPeriods, IsCommittedCell, IsDispatchThrough, IsFilling, amounts, period_after}
-use Rattle.dispatch_repair.specs.Filling.{IsFillable}
-use Rattle.dispatch_repair.specs.MeritOrder.{IsInMeritOrder, IsReserveInOrder}
-use Rattle.dispatch_repair.specs.Period.{Period, FromRenewable, FromThermal, IsSourceOf, Source, commitment_at, demand_of, head_of, heads, high_of, low_of, minimums, need_of, output_before, renewable_sum, thermal_sum}
-use Rattle.dispatch_repair.specs.Stuck.{IsFirstObstacle, IsRegular, IsStuckBy, stuck_period}
-use Rattle.dispatch_repair.specs.Shortage.{greatest_room, served, shed_of, short_of}
+use Rattle.dispatch_repair.specs.Prelude.{HasPeriods, IsCommittedCell, IsDispatchThrough, IsFilling, period_after, IsFillable, IsInMeritOrder, IsReserveInOrder, Period, FromRenewable, FromThermal, IsSourceOf, Source, commitment_at, demand_of, head_of, high_of, low_of, need_of, output_before, renewable_sum, thermal_sum, IsFirstObstacle, IsRegular, IsStuckBy, stuck_period, greatest_room, served, shed_of, short_of, Instance, Pattern, Printed, Stuck, DispatchesAreSame, NeverBoth, StuckPeriodsAreSame, AreSameBelow}
+use Rattle.dispatch_repair.specs.Dispatch.{amounts}
+use Rattle.dispatch_repair.specs.Period.{heads, minimums}
 use Rattle.dispatch_repair.proofs.Filled.{filled_period, max_left, max_right}
 use Rattle.dispatch_repair.proofs.Shortages.{max_le, merit_fillable, price_cases, shed_nonneg, shed_none, short_none}
-use Rattle.dispatch_repair.specs.OneDispatch.{Instance, Pattern, Printed, Stuck, DispatchesAreSame, NeverBoth, StuckPeriodsAreSame}
-use Rattle.dispatch_repair.specs.Rooms.{AreSameBelow}
 use Rattle.dispatch_repair.proofs.OneFilling.{one_filling}
 use Rattle.dispatch_repair.proofs.Periods.{before_same}
 

@@ -6,9 +6,7 @@ use Rattle.uc_model.specs.declared.instance.Instance.{Instance}
 use Rattle.uc_model.proofs.Common.{linear, le_or_lt, le_antisymm, zero-mul, below_or_last, sum_below-le}
 use Rattle.cost_curves.specs.LowerHull.{width_of}
 use Rattle.cost_curves.proofs.UnitPoints.{lawful_points}
-use Rattle.dispatch_repair.specs.Period.{Period, Source, FromRenewable, FromThermal, IsSourceOf, low_of, high_of, thermal_sum, thermal_limit}
-use Rattle.dispatch_repair.specs.MeritOrder.{Slope, ComesBefore, HasLastSlope, HasNextSlope, IsInMeritOrder, IsPreferred, thermal_part}
-use Rattle.dispatch_repair.specs.Segments.{IsAtMost}
+use Rattle.dispatch_repair.specs.Prelude.{Period, Source, FromRenewable, FromThermal, IsSourceOf, low_of, high_of, thermal_sum, thermal_limit, Slope, ComesBefore, HasLastSlope, HasNextSlope, IsInMeritOrder, IsPreferred, thermal_part, IsAtMost}
 use Rattle.dispatch_repair.proofs.Filled.{max_left}
 use Rattle.dispatch_repair.proofs.Merit.{high-le-width}
 use Rattle.dispatch_repair.proofs.SourceSlopes.{at_most_trans, left-there, next_of, right-there, right-le-left, source_run}

@@ -7,16 +7,10 @@ use Rattle.std.proofs.lemmas.Int.{ints}
 use Rattle.uc_model.specs.Prelude.{sum_below, initial_p, IsLawfulInstance, IsLawfulThermal, thermal_unit, thermal_count, renewable_count, reserve_at, no_unit, cell_at}
 use Rattle.uc_model.specs.declared.stuck.Why.TheVariants as why
 use Rattle.schedule_check.specs.SizedNumbers.{output_at}
-use Rattle.dispatch_repair.specs.Period.{Instance, Pattern, Printed, Thermal, Period, Source, FromRenewable, FromThermal, output_before, head_of}
-use Rattle.dispatch_repair.specs.MeritOrder.{IsInMeritOrder}
-use Rattle.dispatch_repair.specs.Shortage.{served, shed_of, short_of}
-use Rattle.dispatch_repair.specs.Dispatch.{Cell, HasPeriods, IsCommittedCell, amounts, period_after, IsFilling, IsFilled, IsDispatchThrough}
-use Rattle.dispatch_repair.specs.Stuck.{Stuck, Why, IsRegular, IsFirstBrokenRule, IsDispatchOf, IsStuckInPeriod, IsFirstObstacle, stuck_period, IsStuckBy, IsStuckOf}
-use Rattle.dispatch_repair.specs.Rooms.{Obstacle, IsObstacleOf, IsStuckAfter, AreCommitted, AreSameBelow}
-use Rattle.dispatch_repair.specs.Amounts.{amount_at, amount_of, thermal_amount, IsSizedOutput}
-use Rattle.dispatch_repair.specs.Filled.{Shortage, IsDispatchedFrom}
+use Rattle.dispatch_repair.specs.Prelude.{Instance, Pattern, Printed, Thermal, Period, Source, FromRenewable, FromThermal, output_before, head_of, IsInMeritOrder, served, shed_of, short_of, Cell, HasPeriods, IsCommittedCell, period_after, IsFilling, IsFilled, IsDispatchThrough, Stuck, Why, IsRegular, IsFirstBrokenRule, IsDispatchOf, IsStuckInPeriod, IsFirstObstacle, stuck_period, IsStuckBy, IsStuckOf, Obstacle, IsObstacleOf, IsStuckAfter, AreCommitted, AreSameBelow, amount_of, thermal_amount, IsSizedOutput, Shortage, IsDispatchedFrom, source_count}
+use Rattle.dispatch_repair.specs.Dispatch.{amounts}
+use Rattle.dispatch_repair.specs.Amounts.{amount_at}
 use Rattle.dispatch_repair.specs.inside.Rows.{IsWritten}
-use Rattle.dispatch_repair.specs.Segments.{source_count}
 use Rattle.dispatch_repair.proofs.Impossible.{impossible}
 
 -- ---- what was filled stays so

@@ -4,9 +4,7 @@ use Rattle.std.proofs.Common.{◌≡◌, ℕ, ◌+◌, ◌-◌, ◌<◌, ◌≤�
 use Rattle.std.proofs.lemmas.Bool.{cases_lt}
 use Rattle.std.proofs.lemmas.List.{get_or_read}
 use Rattle.uc_model.specs.Prelude.{thermal_count, thermal_unit, renewable_count}
-use Rattle.dispatch_repair.specs.Period.{Instance, Thermal, Period, Source, FromRenewable, FromThermal, low_of, high_of}
-use Rattle.dispatch_repair.specs.Amounts.{Range, IsSizedEnd, IsRangeOf, AreRangesOf, range_at}
-use Rattle.dispatch_repair.specs.Segments.{source_at}
+use Rattle.dispatch_repair.specs.Prelude.{Instance, Thermal, Period, Source, FromRenewable, FromThermal, low_of, high_of, Range, IsSizedEnd, IsRangeOf, AreRangesOf, range_at, source_at}
 use Rattle.dispatch_repair.proofs.CurveSegments.{renewable_at, thermal_at}
 
 -- a unit that was read is the instance's

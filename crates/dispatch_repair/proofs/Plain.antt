@@ -11,8 +11,7 @@ use Rattle.uc_model.proofs.Common.{linear, mul-one, mul-zero, le_trans}
 use Rattle.schedule_check.specs.SizedNumbers.{output_at}
 use Rattle.schedule_check.proofs.Plain.{power_below, plain as plain_everywhere}
 use Rattle.schedule_check.proofs.Priced.{allowed-within}
-use Rattle.dispatch_repair.specs.Period.{Instance, Pattern, Printed, FromRenewable, commitment_at}
-use Rattle.dispatch_repair.specs.Dispatch.{IsFilled, IsDispatchThrough}
+use Rattle.dispatch_repair.specs.Prelude.{Instance, Pattern, Printed, FromRenewable, commitment_at, IsFilled, IsDispatchThrough}
 use Rattle.schedule_check.specs.PlainNumbers.{IsIdleCell, IsPlainCell, HasPlainNumbers}
 use Rattle.dispatch_repair.proofs.Filled.{cell_within, cell-le-cap, cell_idle, cap-le-range, max_right}
 use Rattle.dispatch_repair.proofs.Shortages.{IsPart, filled_shed, filled_short}

@@ -5,10 +5,8 @@ use Rattle.std.proofs.lemmas.Int.{ints}
 use Rattle.std.proofs.lemmas.Bool.{cases_lt, cond-false, cond-true, cond_both, le-ltb, lt-ltb}
 use Rattle.uc_model.specs.Prelude.{renewable_count}
 use Rattle.uc_model.proofs.Common.{linear, le_or_lt, int_min_left, int_min_right}
-use Rattle.dispatch_repair.specs.MeritOrder.{Instance}
-use Rattle.dispatch_repair.specs.Amounts.{Range, amount_at, range_at}
-use Rattle.dispatch_repair.specs.Filling.{Left, IsLeft, IsOpen, IsRaise, IsFilledTo, end_of}
-use Rattle.dispatch_repair.specs.Segments.{Segment, AreInMeritOrder, no_segment, segment_at, source_count}
+use Rattle.dispatch_repair.specs.Prelude.{Instance, Range, range_at, Left, IsLeft, IsOpen, IsRaise, IsFilledTo, end_of, Segment, AreInMeritOrder, no_segment, segment_at, source_count}
+use Rattle.dispatch_repair.specs.Amounts.{amount_at}
 use Rattle.dispatch_repair.proofs.Filling.{filled_none, step}
 use Rattle.dispatch_repair.specs.inside.Rows.{list_of}
 use Rattle.dispatch_repair.proofs.Listed.{listed, listed_length}

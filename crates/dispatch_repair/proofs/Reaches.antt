@@ -5,9 +5,7 @@ use Rattle.std.proofs.lemmas.Int.{ints}
 use Rattle.std.proofs.lemmas.Bool.{cond_both}
 use Rattle.uc_model.specs.Prelude.{Commitment, cap, start_cap, stop_cap, start_reduction, stop_reduction, starts, stops, IsLawfulInstance, IsLawfulThermal, IsPower, thermal_unit, thermal_count, renewable_count, renewable_maximum, renewable_minimum, point, point_p, point_count, bit}
 use Rattle.uc_model.proofs.Common.{linear, mul-one, mul-zero}
-use Rattle.dispatch_repair.specs.Period.{Thermal, Period, low_of, high_of, head_of, head, lowest, highest, is_off_next}
-use Rattle.dispatch_repair.specs.Amounts.{MAX_POWER, Range, AreHeadsOf, AreRangesOf, IsRangeOf, IsSizedEnd, IsSizedOutput, range_at}
-use Rattle.dispatch_repair.specs.Segments.{source_at, source_count}
+use Rattle.dispatch_repair.specs.Prelude.{Thermal, Period, low_of, high_of, head_of, head, lowest, highest, is_off_next, MAX_POWER, Range, AreHeadsOf, AreRangesOf, IsRangeOf, IsSizedEnd, IsSizedOutput, range_at, source_at, source_count}
 use Rattle.dispatch_repair.proofs.CurveSegments.{renewable_at, thermal_at}
 use Rattle.dispatch_repair.specs.inside.Rows.{list_of}
 use Rattle.dispatch_repair.proofs.Listed.{listed}

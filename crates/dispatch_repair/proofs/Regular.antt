@@ -3,8 +3,8 @@ use Rattle.std.proofs.Common.{◌≡◌, ◌⊎◌, inl, inr, ℕ, ◌<◌, arit
 use Rattle.std.proofs.lemmas.Bool.{and_parts}
 use Rattle.uc_model.specs.Prelude.{initial_stop_holds, is_allowed, is_allowed_at, Rule, MustRun, InitialUp, InitialDown, MinimumUp, MinimumDown, Category, InitialStop, Production, StartCap, StopCap, RampUp, RampDown, RenewableRange, Demand, Reserve, ShedRange, ShortRange, holds_at, thermal_count, thermal_unit, all_below}
 use Rattle.uc_model.proofs.Common.{all_below-at}
-use Rattle.dispatch_repair.specs.Period.{Instance, Pattern, commitment_at}
-use Rattle.dispatch_repair.specs.Stuck.{IsCommitmentRule, IsRegular, committed}
+use Rattle.dispatch_repair.specs.Prelude.{Instance, Pattern, commitment_at, IsCommitmentRule, IsRegular}
+use Rattle.dispatch_repair.specs.Stuck.{committed}
 
 -- a rule of another number isn't on commitments
 other : (n : ℕ) → 5 < n → (n ≡ 7 → ⊥) → (n < 6) ⊎ (n ≡ 7) → ⊥

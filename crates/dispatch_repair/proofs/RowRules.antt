@@ -7,8 +7,8 @@ use Rattle.dual_model.proofs.Locality.{SameBelow, starts-same, stops-same, keeps
 use Rattle.schedule_check.specs.CommitmentRules.{RowKeeps}
 use Rattle.schedule_check.specs.WholeWatts.{commitment, rule_of, unit_holds, unit_periods}
 use Rattle.schedule_check.proofs.CommitmentOrder.{turn}
-use Rattle.dispatch_repair.specs.Period.{Instance, Pattern, Thermal, commitment_at}
-use Rattle.dispatch_repair.specs.Stuck.{KeepsRule, committed}
+use Rattle.dispatch_repair.specs.Prelude.{Instance, Pattern, Thermal, commitment_at, KeepsRule}
+use Rattle.dispatch_repair.specs.Stuck.{committed}
 
 -- what the row keeps holds in each period; M7 says the same of each
 holds_in : (k : ℕ) → k < 6 → (unit : Thermal) (row : List Cell) → RowKeeps unit row (turn k) → (t : ℕ) → t < length row

@@ -2,10 +2,9 @@
 use Rattle.std.proofs.Common.{arith, ◌≡◌, ◌≢◌, ℕ, ◌+◌, ◌<◌, below_more, length, get_or, get_or-set_other, ap, ◌∙◌, List, [], ◌∷◌, ◌++◌}
 use Rattle.std.proofs.Math.ListN.{set}
 use Rattle.std.proofs.lemmas.List.{length_push, get_or_push, get_or_append_left}
-use Rattle.dispatch_repair.specs.Rooms.{IsNewCell}
+use Rattle.dispatch_repair.specs.Prelude.{IsNewCell, Cell, IsCommittedCell}
 use Rattle.uc_model.specs.declared.pattern.Pattern.{Pattern}
 use Rattle.uc_model.specs.declared.instance.Instance.{Instance}
-use Rattle.dispatch_repair.specs.Dispatch.{Cell, IsCommittedCell}
 use Rattle.dispatch_repair.specs.inside.Rows.{AreCommittedRows, IsCommittedRow, cell_of}
 
 -- an entry at each place up to a new last one

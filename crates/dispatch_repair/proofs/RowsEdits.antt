@@ -8,8 +8,7 @@ use Rattle.std.proofs.Math.ListN.{get_or-eq_default}
 use Rattle.std.proofs.lemmas.List.{map-set, get_or-map, get_or-take, get_or_default, length-map, length-take-le}
 use Rattle.std.proofs.lemmas.List.Edits.{map_over_more}
 use Rattle.std.proofs.lemmas.List.Elements.{All-map}
-use Rattle.dispatch_repair.specs.Dispatch.{Instance, Printed, HasPeriods}
-use Rattle.dispatch_repair.specs.Rooms.{Obstacle, AreSameBelow, IsStuckAfter, rows_of}
+use Rattle.dispatch_repair.specs.Prelude.{Instance, Printed, HasPeriods, Obstacle, AreSameBelow, IsStuckAfter, rows_of}
 use Rattle.dispatch_repair.specs.inside.Rows.{row_at}
 
 -- the row that is read is the one at its place

@@ -6,7 +6,8 @@ use mir.Syntax.{w64}
 use mir.Val.{SFits, to_z, of_z}
 use Rattle.uc_model.specs.declared.limits.TheConstants.{MAX_POWER, MAX_UNITS}
 use Rattle.uc_model.proofs.Common.{linear, within_of_abs, abs_of_within, narrow}
-use Rattle.dispatch_repair.specs.Amounts.{IsSizedOutput, IsSizedEnd, amount_at}
+use Rattle.dispatch_repair.specs.Prelude.{IsSizedOutput, IsSizedEnd}
+use Rattle.dispatch_repair.specs.Amounts.{amount_at}
 use Rattle.dispatch_repair.specs.inside.Rows.{Cell, IsLeft, cell_of, cells_with, given, reserve_of, row_at, with_power}
 use Rattle.dispatch_repair.proofs.Listed.{IsListedTo, listed_more}
 

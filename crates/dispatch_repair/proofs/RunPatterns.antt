@@ -3,7 +3,7 @@ use Rattle.std.proofs.Common.{◌≡◌, ℕ, ◌≤◌, Option, Some, None, tru
 use Rattle.uc_model.specs.Prelude.{commitment_of, IsMostOn, IsFewestOn, HasNoAllowedPattern, on_during}
 use Rattle.uc_model.specs.declared.instance.Thermal.{Thermal}
 use Rattle.uc_model.proofs.Common.{fewest-from_lowest, lowest-must_run, during-off_past}
-use Rattle.dispatch_repair.specs.MostOn.{Pattern, IsOffFrom}
+use Rattle.dispatch_repair.specs.Prelude.{Pattern, IsOffFrom}
 
 pub most-of_run : (periods : ℕ) (unit : Thermal) (first end : ℕ) (pattern : Pattern) → commitment_of pattern ≡ on_during first end
     → IsMostOn periods unit (on_during first end) → IsMostOn periods unit (commitment_of pattern)

@@ -7,16 +7,8 @@ use Rattle.std.proofs.lemmas.Bool.{cond-true, cond-false, and_parts, cases_lt, e
 use Rattle.std.proofs.lemmas.List.Elements.{All-get_or}
 use Rattle.uc_model.specs.Prelude.{bit, IsLawfulInstance, IsPower, shed_at, short_at, thermal_unit, thermal_count, renewable_count, demand_at, reserve_at}
 use Rattle.uc_model.proofs.Common.{linear, le_or_lt, le_trans, mul_nonneg, sum_below_nonneg, sum_below-le, bit_nonneg}
-use Rattle.dispatch_repair.specs.Period.{Instance, Pattern, Printed, Period, output_before, Source, FromRenewable, FromThermal, low_of, high_of, heads, thermal_sum, renewable_sum, minimums, total_output, demand_of, need_of}
-use Rattle.dispatch_repair.specs.Shortage.{reserve_room, served, unmet, lacking, shed_of, short_of}
-use Rattle.dispatch_repair.specs.MeritOrder.{IsInMeritOrder}
-use Rattle.dispatch_repair.specs.Dispatch.{period_after, IsFilled}
-use Rattle.dispatch_repair.specs.Stuck.{HaveRanges, IsFree}
-use Rattle.dispatch_repair.specs.Amounts.{Range, AreHeadsOf, AreRangesOf}
-use Rattle.dispatch_repair.specs.Filled.{Shortage, AreShortages, IsDispatchedFrom, served_by}
-use Rattle.dispatch_repair.specs.Filling.{Left, PeriodStart, IsFillable, IsFilledTo, IsFirstLeft, IsStart}
-use Rattle.dispatch_repair.specs.Totals.{Totals, AreTotalsOf, IsSizedLeft}
-use Rattle.dispatch_repair.specs.Segments.{Segment, AreInMeritOrder}
+use Rattle.dispatch_repair.specs.Prelude.{Instance, Pattern, Printed, Period, output_before, Source, FromRenewable, FromThermal, low_of, high_of, thermal_sum, renewable_sum, total_output, demand_of, need_of, reserve_room, served, unmet, lacking, shed_of, short_of, IsInMeritOrder, period_after, IsFilled, HaveRanges, IsFree, Range, AreHeadsOf, AreRangesOf, Shortage, AreShortages, IsDispatchedFrom, served_by, Left, PeriodStart, IsFillable, IsFilledTo, IsFirstLeft, IsStart, Totals, AreTotalsOf, IsSizedLeft, Segment, AreInMeritOrder}
+use Rattle.dispatch_repair.specs.Period.{heads, minimums}
 use Rattle.dispatch_repair.proofs.Filled.{filled_period, max_left, max_right}
 use Rattle.dispatch_repair.proofs.Merit.{IsFilledUp, first_need, first_room, good_renewable, high-le-head, in_merit_order, width_size}
 

@@ -8,9 +8,7 @@ use Rattle.cost_curves.specs.LowerHull.{AreLawfulPoints, width_of}
 use Rattle.cost_curves.proofs.HullValues.{slope_right}
 use Rattle.cost_curves.proofs.Lines.{flatter_trans}
 use Rattle.cost_curves.proofs.Slopes.{slope_run, slopes_rise}
-use Rattle.dispatch_repair.specs.Period.{Instance, Source, FromRenewable, FromThermal}
-use Rattle.dispatch_repair.specs.MeritOrder.{Slope, HasLastSlope, HasNextSlope}
-use Rattle.dispatch_repair.specs.Segments.{IsAtMost, source_at}
+use Rattle.dispatch_repair.specs.Prelude.{Instance, Source, FromRenewable, FromThermal, Slope, HasLastSlope, HasNextSlope, IsAtMost, source_at}
 
 pub left-there : (points : List Point) (p : ℤ) → AreLawfulPoints points → pos 0 <ℤ p → p ≤ℤ width_of points → (slope : Slope) × IsLeftSlope points p slope
 left-there points p lawful low high =

@@ -4,10 +4,9 @@ use Rattle.std.proofs.Common.{◌≡◌, ℕ, ◌+◌, ◌-◌, ◌<◌, arith, 
 use Rattle.std.specs.Int.{w64}
 use Rattle.uc_model.specs.Prelude.{thermal_count, renewable_count, sum_below}
 use Rattle.uc_model.proofs.Common.{sum_below-same}
-use Rattle.dispatch_repair.specs.Period.{Period, Source, FromRenewable, FromThermal, heads, renewable_sum, thermal_sum}
-use Rattle.dispatch_repair.specs.Amounts.{Range, AreHeadsOf, AreRangesOf, amount_at, range_at}
-use Rattle.dispatch_repair.specs.Segments.{source_count}
-use Rattle.dispatch_repair.specs.Totals.{IsSizedSum, IsSum}
+use Rattle.dispatch_repair.specs.Prelude.{Period, Source, FromRenewable, FromThermal, renewable_sum, thermal_sum, Range, AreHeadsOf, AreRangesOf, range_at, source_count, IsSizedSum, IsSum}
+use Rattle.dispatch_repair.specs.Period.{heads}
+use Rattle.dispatch_repair.specs.Amounts.{amount_at}
 use Rattle.dispatch_repair.proofs.Places.{HasEnds, renewable_ends, thermal_ends}
 
 abbrev no_range : Range

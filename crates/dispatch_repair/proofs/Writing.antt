@@ -5,10 +5,8 @@ use Rattle.std.proofs.lemmas.List.{get_or_past}
 use Rattle.std.proofs.lemmas.List.Elements.{All-from_get_or}
 use Rattle.uc_model.specs.Prelude.{cell_at, thermal_count, renewable_count, reserve_at, sum_below}
 use Rattle.schedule_check.specs.SizedNumbers.{output_at}
-use Rattle.dispatch_repair.specs.Period.{Instance, Printed}
-use Rattle.dispatch_repair.specs.Dispatch.{HasPeriods}
-use Rattle.dispatch_repair.specs.Amounts.{amount_at, thermal_amount}
-use Rattle.dispatch_repair.specs.Filled.{Shortage}
+use Rattle.dispatch_repair.specs.Prelude.{Instance, Printed, HasPeriods, thermal_amount, Shortage}
+use Rattle.dispatch_repair.specs.Amounts.{amount_at}
 use Rattle.dispatch_repair.specs.inside.Rows.{Cell, IsWritten, cell_of, cells_with, given, list_of, outputs_with, reserve_of, row_at, with_power, written}
 use Rattle.dispatch_repair.proofs.Listed.{listed, listed_length}
 

@@ -12,3 +12,4 @@ pub mod Rooms
 pub mod inside
 pub mod MostOn
 pub mod OneDispatch
+pub mod Prelude

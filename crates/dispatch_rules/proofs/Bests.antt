@@ -5,9 +5,8 @@ use Rattle.std.proofs.Common.{◌≡◌, ℕ, ◌<◌, ◌==◌, nat_lt, Bool, t
 use Rattle.std.proofs.lemmas.Bool.{cases_Bool, cond_both, eq-eqb, ne_eqb, and_parts, ltb-true, ltb-false}
 use Rattle.uc_model.specs.Prelude.{sum_below, thermal_unit, thermal_count}
 use Rattle.uc_model.proofs.Common.{linear, mul-zero, mul-one, mul-sub, mul-neg, mul-le-mul_left, sum_below-same, sum_below-zero, sum_below-single, sum_below-add, sum_below-le, term-le-sum_below}
-use Rattle.pivot_run.specs.Rows.{entry}
-use Rattle.dispatch_program.specs.Programs.{place, CostValue, RightSide}
-use Rattle.dispatch_program.specs.ProgramValues.{AreValues}
+use Rattle.pivot_run.specs.Prelude.{entry}
+use Rattle.dispatch_program.specs.Prelude.{place, CostValue, RightSide, AreValues}
 use Rattle.dispatch_rules.specs.Cells.{segments}
 use Rattle.dispatch_rules.specs.Dispatch.{Task, Amount, Length, Held, Given, Shed, Short, cost_of, program}
 use Rattle.dispatch_rules.specs.Duals.{IsTask, cost_times, left_costs, start_costs}

@@ -6,9 +6,8 @@ use Rattle.std.proofs.lemmas.Bool.{cond-true, cond-false, cond_both}
 use Rattle.uc_model.specs.Prelude.{rule_number, Production, StartCap, StopCap, RampUp, RampDown, Demand, Reserve, start_cap, stop_cap, cap, thermal_unit, thermal_count}
 use Rattle.uc_model.proofs.Common.{linear, mul-one, mul-neg, mul_assoc, mul_nonneg, mul-zero, zero-mul, add-mul, mul-le-mul_left, int_min_left, int_min_right}
 use Rattle.dual_model.specs.Prelude.{IsCellBound}
-use Rattle.pivot_run.specs.Rows.{entry}
-use Rattle.dispatch_program.specs.Programs.{RightSide, place, multiplier, start_rows}
-use Rattle.dispatch_program.specs.LastRows.{IsLastRow}
+use Rattle.pivot_run.specs.Prelude.{entry}
+use Rattle.dispatch_program.specs.Prelude.{RightSide, place, multiplier, start_rows, IsLastRow}
 use Rattle.dispatch_program.proofs.Combined.{unknown_is, right_is, multiplier_nonneg}
 use Rattle.dispatch_program.proofs.Starts.{start_is}
 use Rattle.dispatch_rules.specs.Cells.{IsPricedCell, segments, width_at, rise_at}

@@ -3,9 +3,8 @@
 use Rattle.std.proofs.Common.{◌≡◌, ℕ, ◌<◌, ◌⊎◌, ⊎_elim, inl, inr, Option, None, Some, IsSome, refl, sym, subst, ◌∙◌, arith, ℤ, pos, ◌<ℤ◌, IsTrue}
 use Rattle.std.proofs.lemmas.Bool.{cond_both}
 use Rattle.uc_model.proofs.Common.{linear}
-use Rattle.pivot_run.specs.Tables.{leaving}
-use Rattle.dispatch_program.specs.Programs.{Program, Column, Unknown, Slack, Artificial, SumValue, CostValue, RightSide, is_limit, has_artificial, place}
-use Rattle.dispatch_program.specs.ProgramRuns.{state_at, SumIsLeft, IsCheapest, IsStuck}
+use Rattle.pivot_run.specs.Prelude.{leaving}
+use Rattle.dispatch_program.specs.Prelude.{Program, Column, Unknown, Slack, Artificial, SumValue, CostValue, RightSide, is_limit, has_artificial, place, state_at, SumIsLeft, IsCheapest, IsStuck}
 use Rattle.dispatch_program.proofs.Starts.{IsFree, free_column}
 use Rattle.dispatch_program.proofs.Entering.{entering_gives_rays}
 use Rattle.dispatch_program.proofs.ProgramRuns.{runs_come, runs_end}

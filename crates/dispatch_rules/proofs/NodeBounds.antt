@@ -12,9 +12,8 @@ use Rattle.dual_model.specs.declared.table.Table.{Table}
 use Rattle.dual_model.specs.declared.node.Node.{Node}
 use Rattle.dual_model.proofs.Locality.{SameBelow, starts-same, cap-same, sigma-same}
 use Rattle.dual_model.proofs.Multipliers.{up_at_past, down_at_past}
-use Rattle.pivot_run.specs.Rows.{entry}
-use Rattle.dispatch_program.specs.Programs.{RightSide, place, multiplier}
-use Rattle.dispatch_program.specs.LastRows.{IsLastRow}
+use Rattle.pivot_run.specs.Prelude.{entry}
+use Rattle.dispatch_program.specs.Prelude.{RightSide, place, multiplier, IsLastRow}
 use Rattle.dispatch_rules.specs.Dispatch.{Task, Given, Shed, Short, Limit, limit, amounts, amounts_in, unit_amounts, listed, where_true, copies, right_of, low_at, program}
 use Rattle.dispatch_rules.specs.Duals.{IsTask, IsReadOff, IsNodeOf, LastRowsBound, times_at, cost_times, scale_of, pi_of, up_of, down_of, output_price, reserve_price, bound_of, needs_part, period_part, constant_part, renewable_part, start_cost, start_costs, left_costs}
 use Rattle.dispatch_rules.proofs.Listed.{StandsIn, stands_alone, stands_left, stands_right, stands_listed}

@@ -4,7 +4,7 @@ use Rattle.std.proofs.Common.{◌≡◌, ◌≢◌, ℕ, zero, suc, ◌<◌, ◌
 use Rattle.std.proofs.lemmas.Bool.{cond-true, cond_both, cases_eq, eq-eqb, ne_eqb, eqb-true, and_parts, true≢false, lt-ltb}
 use Rattle.uc_model.specs.Prelude.{sum_below, bit, Production, StartCap, StopCap, RampUp, RampDown, RenewableRange, Demand, Reserve, ShedRange, ShortRange, rule_units, start_cap, stop_cap, thermal_unit, thermal_count, renewable_count, renewable_maximum, demand_at, reserve_at}
 use Rattle.uc_model.proofs.Common.{linear, mul-zero, zero-mul, mul-add, add-mul, sub-mul, mul-sub, mul-neg, mul_nonneg, mul_assoc, sum_below-same, sum_below-zero, sum_below-single, sum_below-add, sum_below-sub, sum_below_nonneg, sum_below-mul_left, sum_below-mul_right, sum_below-swap}
-use Rattle.dispatch_program.specs.ProgramValues.{AreValues}
+use Rattle.dispatch_program.specs.Prelude.{AreValues}
 use Rattle.dispatch_program.proofs.LineSums.{limit_holds, equality_holds, cost_is}
 use Rattle.dispatch_rules.specs.Cells.{segments, width_at}
 use Rattle.dispatch_rules.specs.Dispatch.{Task, Amount, Length, Held, Given, Shed, Short, Limit, limit, is_demand, parts, times_in, copies, listed, where_true, limits_of, limits, rule_from, right_at, right_of, low_at, given_output, initial_at, unit_amounts, amounts_in, amounts, amount_at, program}

@@ -5,8 +5,7 @@ use Rattle.std.proofs.lemmas.Int.{ints}
 use Rattle.std.proofs.lemmas.Bool.{cond-true, cond-false, eq-eqb, true≢false}
 use Rattle.uc_model.specs.Prelude.{sum_below, ShedRange, ShortRange, Production, rule_units, demand_at, reserve_at, IsLawfulInstance}
 use Rattle.uc_model.proofs.Common.{linear, one-mul, neg-mul, mul-zero, zero-mul, mul_nonneg, sum_below-same, sum_below-zero, sum_below-single, term-le-sum_below}
-use Rattle.dispatch_program.specs.Programs.{Program, Unknown, Slack, Artificial, RightSide, sign, one_at, is_limit, is_negated, has_artificial, rule_number, place}
-use Rattle.dispatch_program.specs.ProgramValues.{IsRay}
+use Rattle.dispatch_program.specs.Prelude.{Program, Unknown, Slack, Artificial, RightSide, sign, one_at, is_limit, is_negated, has_artificial, rule_number, place, IsRay}
 use Rattle.dispatch_program.proofs.Combined.{one_at-same, one_at-other}
 use Rattle.dispatch_program.proofs.Lines.{rule_line, own_sum, slack_sum, slack_at}
 use Rattle.dispatch_rules.specs.Cells.{segments}

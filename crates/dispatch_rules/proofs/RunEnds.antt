@@ -5,10 +5,8 @@ use Rattle.std.proofs.lemmas.Bool.{cond_both}
 use Rattle.uc_model.specs.Prelude.{point_of, thermal_unit, thermal_count}
 use Rattle.uc_model.proofs.Common.{linear, zero-mul, sum_below-zero}
 use Rattle.dual_model.specs.Prelude.{least_start_cost}
-use Rattle.pivot_run.specs.Pivots.{row_at}
-use Rattle.pivot_run.specs.Tables.{number}
-use Rattle.dispatch_program.specs.Programs.{CostValue, place}
-use Rattle.dispatch_program.specs.LastTables.{basis_values}
+use Rattle.pivot_run.specs.Prelude.{row_at, number}
+use Rattle.dispatch_program.specs.Prelude.{CostValue, place, basis_values}
 use Rattle.dispatch_program.proofs.LastTables.{count, cost_column, ends_are_last, bases_give_values}
 use Rattle.dispatch_rules.specs.Dispatch.{Task, program}
 use Rattle.dispatch_rules.specs.Duals.{scale_of, left_cost, left_costs, start_cost, start_costs}

@@ -4,9 +4,8 @@ use Rattle.std.proofs.Common.{◌≡◌, ◌≢◌, ℕ, zero, suc, ◌<◌, nat
 use Rattle.std.proofs.lemmas.Bool.{cases_Bool, cond-true, cond-false, true≢false}
 use Rattle.uc_model.specs.Prelude.{sum_below, bit, point_of, Rule, Production, StartCap, StopCap, RampUp, RampDown, RenewableRange, Demand, Reserve, ShedRange, ShortRange, start_cap, stop_cap, start_reduction, stop_reduction, initial_p, was_on, thermal_unit, thermal_count, renewable_count, demand_at, reserve_at}
 use Rattle.uc_model.proofs.Common.{linear, mul-one, mul-neg, neg-mul, mul-zero, zero-mul, mul-add, mul-sub, sub-mul, sum_below-same, sum_below-add, sum_below-sub, sum_below-neg, sum_below-single, sum_below-mul_left, sum_below-swap}
-use Rattle.pivot_run.specs.Rows.{entry}
-use Rattle.dispatch_program.specs.Programs.{RightSide, place}
-use Rattle.dispatch_program.specs.LastRows.{IsLastRow}
+use Rattle.pivot_run.specs.Prelude.{entry}
+use Rattle.dispatch_program.specs.Prelude.{RightSide, place, IsLastRow}
 use Rattle.dispatch_rules.specs.Cells.{segments, width_at}
 use Rattle.dispatch_rules.specs.Dispatch.{Task, Limit, limit, copies, right_of, initial_at, low_at, given_output, program, over_limits}
 use Rattle.dispatch_rules.specs.Duals.{IsTask, times_at, scale_of, pi_of, mu_of, up_of, down_of, bound_of, caps_of, needs_part, period_part, constant_part, renewable_part, total_part, left_cost, left_costs}

@@ -6,7 +6,7 @@ use Rattle.std.specs.Int.{int_max}
 use Rattle.uc_model.specs.Prelude.{sum_below, bit, Commitment, start_cap, stop_cap, initial_p, Rule, Production, StartCap, StopCap, RampUp, RampDown, RenewableRange, Demand, Reserve, ShedRange, ShortRange, rule_number, rule_units, thermal_unit, thermal_count, renewable_count, renewable_minimum, renewable_maximum, demand_at, reserve_at, most_shed, most_short}
 use Rattle.uc_model.specs.declared.instance.Instance.{Instance}
 use Rattle.cost_curves.specs.LowerHull.{Point}
-use Rattle.dispatch_program.specs.Programs.{Program}
+use Rattle.dispatch_program.specs.Prelude.{Program}
 pub use Rattle.dispatch_rules.specs.declared.amount.Amount.{Amount}
 pub use Rattle.dispatch_rules.specs.declared.amount.Amount.TheVariants.{Length, Held, Given, Shed, Short}
 use Rattle.dispatch_rules.specs.Cells.{width_at, rise_at, segments}

@@ -7,9 +7,8 @@ use Rattle.cost_curves.specs.LowerHull.{IsLowerHull}
 use Rattle.dual_model.specs.declared.table.Table.{Table}
 use Rattle.dual_model.specs.declared.node.Node.{Node}
 use Rattle.dual_model.specs.Prelude.{HasSizeOf, pi_at, mu_at, up_at, down_at, IsPatternAt, IsNodeValue, least_start_cost}
-use Rattle.pivot_run.specs.Rows.{entry}
-use Rattle.dispatch_program.specs.Programs.{CostValue, RightSide, place, multiplier}
-use Rattle.dispatch_program.specs.LastRows.{IsLastRow}
+use Rattle.pivot_run.specs.Prelude.{entry}
+use Rattle.dispatch_program.specs.Prelude.{CostValue, RightSide, place, multiplier, IsLastRow}
 use Rattle.dispatch_rules.specs.Cells.{width_at, rise_at, cell_bound}
 use Rattle.dispatch_rules.specs.Dispatch.{Task, Length, Limit, limit, copies, right_of, cost_of, low_at, program, times_of}
 

@@ -5,10 +5,8 @@ use Rattle.uc_model.specs.Prelude.{sum_below, bit, start_cap, stop_cap, initial_
 use Rattle.dual_model.specs.declared.table.Table.{Table}
 use Rattle.dual_model.specs.declared.node.Node.{Node}
 use Rattle.dual_model.specs.Prelude.{IsNodeValue}
-use Rattle.pivot_run.specs.Rows.{entry}
-use Rattle.dispatch_program.specs.LastRows.{IsLastRow}
-use Rattle.dispatch_program.specs.ProgramValues.{AreValues}
-use Rattle.dispatch_program.specs.Programs.{CostValue, RightSide, place}
+use Rattle.pivot_run.specs.Prelude.{entry}
+use Rattle.dispatch_program.specs.Prelude.{IsLastRow, AreValues, CostValue, RightSide, place}
 use Rattle.dispatch_rules.specs.Duals.{IsTask, IsReadOff, IsNodeOf, cost_times, left_costs, start_costs}
 use Rattle.dispatch_rules.specs.Cells.{width_at, segments}
 use Rattle.dispatch_rules.specs.Dispatch.{Task, Amount, Length, Held, Given, Shed, Short, amounts, amount_at, low_at, program, cost_of}

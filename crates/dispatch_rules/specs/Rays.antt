@@ -2,12 +2,9 @@
 -- Source: the rays of a linear program (G. B. Dantzig, "Linear Programming and Extensions", 1963).
 use Rattle.std.specs.Prelude.{◌≡◌, ℕ, ◌<◌, ◌⊎◌, ℤ, pos, ◌≤ℤ◌, IsSome, None, IsTrue, if◌then◌else◌}
 use Rattle.uc_model.specs.Prelude.{start_cap, thermal_unit, thermal_count, IsLawfulInstance}
-use Rattle.pivot_run.specs.Tables.{Table, leaving}
+use Rattle.pivot_run.specs.Prelude.{Table, leaving}
 use Rattle.pivot_run.specs.Stages.{plan_at}
-use Rattle.dispatch_program.specs.Programs.{Unknown, Slack, Artificial, is_limit, has_artificial, place, free_columns}
-use Rattle.dispatch_program.specs.ProgramValues.{IsRay}
-use Rattle.dispatch_program.specs.LastTables.{IsReached, HasZeros}
-use Rattle.dispatch_program.specs.ProgramRuns.{state_at, SumIsLeft, IsCheapest}
+use Rattle.dispatch_program.specs.Prelude.{Unknown, Slack, Artificial, is_limit, has_artificial, place, free_columns, IsRay, IsReached, HasZeros, state_at, SumIsLeft, IsCheapest}
 use Rattle.dispatch_rules.specs.Dispatch.{Task, program}
 use Rattle.dispatch_rules.specs.Duals.{IsTask}
 

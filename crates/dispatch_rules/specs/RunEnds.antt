@@ -5,10 +5,9 @@ use Rattle.uc_model.specs.Prelude.{IsLawfulInstance}
 use Rattle.dual_model.specs.declared.table.Table.{Table}
 use Rattle.dual_model.specs.declared.node.Node.{Node}
 use Rattle.dual_model.specs.Prelude.{IsNodeValue}
-use Rattle.pivot_run.specs.Pivots.{row_at}
+use Rattle.pivot_run.specs.Prelude.{row_at}
 use Rattle.pivot_run.specs.Tables as pivots
-use Rattle.dispatch_program.specs.LastTables.{IsReached, AreShares, basis_values}
-use Rattle.dispatch_program.specs.ProgramRuns.{SumIsLeft, IsCheapest}
+use Rattle.dispatch_program.specs.Prelude.{IsReached, AreShares, basis_values, SumIsLeft, IsCheapest}
 use Rattle.dispatch_rules.specs.Dispatch.{Task, program}
 use Rattle.dispatch_rules.specs.Duals.{IsTask, IsReadOff, IsNodeOf, cost_times, left_costs, start_costs}
 use Rattle.dispatch_rules.specs.Primals.{IsDispatch, AreSegments, dispatch_cost}

@@ -1,7 +1,7 @@
 //! A worked example of the definitions, as a contract: the check computes it.
 
 ghost use Rattle.std.specs.Prelude.{◌≡◌};
-ghost use Rattle.dispatch_program.specs.Programs.{start_rows};
+ghost use Rattle.dispatch_program.specs.Prelude.{start_rows};
 ghost use Rattle.dispatch_rules.specs.Dispatch.{program};
 ghost use Rattle.dispatch_rules.specs.Examples.{small_rows, small_task};
 

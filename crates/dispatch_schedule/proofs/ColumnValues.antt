@@ -10,9 +10,8 @@ use Rattle.uc_model.proofs.Common.{linear, mul_comm, mul_assoc, mul-neg, zero-mu
 use Rattle.fractions.specs.declared.fraction.Fraction.{Fraction}
 use Rattle.fractions.specs.Fractions.{IsLowest}
 use Rattle.fractions.proofs.Divided.{fractions_are_lowest, joined_are_least}
-use Rattle.pivot_run.specs.Tables.{Table, basic, number, right_side}
-use Rattle.dispatch_program.specs.Programs.{Program, RightSide, SumValue, place}
-use Rattle.dispatch_program.specs.LastTables.{IsReached, AreShares, basis_values}
+use Rattle.pivot_run.specs.Prelude.{Table, basic, number, right_side}
+use Rattle.dispatch_program.specs.Prelude.{Program, RightSide, SumValue, place, IsReached, AreShares, basis_values}
 use Rattle.dispatch_program.proofs.BasicValues.{at_other, value_basic, value_none}
 use Rattle.dispatch_program.proofs.LastTables.{count, early_rule}
 use Rattle.dispatch_schedule.specs.ColumnValues.{nothing, row_value, value_to, column_value, denominator_to}

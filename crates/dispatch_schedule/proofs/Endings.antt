@@ -16,10 +16,8 @@ use Rattle.schedule_check.specs.SizedNumbers.{HasSizedNumbers, IsSized, IsSizedC
 use Rattle.start_costs.specs.Cheapest.{HasLeastCategory}
 use Rattle.fractions.specs.declared.fraction.Fraction.{Fraction}
 use Rattle.fractions.specs.Fractions.{joined, JoinForms}
-use Rattle.pivot_run.specs.Pivots.{IsNarrow}
-use Rattle.pivot_run.specs.Tables.{Table}
-use Rattle.dispatch_program.specs.LastTables.{AreShares, basis_values}
-use Rattle.dispatch_program.specs.ProgramValues.{AreValues}
+use Rattle.pivot_run.specs.Prelude.{IsNarrow, Table}
+use Rattle.dispatch_program.specs.Prelude.{AreShares, basis_values, AreValues}
 use Rattle.dispatch_program.proofs.BasicValues.{shares_exist}
 use Rattle.dispatch_rules.specs.declared.amount.Amount.{Amount}
 use Rattle.dispatch_rules.specs.declared.amount.Amount.TheVariants.{Shed}

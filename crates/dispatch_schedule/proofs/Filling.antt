@@ -6,12 +6,8 @@ use Rattle.std.proofs.lemmas.Int.{by_lt_z}
 use Rattle.uc_model.specs.Prelude.{Production, StartCap, StopCap, RampUp, RampDown, Demand, point_of, thermal_unit, thermal_count, IsLawfulInstance}
 use Rattle.uc_model.proofs.Common.{linear, spread, mul_comm, mul_assoc, mul-zero, zero-mul, mul-one, one-mul, mul-lt-mul_left, mul-le-mul_left, sum_below-same, sum_below-single}
 use Rattle.cost_curves.specs.LowerHull.{Point, IsLowerHull}
-use Rattle.pivot_run.specs.Pivots.{row_at}
-use Rattle.pivot_run.specs.Tables.{Table, basic, number}
-use Rattle.dispatch_program.specs.Programs.{Program, Slack, SumValue, RightSide, is_limit, place, multiplier, start_rows}
-use Rattle.dispatch_program.specs.LastRows.{IsLastRow}
-use Rattle.dispatch_program.specs.LastTables.{IsReached, AreShares, basis_values}
-use Rattle.dispatch_program.specs.ProgramRuns.{IsCheapest}
+use Rattle.pivot_run.specs.Prelude.{row_at, Table, basic, number}
+use Rattle.dispatch_program.specs.Prelude.{Program, Slack, SumValue, RightSide, is_limit, place, multiplier, start_rows, IsLastRow, IsReached, AreShares, basis_values, IsCheapest}
 use Rattle.dispatch_program.proofs.BasicValues.{at_other, value_none}
 use Rattle.dispatch_program.proofs.Combined.{unknown_is}
 use Rattle.dispatch_program.proofs.LastTables.{count, cost_column, early_rule, ends_are_last}

@@ -9,8 +9,7 @@ use Rattle.uc_model.proofs.Common.{below_or_last}
 use Rattle.fractions.specs.declared.fraction.Fraction.{Fraction}
 use Rattle.fractions.specs.Fractions.{joined, JoinForms}
 use Rattle.fractions.proofs.Divided.{joined_are_least}
-use Rattle.pivot_run.specs.Pivots.{IsNarrow}
-use Rattle.pivot_run.specs.Tables.{Table, basic}
+use Rattle.pivot_run.specs.Prelude.{IsNarrow, Table, basic}
 use Rattle.dispatch_schedule.specs.ColumnValues.{nothing, row_value, value_to}
 use Rattle.dispatch_schedule.specs.inside.Values.{AreValuesTo, ArePositive, JoiningForms, fraction_at, joined_to}
 

@@ -10,10 +10,8 @@ use Rattle.uc_model.specs.declared.limits.TheConstants.{MAX_POWER}
 use Rattle.uc_model.specs.declared.instance.Thermal.{Thermal}
 use Rattle.uc_model.proofs.Common.{linear, mul_comm, mul_assoc, mul_left_comm, mul_nonneg, mul-zero, mul-one, one-mul, mul-add, mul-le-mul_left, le_from_mul, le_trans, sum_below-same, sum_below-mul_left, sum_below_nonneg, term-le-sum_below}
 use Rattle.fractions.proofs.Divided.{times}
-use Rattle.pivot_run.specs.Tables.{Table}
-use Rattle.dispatch_program.specs.LastTables.{IsReached, AreShares, basis_values}
-use Rattle.dispatch_program.specs.ProgramRuns.{IsCheapest}
-use Rattle.dispatch_program.specs.ProgramValues.{AreValues}
+use Rattle.pivot_run.specs.Prelude.{Table}
+use Rattle.dispatch_program.specs.Prelude.{IsReached, AreShares, basis_values, IsCheapest, AreValues}
 use Rattle.dispatch_program.proofs.LastTables.{bases_give_values}
 use Rattle.dispatch_rules.specs.declared.amount.Amount.{Amount}
 use Rattle.dispatch_rules.specs.declared.amount.Amount.TheVariants.{Length, Held, Given, Shed, Short}

@@ -10,9 +10,8 @@ use Rattle.uc_model.specs.Prelude.{sum_below, IsLawfulInstance}
 use Rattle.uc_model.proofs.Common.{linear, mul_comm, mul_assoc, mul_left_comm, mul-zero, zero-mul, add-mul, sub-mul, le_or_lt, le_antisymm, le_from_mul, le_of_eq, sum_below-sub, sum_below-single, sum_below-mul_left}
 use Rattle.cost_curves.proofs.LowestTerms.{coprime-dvd}
 use Rattle.fractions.proofs.Divided.{joined_are_least}
-use Rattle.pivot_run.specs.Tables.{Table}
-use Rattle.dispatch_program.specs.LastTables.{IsReached, AreShares, basis_values}
-use Rattle.dispatch_program.specs.ProgramRuns.{IsCheapest}
+use Rattle.pivot_run.specs.Prelude.{Table}
+use Rattle.dispatch_program.specs.Prelude.{IsReached, AreShares, basis_values, IsCheapest}
 use Rattle.dispatch_rules.specs.declared.amount.Amount.{Amount}
 use Rattle.dispatch_rules.specs.declared.amount.Amount.TheVariants.{Length, Held, Given, Shed, Short}
 use Rattle.dispatch_rules.specs.Prelude.{segments, width_at, Task, amounts, amount_at, program, IsTask, sum_of, length_in, output_in, held_in, given_in, shed_in, short_in}

@@ -4,7 +4,7 @@
 use Rattle.std.specs.Prelude.{ℕ, zero, suc, ◌<◌, ◌==◌, if◌then◌else◌, length, ℤ, pos}
 use Rattle.fractions.specs.declared.fraction.Fraction.{Fraction}
 use Rattle.fractions.specs.Fractions.{lowest, joined, JoinForms}
-use Rattle.pivot_run.specs.Tables.{Table, basic, number, right_side}
+use Rattle.pivot_run.specs.Prelude.{Table, basic, number, right_side}
 use Rattle.dispatch_rules.specs.Prelude.{Task, amounts}
 
 abbrev pub nothing : Fraction

@@ -6,10 +6,8 @@ use Rattle.uc_model.specs.declared.instance.Instance.{Instance}
 use Rattle.uc_model.specs.declared.pattern.Pattern.{Pattern}
 use Rattle.uc_model.specs.Prelude.{IsLawfulInstance, thermal_count, renewable_count}
 use Rattle.schedule_check.specs.SizedNumbers.{HasSizedNumbers}
-use Rattle.pivot_run.specs.Pivots.{IsNarrow, IsWide}
-use Rattle.pivot_run.specs.Tables.{Table}
-use Rattle.dispatch_program.specs.LastTables.{IsReached, AreShares, basis_values}
-use Rattle.dispatch_program.specs.ProgramRuns.{IsCheapest}
+use Rattle.pivot_run.specs.Prelude.{IsNarrow, IsWide, Table}
+use Rattle.dispatch_program.specs.Prelude.{IsReached, AreShares, basis_values, IsCheapest}
 use Rattle.dispatch_rules.specs.Prelude.{IsTaskOf, Task, amounts, program, IsTask, sum_of, output_in, held_in, given_in, shed_in, short_in, Prints}
 use Rattle.dispatch_rules.specs.declared.amount.Amount.{Amount}
 pub use Rattle.dispatch_schedule.specs.declared.shown.Shown.{Shown}

@@ -2,8 +2,7 @@
 
 ghost use Rattle.std.specs.Prelude.{◌≡◌, ◌<◌, length, pos, ◌≤ℤ◌, ◌<ℤ◌, slice_set, IfErr, IfOk, OnOk};
 ghost use Rattle.fractions.specs.Fractions.{lowest};
-ghost use Rattle.pivot_run.specs.Pivots.{IsNarrow, IsWide};
-ghost use Rattle.pivot_run.specs.Tables.{basic};
+ghost use Rattle.pivot_run.specs.Prelude.{IsNarrow, IsWide, basic};
 ghost use Rattle.dispatch_schedule.specs.ColumnValues.{row_value as value_of_row};
 ghost use Rattle.dispatch_schedule.specs.inside.Values.{ArePositive, AreValuesTo, HasValues, JoiningForms, joined_to};
 

@@ -7,8 +7,8 @@ use Rattle.std.specs.Int.{w128}
 use Rattle.uc_model.specs.Prelude.{sum_below}
 use Rattle.uc_model.proofs.Common.{abs_add}
 use Rattle.uc_model.proofs.Sizes.{wide}
-use Rattle.pivot_run.specs.Rows.{IsSmall, entry}
-use Rattle.dispatch_program.specs.Programs.{Program, RightSide, HasColumn, Line, RuleLine, SumLine, CostLine, Slack, Artificial, SumValue, CostValue, all, basic_column, bump, columns_of, counted, has_artificial, is_limit, lines_of, picked, place, slacks}
+use Rattle.pivot_run.specs.Prelude.{IsSmall, entry}
+use Rattle.dispatch_program.specs.Prelude.{Program, RightSide, HasColumn, Line, RuleLine, SumLine, CostLine, Slack, Artificial, SumValue, CostValue, all, basic_column, bump, columns_of, counted, has_artificial, is_limit, lines_of, picked, place, slacks}
 use Rattle.dispatch_rules.proofs.Listed.{Each, each_none, each_one, each_append}
 use Rattle.dispatch_table.specs.declared.column.Column.{Column as ColumnName}
 use Rattle.dispatch_table.specs.Numbers.{column_of}

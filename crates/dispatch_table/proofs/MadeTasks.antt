@@ -5,9 +5,8 @@ use Rattle.std.specs.Int.{◌∣◌}
 use Rattle.std.proofs.lemmas.Bool.{cond-true}
 use Rattle.std.proofs.lemmas.List.{get_or-map}
 use Rattle.uc_model.specs.Prelude.{Demand, thermal_count}
-use Rattle.pivot_run.specs.Pivots.{IsNarrow}
-use Rattle.pivot_run.specs.Rows.{entry}
-use Rattle.dispatch_program.specs.Programs.{free_columns, start_table}
+use Rattle.pivot_run.specs.Prelude.{IsNarrow, entry}
+use Rattle.dispatch_program.specs.Prelude.{free_columns, start_table}
 use Rattle.dispatch_rules.specs.declared.amount.Amount.{Amount}
 use Rattle.dispatch_rules.specs.declared.amount.Amount.TheVariants.{Length, Held, Shed}
 use Rattle.dispatch_rules.specs.Prelude.{segments, CostForms, IsTaskOf, MakingForms, ScaleForms, cost_fraction, scale_to, Task, Limit, limit, limits, amounts, amounts_in, amount_at, listed, program, right_of, unit_amounts, IsTask}

@@ -4,8 +4,8 @@ use Rattle.std.proofs.Common.{◌≡◌, ℕ, ◌+◌, ◌^◌, ◌<◌, sym, ap
 use Rattle.std.proofs.lemmas.List.{map-append}
 use Rattle.std.specs.Int.{w128}
 use Rattle.uc_model.proofs.Sizes.{wide}
-use Rattle.pivot_run.specs.Rows.{entry}
-use Rattle.dispatch_program.specs.Programs.{picked}
+use Rattle.pivot_run.specs.Prelude.{entry}
+use Rattle.dispatch_program.specs.Prelude.{picked}
 use Rattle.dispatch_rules.specs.Prelude.{listed}
 
 module _ {A : Type 0} where

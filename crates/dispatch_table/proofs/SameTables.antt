@@ -3,7 +3,7 @@
 use Rattle.std.proofs.Common.{◌≡◌, ℕ, zero, suc, ◌+◌, ◌<◌, refl, ap, ◌∙◌, arith, Bool, List, [], ◌∷◌, ◌++◌, map, ℤ, pos, ◌*ℤ◌, neg_ℤ, int_lt, ◌||◌, if◌then◌else◌}
 use Rattle.std.proofs.lemmas.Bool.{cond_both}
 use Rattle.uc_model.proofs.Common.{sum_below-same}
-use Rattle.dispatch_program.specs.Programs.{Program, Column, Unknown, Slack, Artificial, SumValue, CostValue, RightSide, HasColumn, Line, RuleLine, SumLine, CostLine, all, basic_column, bump, columns_of, cost_number, counted, has_artificial, is_limit, line_number, lines_of, one_at, picked, place, rule_number, rules_off, slacks, start_rows, start_table, sum_number}
+use Rattle.dispatch_program.specs.Prelude.{Program, Column, Unknown, Slack, Artificial, SumValue, CostValue, RightSide, HasColumn, Line, RuleLine, SumLine, CostLine, all, basic_column, bump, columns_of, cost_number, counted, has_artificial, is_limit, line_number, lines_of, one_at, picked, place, rule_number, rules_off, slacks, start_rows, start_table, sum_number}
 use Rattle.dispatch_rules.proofs.Listed.{Each, each_one, each_append}
 use Rattle.dispatch_table.specs.Numbers.{HasLine}
 use Rattle.dispatch_table.proofs.ColumnLists.{columns_are, each_picked}

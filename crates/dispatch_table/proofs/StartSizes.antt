@@ -1,8 +1,8 @@
 -- The sizes of a start's table, as a run on it wants them.
 -- Cite from a crate above by `use Rattle.dispatch_table.proofs.StartSizes.{rows_follow, free_is_within}`.
 use Rattle.std.proofs.Common.{◌≡◌, ◌+◌, sym, subst, length}
-use Rattle.pivot_run.specs.Tables.{Table}
-use Rattle.dispatch_program.specs.Programs.{Program, start_table}
+use Rattle.pivot_run.specs.Prelude.{Table}
+use Rattle.dispatch_program.specs.Prelude.{Program, start_table}
 use Rattle.dispatch_program.proofs.Starts.{rows_long}
 use Rattle.dispatch_rules.specs.Prelude.{Task, program}
 use Rattle.dispatch_table.specs.Start.{Start, IsStartOf}

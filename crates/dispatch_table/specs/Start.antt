@@ -3,9 +3,8 @@
 use Rattle.std.specs.Prelude.{◌≡◌, ℕ, ◌^◌, ◌<◌, List, length, map, ℤ, unsigned_abs}
 use Rattle.uc_model.specs.declared.instance.Instance.{Instance}
 use Rattle.uc_model.specs.declared.pattern.Pattern.{Pattern}
-use Rattle.pivot_run.specs.Pivots.{IsNarrow, IsWide}
-use Rattle.pivot_run.specs.Rows.{entry}
-use Rattle.dispatch_program.specs.Programs.{free_columns, start_table}
+use Rattle.pivot_run.specs.Prelude.{IsNarrow, IsWide, entry}
+use Rattle.dispatch_program.specs.Prelude.{free_columns, start_table}
 use Rattle.dispatch_rules.specs.Prelude.{CostForms, IsTaskOf, MakingForms, ScaleForms, limit_of, scale_to, Task, amounts, amount_at, limits, program, right_of, IsTask}
 use Rattle.dispatch_table.specs.Tasks.{Given, scaled_cost, task_of}
 pub use Rattle.dispatch_table.specs.declared.made.Made.{Made}

@@ -1,6 +1,7 @@
 //! The basic columns of a program's table at its start.
 ghost use Rattle.std.specs.Prelude.{◌≡◌, ◌+◌, ◌^◌, ◌<◌, ◌≤◌, IfOk, if◌then◌else◌, length, map};
-ghost use Rattle.dispatch_program.specs.Programs.{basic_column, bump, free_columns as free_columns_of, lines_of, place, slacks as slacks_of};
+ghost use Rattle.dispatch_program.specs.Prelude.{basic_column, bump, lines_of, place};
+ghost use Rattle.dispatch_program.specs.Programs.{free_columns as free_columns_of, slacks as slacks_of};
 ghost use Rattle.dispatch_table.specs.Numbers.{AreWhole, program_of};
 
 use crate::program::Numbers;

@@ -1,6 +1,6 @@
 //! The columns of a program's table, in order.
 ghost use Rattle.std.specs.Prelude.{◌≡◌, ◌++◌, ◌∷◌, [], if◌then◌else◌, IfOk, OnOk, map};
-ghost use Rattle.dispatch_program.specs.Programs.{Artificial, CostValue, RightSide, Slack, SumValue, Unknown, all, columns_of, has_artificial, is_limit, picked};
+ghost use Rattle.dispatch_program.specs.Prelude.{Artificial, CostValue, RightSide, Slack, SumValue, Unknown, all, columns_of, has_artificial, is_limit, picked};
 ghost use Rattle.dispatch_table.specs.Numbers.{AreWhole, column_of, program_of};
 
 use crate::column::Column;

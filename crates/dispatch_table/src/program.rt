@@ -1,8 +1,9 @@
 //! The numbers of a program's table, by the lists of its amounts, limits, right sides and costs.
 ghost use Rattle.std.specs.Prelude.{◌≡◌, ◌<◌, ◌≤◌, ◌^◌, ◌+ℤ◌, ◌*ℤ◌, if◌then◌else◌, length, neg_ℤ, pos, unsigned_abs};
-ghost use Rattle.dispatch_program.specs.Programs.{HasColumn, cost_number as cost_number_in, has_artificial as has_artificial_in, is_limit as is_limit_in, line_number, one_at, rule_number as rule_number_in, rules_off as rules_off_in, sign as sign_in, sum_number as sum_number_in};
+ghost use Rattle.dispatch_program.specs.Prelude.{HasColumn, line_number, one_at};
+ghost use Rattle.dispatch_program.specs.Programs.{cost_number as cost_number_in, has_artificial as has_artificial_in, is_limit as is_limit_in, rule_number as rule_number_in, rules_off as rules_off_in, sign as sign_in, sum_number as sum_number_in};
 ghost use Rattle.dispatch_rules.specs.Prelude.{rule_of, is_demand as is_demand_in, limit};
-ghost use Rattle.pivot_run.specs.Rows.{entry};
+ghost use Rattle.pivot_run.specs.Prelude.{entry};
 ghost use Rattle.dispatch_table.specs.Numbers.{AreWhole, HasLine, column_of, line_of, program_of};
 
 use crate::column::{Column, Line};

@@ -1,7 +1,7 @@
 //! The rows of a program's table.
 ghost use Rattle.std.specs.Prelude.{◌≡◌, ◌++◌, ◌∷◌, [], IfOk, OnOk, map};
-ghost use Rattle.dispatch_program.specs.Programs.{columns_of, line_number, start_rows};
-ghost use Rattle.pivot_run.specs.Rows.{IsSmall};
+ghost use Rattle.dispatch_program.specs.Prelude.{columns_of, line_number, start_rows};
+ghost use Rattle.pivot_run.specs.Prelude.{IsSmall};
 ghost use Rattle.dispatch_table.specs.Numbers.{AreWhole, HasLine, column_of, line_of, program_of};
 
 use crate::column::{Column, Line};

@@ -1,7 +1,6 @@
 //! The scale by which costs are whole, and the costs times it.
 ghost use Rattle.std.specs.Prelude.{◌≡◌, ℕ, ℤ, ◌^◌, ◌*◌, ◌<◌, IfOk, IfErr, OnOk, length, pos, suc, ◌<ℤ◌, ◌*ℤ◌, int_div, unsigned_abs};
-ghost use Rattle.pivot_run.specs.Pivots.{IsNarrow, IsWide};
-ghost use Rattle.pivot_run.specs.Rows.{entry};
+ghost use Rattle.pivot_run.specs.Prelude.{IsNarrow, IsWide, entry};
 ghost use Rattle.uc_model.specs.Prelude.{thermal_count};
 ghost use Rattle.cost_curves.specs.UnitCurves.{curve_in};
 ghost use Rattle.fractions.specs.Fractions.{JoinForms, joined, lowest as lowest_of};

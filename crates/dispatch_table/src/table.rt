@@ -1,7 +1,7 @@
 //! A program's table at its start.
 ghost use Rattle.std.specs.Prelude.{◌≡◌, IfOk, length};
-ghost use Rattle.dispatch_program.specs.Programs.{start_table};
-ghost use Rattle.pivot_run.specs.Tables.{IsTable};
+ghost use Rattle.dispatch_program.specs.Prelude.{start_table};
+ghost use Rattle.pivot_run.specs.Prelude.{IsTable};
 ghost use Rattle.dispatch_table.specs.Numbers.{AreWhole, program_of};
 
 use crate::basis::basis;

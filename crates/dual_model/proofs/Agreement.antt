@@ -4,7 +4,8 @@ use Rattle.std.specs.List.{list_all}
 use Rattle.std.proofs.lemmas.Bool.{and_parts, and_from}
 use Rattle.uc_model.specs.Prelude.{Schedule, thermal_unit, thermal_count, Obeys, IsLawfulThermal}
 use Rattle.uc_model.proofs.Common.{is_allowed-obeying}
-use Rattle.dual_model.specs.Fixings.{Fixing, Instance, Node, keeps, keeps_of, unit_agrees, agrees, IsPatternAt}
+use Rattle.dual_model.specs.Prelude.{Fixing, Instance, Node, keeps, keeps_of, unit_agrees, IsPatternAt}
+use Rattle.dual_model.specs.Fixings.{agrees}
 
 kept_by_unit : (x : Schedule) (g : ℕ) (fixing : Fixing) → IsTrue (keeps fixing (x.thermal fixing.g).on)
     → IsTrue (keeps_of g (x.thermal g).on fixing)

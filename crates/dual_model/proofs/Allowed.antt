@@ -4,9 +4,7 @@ use mathlib.Core.Bool.{not-not}
 use Rattle.std.proofs.lemmas.Bool.{and_parts, and_from, or_cases, or_left, or_right, true≢false, not-true, not_from_false, ltb-true, lt-ltb, cond-true, cond-false}
 use Rattle.uc_model.specs.Prelude.{all_below, Commitment, state_before, was_on, starts, stops, keeps_minimum_at, must_run_at, initial_up_at, initial_down_at, minimum_up_at, minimum_down_at, cap, is_allowed_at, initial_stop_holds, commitment_of, IsLawfulThermal, period_count, term_at, has_lasted}
 use Rattle.uc_model.proofs.Common.{linear, int_le-true, le-int_le, all_below-at, all_below-from}
-use Rattle.dual_model.specs.UnitTerms.{Terms, Thermal, AreSizedTerms, IsSized}
-use Rattle.dual_model.specs.PatternValue.{IsPattern, is_followed}
-use Rattle.dual_model.specs.Moves.{Fix, holds_initially, initial_limit, hour_cost}
+use Rattle.dual_model.specs.Prelude.{Terms, Thermal, AreSizedTerms, IsSized, IsPattern, is_followed, Fix, holds_initially, initial_limit, hour_cost}
 use Rattle.dual_model.proofs.Switches.{since}
 use Rattle.dual_model.proofs.Lasting.{enters, leaves, LeavesInTime, window-from_lasting, initial-from_lasting, lasting-from_windows}
 use Rattle.dual_model.proofs.CellCaps.{cell_cap-cap}

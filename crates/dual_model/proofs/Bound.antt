@@ -3,11 +3,8 @@
 use Rattle.std.proofs.Common.{ℕ, ◌<◌, ◌≤◌, length, refl, ap, arith, ℤ, pos, ◌+ℤ◌, ◌-ℤ◌, ◌*ℤ◌, ◌≤ℤ◌}
 use Rattle.uc_model.specs.Prelude.{sum_below, bit, initial_p, Schedule, thermal_unit, thermal_count, renewable_count, demand_at, reserve_at, p_at, p_before, shortage_cost, RampUp, RampDown, RenewableRange, Demand, Reserve, Obeys, thermal_output}
 use Rattle.uc_model.proofs.Common.{linear, scale-le-scale, int_le-true, int_eq-true, rule_at}
-use Rattle.dual_model.specs.Prices.{Instance, Table, pi_at, mu_at, up_at, down_at, HasSizeOf, HasLawfulSigns}
-use Rattle.dual_model.specs.Fixings.{Node, IsPatternAt}
-use Rattle.dual_model.specs.UnitValue.{Thermal, period_value, IsPatternValue, IsUnitValue}
-use Rattle.dual_model.specs.NodeValue.{constant_at, system_value, renewable_value, renewables_value, shortages_value, IsNodeValue}
-use Rattle.dual_model.specs.LeastStarts.{cell_cost_by_least_starts, unit_cost_by_least_starts, cost_by_least_starts}
+use Rattle.dual_model.specs.Prelude.{Instance, Table, pi_at, mu_at, up_at, down_at, HasSizeOf, HasLawfulSigns, Node, IsPatternAt, Thermal, IsPatternValue, IsUnitValue, constant_at, system_value, renewable_value, renewables_value, shortages_value, IsNodeValue, cell_cost_by_least_starts, unit_cost_by_least_starts, cost_by_least_starts}
+use Rattle.dual_model.specs.UnitValue.{period_value}
 use Rattle.dual_model.proofs.Lagrange.{unit_priced, bound_priced}
 use Rattle.dual_model.proofs.Multipliers.{mu_at_nonneg, signed_at, up_at_past, down_at_past}
 use Rattle.dual_model.proofs.PricedRules.{period_priced, shortages_priced, renewable_priced}

@@ -5,8 +5,7 @@ use Rattle.std.specs.Int.{int_min}
 use Rattle.std.proofs.lemmas.Int.{ints}
 use Rattle.uc_model.specs.Prelude.{bit, Commitment, starts, stops, start_reduction, stop_reduction, cap, cell_cap}
 use Rattle.uc_model.proofs.Common.{linear, mul-one, mul-zero, mul_nonneg, bit_nonneg}
-use Rattle.dual_model.specs.UnitTerms.{Thermal}
-use Rattle.dual_model.specs.PatternValue.{is_followed}
+use Rattle.dual_model.specs.Prelude.{Thermal, is_followed}
 
 min_of_more : (a b : ℤ) → a ≤ℤ b → int_min a b ≡ a
 min_of_more a b h = grind (arith, ints)

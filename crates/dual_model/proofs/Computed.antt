@@ -3,9 +3,7 @@ use Rattle.std.proofs.Common.{arith, ◌≡◌, ℕ, length, ℤ, Bool, ◌&&◌
 use Rattle.std.proofs.lemmas.Bool.{and_parts, ltb-true}
 use Rattle.uc_model.specs.Prelude.{all_below, thermal_unit, thermal_count}
 use Rattle.uc_model.proofs.Common.{all_below-at}
-use Rattle.dual_model.specs.Fixings.{Instance, Node, HasEmptyUnit}
-use Rattle.dual_model.specs.NodeValue.{Table, IsNodeValue}
-use Rattle.dual_model.specs.UnitValue.{IsUnitValue}
+use Rattle.dual_model.specs.Prelude.{Instance, Node, HasEmptyUnit, Table, IsNodeValue, IsUnitValue}
 use Rattle.dual_model.proofs.UnitValues.{unit_value_of, unit_value_is}
 use Rattle.dual_model.proofs.NodeValues.{HasPoints, node_value_of, node_value_is}
 

@@ -5,9 +5,7 @@ use Rattle.std.proofs.lemmas.Bool.{cond_both}
 use Rattle.uc_model.specs.Prelude.{sigma, IsLawfulThermal, period_count, price_at}
 use Rattle.uc_model.specs.declared.limits.TheConstants.{MAX_COST, MAX_POWER, MAX_TERM}
 use Rattle.uc_model.proofs.Common.{abs_add, abs_sub, abs_mul, abs_min, sigma-size}
-use Rattle.dual_model.specs.UnitTerms.{MAX_UNIT_PRICE, Terms, Thermal, AreSizedTerms, IsSized}
-use Rattle.dual_model.specs.Moves.{Fix, stop_since, hour_cost, hour_before, move}
-use Rattle.dual_model.specs.CostToGo.{total_of, lesser_of, end_cost, since_after, cost_to_go, IsWithin, MAX_MOVE, MAX_COST_TO_GO}
+use Rattle.dual_model.specs.Prelude.{MAX_UNIT_PRICE, Terms, Thermal, AreSizedTerms, IsSized, Fix, stop_since, hour_cost, hour_before, move, total_of, lesser_of, end_cost, since_after, cost_to_go, IsWithin, MAX_MOVE, MAX_COST_TO_GO}
 
 -- ---- moves
 hour_cost-size : (unit : Thermal) (terms : Terms) → IsLawfulThermal unit → AreSizedTerms unit terms → (t : ℕ) → t < period_count terms

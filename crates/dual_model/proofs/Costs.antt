@@ -3,7 +3,7 @@
 use Rattle.std.proofs.Common.{◌≡◌, refl, ap, arith, ℤ, pos, ◌+ℤ◌, Option, Some, None}
 use Rattle.std.proofs.lemmas.Int.{ints}
 use Rattle.uc_model.proofs.Common.{linear}
-use Rattle.dual_model.specs.Bellman.{lesser_of, total_of}
+use Rattle.dual_model.specs.Prelude.{lesser_of, total_of}
 
 -- ---- totals
 pub total-none : (a : Option ℤ) → total_of a None ≡ None

@@ -5,13 +5,8 @@ use Rattle.std.proofs.lemmas.List.Folds.{list_all-append}
 use Rattle.std.proofs.lemmas.Option.{get_or_from_slice_get, slice_get_within}
 use Rattle.uc_model.specs.Prelude.{Schedule, cost, Obeys, IsLawfulInstance}
 use Rattle.uc_model.proofs.Common.{linear, le_from_mul, mul-le-mul_right, mul_left_comm, mul_comm, scale-le-scale}
-use Rattle.dual_model.specs.Prices.{Instance, Table, IsLawfulTable}
-use Rattle.dual_model.specs.Fixings.{Node, keeps, agrees}
-use Rattle.dual_model.specs.ValueKind.{HasBlockedUnit}
-use Rattle.dual_model.specs.Tree.{Tree, Ends, Splits, root, child, agreeing_leaves, EachLeaf}
-use Rattle.dual_model.specs.Cover.{Leaf, Bound, Ray, Empty, IsExcluded, LeafHolds, HasBoundOf, HasPositiveValue}
-use Rattle.dual_model.specs.Certificate.{ClaimHolds}
-use Rattle.dual_model.specs.Laws.{IsBoundTable, IsScheduleAt, LeavesPart, HasLawfulTable, CoversBound, CoversExclude, CertificatesClaimTruly, IsClaimTrue, AreTablesLawful}
+use Rattle.dual_model.specs.Prelude.{Instance, Table, IsLawfulTable, Node, keeps, HasBlockedUnit, Tree, Ends, Splits, root, child, agreeing_leaves, EachLeaf, Leaf, Bound, Ray, Empty, IsExcluded, LeafHolds, HasBoundOf, HasPositiveValue, ClaimHolds, IsBoundTable, IsScheduleAt, LeavesPart, HasLawfulTable, CoversBound, CoversExclude, CertificatesClaimTruly, IsClaimTrue, AreTablesLawful}
+use Rattle.dual_model.specs.Fixings.{agrees}
 use Rattle.dual_model.proofs.ValueKinds.{weak_duality, rays_exclude, not_blocked, blocked_unit}
 
 -- ---- the leaves part the schedules

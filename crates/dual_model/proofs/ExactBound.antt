@@ -6,12 +6,8 @@ use Rattle.std.proofs.lemmas.Int.{ints}
 use Rattle.std.proofs.lemmas.Bool.{cases_Bool, cond-true, cond-false}
 use Rattle.uc_model.specs.Prelude.{sum_below, bit, starts, start_cap, stop_cap, last_stop, sigma, Row, Schedule, thermal_unit, thermal_count, point_count, p_at, p_before, weight_sum, output_of, production_cost, Production, StartCap, StopCap, RampUp, RampDown, Obeys, stop_cap_at, thermal_output, IsLawfulThermal}
 use Rattle.uc_model.proofs.Common.{linear, mul-le-mul_right, mul_nonneg, mul_comm, mul-one, mul-zero, mul-add, pos_nonneg, sum_below-le, sum_below-sub, sum_below-mul_left, int_le-true, abs_is, rule_at, Produces, production_parts, point_p_nonneg, p_at_nonneg, Rises, outputs_rise}
-use Rattle.dual_model.specs.Prices.{pi_at, mu_at}
-use Rattle.dual_model.specs.Fixings.{IsPatternAt}
-use Rattle.dual_model.specs.NodeValue.{unit_part}
-use Rattle.dual_model.specs.ExactValue.{Thermal, Instance, Node, Table, UnitSchedule, greatest_output, floored_cost, output_before, IsUnitScheduleAt, IsUnitSchedule, exact_cell_value, exact_period_value, unit_schedule_value, exact_part, IsExactUnitValue}
-use Rattle.dual_model.specs.LeastStarts.{least_start_cost, cell_cost_by_least_starts, unit_cost_by_least_starts, cost_by_least_starts}
-use Rattle.dual_model.specs.Laws.{WeakDualityOfLeastStarts, SchedulesAreUnitSchedules}
+use Rattle.dual_model.specs.Prelude.{pi_at, mu_at, IsPatternAt, unit_part, Thermal, Instance, Node, Table, UnitSchedule, greatest_output, output_before, IsUnitScheduleAt, IsUnitSchedule, exact_cell_value, exact_period_value, unit_schedule_value, exact_part, IsExactUnitValue, least_start_cost, cell_cost_by_least_starts, unit_cost_by_least_starts, cost_by_least_starts, WeakDualityOfLeastStarts, SchedulesAreUnitSchedules}
+use Rattle.dual_model.specs.ExactValue.{floored_cost}
 use Rattle.dual_model.proofs.Agreement.{pattern-obeying}
 use Rattle.dual_model.proofs.LeastStarts.{start_scaled}
 use Rattle.dual_model.proofs.PricedRules.{made_off}

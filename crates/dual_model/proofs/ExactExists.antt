@@ -7,12 +7,8 @@ use Rattle.std.proofs.lemmas.Nat.{div-mul-add, mod-mul-add}
 use Rattle.std.proofs.lemmas.Bool.{cases_Bool, true≢false, and_parts, and_from, cond-true, cond-false, lt-ltb, ltb-true}
 use Rattle.uc_model.specs.Prelude.{bit, starts, start_cap, stop_cap, start_reduction, thermal_unit, thermal_count, IsLawfulThermal, IsLawfulInstance}
 use Rattle.uc_model.proofs.Common.{linear, one-mul, sum_below-same, abs_is}
-use Rattle.dual_model.specs.Prices.{pi_at, mu_at}
-use Rattle.dual_model.specs.Fixings.{HasEmptyUnit}
-use Rattle.dual_model.specs.NodeValue.{IsNodeValue}
-use Rattle.dual_model.specs.ExactValue.{Thermal, Instance, Node, Table, UnitSchedule, greatest_output, floored_cost, output_before, IsUnitScheduleAt, IsUnitSchedule, HasNoUnitSchedule, HasUnscheduledUnit, unit_schedule_value, IsExactUnitValue, IsLeastWholeValue, exact_part, parts_total, IsExactNodeValue}
-use Rattle.dual_model.specs.Tree.{child}
-use Rattle.dual_model.specs.Laws.{LeastWholeValuesAreExact, ExactValuesAreLeast, ExactUnitValuesExist, ValuesExist, ValuesExistAtSchedules, ChildBound}
+use Rattle.dual_model.specs.Prelude.{pi_at, mu_at, HasEmptyUnit, IsNodeValue, Thermal, Instance, Node, Table, UnitSchedule, greatest_output, output_before, IsUnitScheduleAt, IsUnitSchedule, HasNoUnitSchedule, HasUnscheduledUnit, unit_schedule_value, IsExactUnitValue, IsLeastWholeValue, exact_part, parts_total, IsExactNodeValue, child, LeastWholeValuesAreExact, ExactValuesAreLeast, ExactUnitValuesExist, ValuesExist, ValuesExistAtSchedules, ChildBound}
+use Rattle.dual_model.specs.ExactValue.{floored_cost}
 use Rattle.dual_model.proofs.Locality.{SameBelow, starts-same, sigma-same, is_allowed-same, kept-same}
 use Rattle.dual_model.proofs.UnitValues.{is_pattern_at, last_period}
 use Rattle.dual_model.proofs.NodeValues.{values_exist}

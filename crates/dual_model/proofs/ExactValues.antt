@@ -5,10 +5,7 @@ use Rattle.std.specs.Int.{int_max}
 use Rattle.std.proofs.lemmas.Int.{ints, clamps}
 use Rattle.uc_model.specs.Prelude.{sum_below, thermal_count}
 use Rattle.uc_model.proofs.Common.{linear, le_antisymm, sum_below-same, sum_below-le}
-use Rattle.dual_model.specs.NodeValue.{unit_part, system_value, renewables_value}
-use Rattle.dual_model.specs.ExactValue.{Instance, Node, Table, UnitSchedule, IsUnitSchedule, IsExactUnitValue, exact_part, parts_total}
-use Rattle.dual_model.specs.Tree.{child}
-use Rattle.dual_model.specs.Laws.{ExactValuesReach, ExactUnitValuesAreUnique, ValuesAreUnique, ExactValuesRise}
+use Rattle.dual_model.specs.Prelude.{unit_part, system_value, renewables_value, Instance, Node, Table, UnitSchedule, IsUnitSchedule, IsExactUnitValue, exact_part, parts_total, child, ExactValuesReach, ExactUnitValuesAreUnique, ValuesAreUnique, ExactValuesRise}
 use Rattle.dual_model.proofs.NodeValues.{unit_value_unique, parent_agrees, child_unit_bound}
 
 -- ---- there is one at most

@@ -6,7 +6,8 @@ use Rattle.std.proofs.lemmas.Nat.{div-mul-add}
 use Rattle.std.proofs.lemmas.Bool.{cond-true, cond-false, eq-eqb, ne_eqb}
 use Rattle.uc_model.specs.Prelude.{sum_below, quotient_up, point_of, output_of, weighted_total, weighted_output, weighted_cost, run, rise, Segment, hull_cost}
 use Rattle.uc_model.proofs.Common.{linear, spread, mul_comm, mul_assoc, mul_left_comm, mul-add, mul-sub, mul-zero, zero-mul, one-mul, mul-le-mul_left, mul-le-mul_right, le_from_mul, pos_of_nonneg, pos_nonneg, sum_below-same, sum_below-le, sum_below-sub, sum_below-mul_left, sum_below-split, sum_below-const, sum_below-pair, IsFloor-int_div_euclid, width_is, Rises, outputs_rise, IsUnder, Steps, step_there, Begins, begin_there}
-use Rattle.dual_model.specs.ExactValue.{Point, slope_from, floored_cost}
+use Rattle.dual_model.specs.Prelude.{Point, slope_from}
+use Rattle.dual_model.specs.ExactValue.{floored_cost}
 use Rattle.dual_model.proofs.Hermite.{small}
 
 -- ---- sums of the slopes

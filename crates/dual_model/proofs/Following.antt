@@ -3,10 +3,8 @@
 use Rattle.std.proofs.Common.{◌≡◌, ◌≢◌, ℕ, zero, suc, ◌+◌, ◌-◌, ◌<◌, ◌≤◌, ⊎_elim, Bool, true, false, not, ◌==◌, refl, sym, ap, subst, ◌∙◌, arith, ℤ, Option, Some, None, IfSome, if◌then◌else◌}
 use Rattle.std.proofs.lemmas.Bool.{and_parts, cases_lt, cond-true, cond-false, eq-eqb, ne_eqb}
 use Rattle.uc_model.specs.Prelude.{Commitment, commitment_of, may_start}
-use Rattle.dual_model.specs.Bellman.{EndCosts, MoveCosts, least_cost, lesser_of, since_after, total_of, way_cost}
-use Rattle.dual_model.specs.Choices.{Choice, choice_cost, ends_at, next_after}
-use Rattle.dual_model.specs.Moves.{Fix, Thermal, allowed, may_be_off, may_be_on, may_move}
-use Rattle.dual_model.specs.Traces.{AreLeast, Choices, IsAttained, IsTraced, Stretch, Trace, lasting, stretch, stretch_behind}
+use Rattle.dual_model.specs.Prelude.{EndCosts, MoveCosts, least_cost, lesser_of, since_after, total_of, way_cost, Choice, choice_cost, ends_at, next_after, Fix, Thermal, may_be_off, may_be_on, may_move, AreLeast, Choices, IsAttained, IsTraced, Stretch, Trace, lasting, stretch, stretch_behind}
+use Rattle.dual_model.specs.Moves.{allowed}
 use Rattle.dual_model.proofs.Costs.{lesser-none, total-assoc, total-zero}
 use Rattle.dual_model.proofs.Optimum.{total_of-parts}
 use Rattle.dual_model.proofs.Ways.{through}

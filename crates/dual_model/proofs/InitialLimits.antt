@@ -4,7 +4,7 @@ use Rattle.std.specs.Int.{int_min, int_max}
 use Rattle.std.proofs.lemmas.Int.{ints, clamps}
 use Rattle.uc_model.specs.Prelude.{bit, Commitment, initial_stop_holds}
 use Rattle.uc_model.proofs.Common.{linear, mul-one, mul-zero, one-mul, int_le-true, le-int_le}
-use Rattle.dual_model.specs.Moves.{Thermal, initial_limit}
+use Rattle.dual_model.specs.Prelude.{Thermal, initial_limit}
 
 limit_at : (pmin pmax sd : ℤ) (now : Bool) → (bit true *ℤ (pmax -ℤ pmin) -ℤ int_max (pmax -ℤ sd) (pos 0) *ℤ bit (not now))
     ≡ (if now then pmax else int_min pmax sd) -ℤ pmin

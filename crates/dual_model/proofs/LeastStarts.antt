@@ -4,9 +4,7 @@ use Rattle.std.proofs.Common.{◌≡◌, ℕ, ◌<◌, cond, sym, ap, ◌∙◌,
 use Rattle.std.proofs.lemmas.Bool.{cond-true, cond-false, eqb-true}
 use Rattle.uc_model.specs.Prelude.{Commitment, category_cost, category_holds_at, Schedule, thermal_unit, thermal_count, cell_cost, unit_cost, cost, Category, Obeys}
 use Rattle.uc_model.proofs.Common.{linear, scale-le-scale, mul_left_comm, mul-zero, sum_below-le, rule_at, sigma-le-allowed}
-use Rattle.dual_model.specs.Prices.{Instance}
-use Rattle.dual_model.specs.UnitValue.{Thermal}
-use Rattle.dual_model.specs.LeastStarts.{least_start_cost, cell_cost_by_least_starts, unit_cost_by_least_starts, cost_by_least_starts}
+use Rattle.dual_model.specs.Prelude.{Instance, Thermal, least_start_cost, cell_cost_by_least_starts, unit_cost_by_least_starts, cost_by_least_starts}
 
 -- ---- a period
 -- K times the least start cost, as values have it, over q

@@ -2,10 +2,8 @@
 use Rattle.std.proofs.Common.{◌≡◌, sym, ◌∙◌, arith, ℤ, Option, Some, None}
 use Rattle.uc_model.specs.Prelude.{Commitment, IsLawfulThermal, period_count}
 use Rattle.uc_model.proofs.Common.{linear}
-use Rattle.dual_model.specs.UnitTerms.{Terms, Thermal, AreSizedTerms}
-use Rattle.dual_model.specs.PatternValue.{Fix, IsPattern, IsLeastValue, HasNoPattern, pattern_value}
-use Rattle.dual_model.specs.CostToGo.{cost_to_go, end_cost}
-use Rattle.dual_model.specs.Moves.{move}
+use Rattle.dual_model.specs.Prelude.{Terms, Thermal, AreSizedTerms, Fix, IsPattern, IsLeastValue, pattern_value, cost_to_go, end_cost, move}
+use Rattle.dual_model.specs.PatternValue.{HasNoPattern}
 use Rattle.dual_model.proofs.Optimum.{AtMost, way-at_most, attained}
 use Rattle.dual_model.proofs.Ways.{own_way-right, whole_way-from}
 use Rattle.dual_model.proofs.Allowed.{all_right-pattern, pattern-all_right}

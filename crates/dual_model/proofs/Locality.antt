@@ -4,7 +4,7 @@ use Rattle.std.specs.List.{list_all}
 use Rattle.uc_model.specs.Prelude.{all_below, Commitment, was_on, starts, stops, keeps_minimum_at, cap, is_allowed_at, is_allowed, initial_stop_holds, last_stop, sigma, is_category_allowed}
 use Rattle.uc_model.specs.declared.instance.Thermal.{Thermal}
 use Rattle.uc_model.proofs.Common.{sum_below-same}
-use Rattle.dual_model.specs.Fixings.{Fixing, keeps, keeps_of}
+use Rattle.dual_model.specs.Prelude.{Fixing, keeps, keeps_of}
 
 -- the commitments are the same in the periods below n
 pub record SameBelow (n : ℕ) (first second : Commitment) : Type 0 where

@@ -3,7 +3,7 @@ use Rattle.std.proofs.Common.{◌≡◌, ℕ, suc, ◌<◌, ◌≤◌, List, [],
 use Rattle.std.proofs.lemmas.Bool.{and_parts, cond_both, eqb-true}
 use Rattle.std.proofs.lemmas.List.{get_or_past}
 use Rattle.uc_model.proofs.Common.{le_refl}
-use Rattle.dual_model.specs.Prices.{RampRow, Table, mu_at, up_at, down_at, row_of, IsRowSigned, IsRowWithin, HasLawfulSigns}
+use Rattle.dual_model.specs.Prelude.{RampRow, Table, mu_at, up_at, down_at, row_of, IsRowSigned, IsRowWithin, HasLawfulSigns}
 
 -- what holds of each element and of the default holds of each look-up
 pub look_up : (P : ℤ → Type 0) (xs : List ℤ) (d : ℤ) (k : ℕ) → All P xs → P d → P (slice_index_or xs k d)

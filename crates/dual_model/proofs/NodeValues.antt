@@ -5,11 +5,7 @@ use Rattle.std.proofs.lemmas.Bool.{and_parts}
 use Rattle.std.proofs.lemmas.List.Folds.{list_all-append}
 use Rattle.uc_model.specs.Prelude.{sum_below, Commitment, Schedule, thermal_unit, thermal_count, IsLawfulInstance}
 use Rattle.uc_model.proofs.Common.{linear, le_antisymm, sum_below-same, sum_below-le}
-use Rattle.dual_model.specs.Fixings.{Instance, Node, unit_agrees, HasEmptyUnit}
-use Rattle.dual_model.specs.UnitValue.{IsUnitValue}
-use Rattle.dual_model.specs.NodeValue.{Table, constant_at, unit_part, system_value, renewables_value, IsNodeValue}
-use Rattle.dual_model.specs.Tree.{child}
-use Rattle.dual_model.specs.Laws.{IsScheduleAt, WeakDualityOfLeastStarts, ValuesAreUnique, ValuesExist, ValuesExistAtSchedules, ChildBound}
+use Rattle.dual_model.specs.Prelude.{Instance, Node, unit_agrees, HasEmptyUnit, IsUnitValue, Table, constant_at, unit_part, system_value, renewables_value, IsNodeValue, child, IsScheduleAt, WeakDualityOfLeastStarts, ValuesAreUnique, ValuesExist, ValuesExistAtSchedules, ChildBound}
 use Rattle.dual_model.proofs.Agreement.{pattern-obeying}
 use Rattle.dual_model.proofs.Bound.{bound_from}
 use Rattle.dual_model.proofs.UnitValues.{unit_value_of, IsUnitAnswer, unit_value_is, allowed_value}

@@ -5,7 +5,7 @@ use Rattle.std.proofs.lemmas.Int.{ints}
 use Rattle.std.proofs.lemmas.Bool.{cond-true, cond-false, eq-eqb, ne_eqb}
 use Rattle.uc_model.specs.Prelude.{Commitment}
 use Rattle.uc_model.proofs.Common.{linear}
-use Rattle.dual_model.specs.Bellman.{MoveCosts, EndCosts, total_of, lesser_of, since_after, least_cost, way_cost}
+use Rattle.dual_model.specs.Prelude.{MoveCosts, EndCosts, total_of, lesser_of, since_after, least_cost, way_cost}
 
 -- ---- costs that may not be there
 pub record Parts (a b : Option ℤ) (v : ℤ) : Type 0 where

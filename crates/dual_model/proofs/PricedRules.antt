@@ -6,11 +6,8 @@ use Rattle.std.proofs.lemmas.Int.{ints}
 use Rattle.std.proofs.lemmas.Bool.{and_parts, or_cases, cases_Bool, cond_both, cond-true, cond-false, not_from_true, true≢false, ltb-false}
 use Rattle.uc_model.specs.Prelude.{bit, starts, cap, start_cap, stop_cap, sigma, last_stop, category_cost, category_holds_at, Row, Schedule, thermal_unit, thermal_count, point, point_count, p_at, weight_sum, renewable_minimum, renewable_maximum, most_shed, most_short, production_cost, shortage_cost, Production, StartCap, StopCap, Obeys, stop_cap_at}
 use Rattle.uc_model.proofs.Common.{linear, spread, scale-le-scale, mul-le-mul_left, mul-le-mul_right, mul-le-mul_turned, mul_left_comm, mul_assoc, mul-add, sub-mul, mul-one, mul-zero, mul-neg, pos_nonneg, sum_below-zero, term-le-sum_below, int_le-true, int_min_left, int_min_right, rule_at, Produces, production_parts, IsShortage, shed_parts, short_parts}
-use Rattle.dual_model.specs.Prices.{Instance, Table, pi_at, mu_at}
-use Rattle.dual_model.specs.Term.{IsCellBound, output_price, reserve_price}
-use Rattle.dual_model.specs.UnitValue.{Thermal, period_value}
-use Rattle.dual_model.specs.NodeValue.{renewable_value, shortage_value, shortages_value}
-use Rattle.dual_model.specs.LeastStarts.{least_start_cost, cell_cost_by_least_starts}
+use Rattle.dual_model.specs.Prelude.{Instance, Table, pi_at, mu_at, IsCellBound, output_price, reserve_price, Thermal, renewable_value, shortage_value, shortages_value, least_start_cost, cell_cost_by_least_starts}
+use Rattle.dual_model.specs.UnitValue.{period_value}
 use Rattle.dual_model.proofs.LeastStarts.{start_scaled, least_start-category}
 
 -- ---- start costs

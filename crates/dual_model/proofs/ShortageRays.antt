@@ -5,15 +5,9 @@ use Rattle.std.specs.Int.{int_max}
 use Rattle.std.proofs.lemmas.Int.{ints, clamps}
 use Rattle.uc_model.specs.Prelude.{sum_below, Segment, segment_at, hull_cost, initial_p, thermal_unit, thermal_count, renewable_count, demand_at, reserve_at, IsLawfulInstance}
 use Rattle.uc_model.proofs.Common.{linear, mul-zero, zero-mul, mul-one, one-mul, mul_nonneg, le_from_mul, pos_nonneg, sum_below-le, sum_below-zero, sum_below-single}
-use Rattle.dual_model.specs.Prices.{Instance, Table, pi_at, mu_at, up_at, down_at}
-use Rattle.dual_model.specs.Term.{Point, output_of, weighted_total, weighted_output, weighted_cost, IsTerm}
-use Rattle.dual_model.specs.Fixings.{Node}
-use Rattle.dual_model.specs.UnitValue.{Thermal, period_value, IsUnitValue}
-use Rattle.dual_model.specs.NodeValue.{shortage_value, shortages_value, unit_part, renewable_value, renewable_part}
-use Rattle.dual_model.specs.ExactValue.{UnitSchedule, floored_slope, slope_from, floored_cost, exact_period_value, IsExactUnitValue, exact_part, parts_total}
-use Rattle.dual_model.specs.ValueKind.{IsValueOf}
-use Rattle.dual_model.specs.Opening.{IsShortageRay, HasRayNumbers}
-use Rattle.dual_model.specs.Laws.{ShortageRaysExcludeNothing}
+use Rattle.dual_model.specs.Prelude.{Instance, Table, pi_at, mu_at, up_at, down_at, Point, output_of, weighted_total, weighted_output, weighted_cost, IsTerm, Node, Thermal, IsUnitValue, shortage_value, shortages_value, unit_part, renewable_value, renewable_part, UnitSchedule, floored_slope, slope_from, exact_period_value, IsExactUnitValue, exact_part, parts_total, IsValueOf, IsShortageRay, HasRayNumbers, ShortageRaysExcludeNothing}
+use Rattle.dual_model.specs.UnitValue.{period_value}
+use Rattle.dual_model.specs.ExactValue.{floored_cost}
 
 -- a sum of numbers of at most 0
 sum_nonpos : (n : ℕ) (f : ℕ → ℤ) → ((k : ℕ) → k < n → f k ≤ℤ pos 0) → sum_below n f ≤ℤ pos 0

@@ -2,13 +2,10 @@
 -- points has one slope. At a unit of 40 MW in watts L is never summed up.
 use Rattle.std.proofs.Common.{◌≡◌, ℕ, zero, suc, ◌*◌, ◌/◌, ◌<◌, ◌≤◌, true, cond, refl, sym, ap, subst, ◌∙◌, arith, List, length, ℤ, pos, ◌+ℤ◌, ◌-ℤ◌, ◌*ℤ◌, neg_ℤ, ◌≤ℤ◌, Some}
 use Rattle.std.proofs.lemmas.Nat.{div_below}
-use Rattle.uc_model.specs.Prelude.{point_of, Segment, hull_cost}
-use Rattle.uc_model.specs.Examples.{mw}
+use Rattle.uc_model.specs.Prelude.{point_of, Segment, hull_cost, mw}
 use Rattle.uc_model.proofs.Common.{linear, zero-mul, one-mul, neg-mul, sum_below-same, sum_below-const, Rises}
-use Rattle.dual_model.specs.Prices.{pi_at, mu_at}
-use Rattle.dual_model.specs.ExactValue.{Point, Instance, Table, UnitSchedule, floored_slope, slope_from, floored_cost, IsUnitSchedule, exact_cell_value, exact_period_value, unit_schedule_value, IsExactUnitValue}
-use Rattle.dual_model.specs.Tree.{root}
-use Rattle.dual_model.specs.Examples.{alone, sinking_unit, zero_prices, ray, scaled_dollars}
+use Rattle.dual_model.specs.Prelude.{pi_at, mu_at, Point, Instance, Table, UnitSchedule, floored_slope, slope_from, IsUnitSchedule, exact_cell_value, exact_period_value, unit_schedule_value, IsExactUnitValue, root, alone, sinking_unit, zero_prices, ray, scaled_dollars}
+use Rattle.dual_model.specs.ExactValue.{floored_cost}
 
 -- ---- L, where all its slopes are one
 pub flat_cost : (points : List Point) (k m : ℤ) (width q p : ℕ) → 0 < q → ((x : ℕ) → x < width → slope_from points k x ≡ m)

@@ -2,8 +2,7 @@
 use Rattle.std.proofs.Common.{◌≡◌, ℕ, zero, suc, ◌<◌, ◌≤◌, ◌⊎◌, inl, inr, ⊎_elim, Bool, true, false, not, ◌&&◌, refl, sym, ap, subst, ◌∙◌, arith, Some, ◌==◌, if◌then◌else◌}
 use Rattle.std.proofs.lemmas.Bool.{cases_lt, eq-eqb, ne_eqb}
 use Rattle.uc_model.specs.Prelude.{Commitment, state_before, was_on, starts, last_stop}
-use Rattle.dual_model.specs.Moves.{Thermal, stop_since}
-use Rattle.dual_model.specs.CostToGo.{since_after}
+use Rattle.dual_model.specs.Prelude.{Thermal, stop_since, since_after}
 
 -- since when the state before period t lasts, of a unit whose initial state this is
 abbrev pub since : Bool → Commitment → ℕ → ℕ

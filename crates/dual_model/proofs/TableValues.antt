@@ -2,14 +2,11 @@
 use Rattle.std.proofs.Common.{◌≡◌, ℕ, ◌<◌, refl, sym, subst, ◌∙◌, arith, ℤ, pos, ◌≤ℤ◌, IsTrue, Option, Some, None, unwrap_or, List}
 use Rattle.uc_model.specs.Prelude.{sum_below, Commitment, starts, cap, is_allowed, thermal_unit, term_at}
 use Rattle.uc_model.proofs.Common.{linear, sum_below-same}
-use Rattle.dual_model.specs.Prices.{Instance, Table}
-use Rattle.dual_model.specs.Fixings.{Fix, Node, IsPatternAt, IsFixOf, HasNoPattern}
-use Rattle.dual_model.specs.Term.{Point, IsTerm, IsTermAt, output_price, reserve_price}
-use Rattle.dual_model.specs.UnitValue.{Thermal, IsPatternValue, IsUnitValue, period_value}
+use Rattle.dual_model.specs.Prelude.{Instance, Table, Fix, Node, IsPatternAt, IsFixOf, Point, IsTerm, IsTermAt, output_price, reserve_price, Thermal, IsPatternValue, IsUnitValue, Terms, IsPattern, IsLeastValue, is_followed, term_of, pattern_value, IsCellTerm, AreTermsOf, IsUnitValueOf}
+use Rattle.dual_model.specs.Fixings.{HasNoPattern}
+use Rattle.dual_model.specs.UnitValue.{period_value}
 use Rattle.dual_model.proofs.UnitValues.{term_unique, cap-allowed}
-use Rattle.dual_model.specs.PatternValue.{Terms, IsPattern, IsLeastValue, is_followed, term_of, pattern_value}
 use Rattle.dual_model.specs.PatternValue as by_terms
-use Rattle.dual_model.specs.TableValue.{IsCellTerm, AreTermsOf, IsUnitValueOf}
 use Rattle.dual_model.proofs.CellCaps.{cell_cap-cap}
 
 -- ---- patterns

@@ -1,10 +1,8 @@
 -- Lists of prices and terms make terms of a unit, in shape and size, and those of a table where the rows are the table's.
 use Rattle.std.proofs.Common.{arith, ◌≡◌, ℕ, ◌<◌, ◌≤◌, List, length, ℤ, Option}
 use Rattle.uc_model.specs.Prelude.{thermal_unit}
-use Rattle.dual_model.specs.Term.{Instance}
+use Rattle.dual_model.specs.Prelude.{Instance, MAX_PERIODS, Terms, Thermal, AreSizedTerms, row_at, ArePricesOf, AreTermsOfRows, AreTermsFor, AreRowsOf, AreTermsOf, IsLawfulRow, IsLawfulScale}
 use Rattle.dual_model.specs.declared.table.Table.{Table}
-use Rattle.dual_model.specs.UnitTerms.{MAX_PERIODS, Terms, Thermal, AreSizedTerms}
-use Rattle.dual_model.specs.TableValue.{row_at, ArePricesOf, AreTermsOfRows, AreTermsFor, AreRowsOf, AreTermsOf, IsLawfulRow, IsLawfulScale}
 
 abbrev pub made : ℤ → List ℤ → List (List (Option ℤ)) → Terms
 made k pi terms = record { k = k; pi = pi; terms = terms }

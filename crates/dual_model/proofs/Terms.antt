@@ -6,7 +6,7 @@ use Rattle.std.proofs.lemmas.Int.{ints}
 use Rattle.std.proofs.lemmas.Bool.{cases_Bool, cond_both, cond-true, cond-false, eqb-true}
 use Rattle.uc_model.specs.Prelude.{sum_below, least_below}
 use Rattle.uc_model.proofs.Common.{linear, le_refl, le_trans, mul_comm, mul_assoc, mul-zero, mul-one, one-mul, mul-le-mul_left, pos_of_nonneg, sub-mul, add-mul, mul-add, sum_below-same, sum_below-add, sum_below-sub, sum_below-mul_left, sum_below-single, IsFloor-int_div_euclid, IsFloor-greatest, int_le-true, le-int_le, int_lt-true, lt-int_lt, least_below-le, least_below-le-other}
-use Rattle.dual_model.specs.Term.{Point, IsCellBound, IsTerm, point_of, output_of, weighted_total, weighted_output, weighted_cost}
+use Rattle.dual_model.specs.Prelude.{Point, IsCellBound, IsTerm, point_of, output_of, weighted_total, weighted_output, weighted_cost}
 use Rattle.dual_model.proofs.CellBounds.{BoundsCorners, corners_bound}
 
 -- ---- the greatest number that bounds the corners

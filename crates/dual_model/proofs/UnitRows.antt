@@ -2,7 +2,7 @@
 use Rattle.std.proofs.Common.{◌≡◌, ℕ, zero, suc, ◌+◌, ◌-◌, ◌<◌, ◌≤◌, ⊎_elim, false, ◌&&◌, ◌==◌, nat_lt, List, [], ◌∷◌, ◌++◌, length, take, drop, replicate, refl, sym, ap, subst, ◌∙◌, arith, pos, slice_index_or, length-append, if◌then◌else◌}
 use Rattle.std.proofs.lemmas.Bool.{and_left, cond-true, cond-false, cond_both, le-ltb, lt-ltb, ne_eqb}
 use Rattle.std.proofs.lemmas.List.{length-replicate, get_or_default, get_or_past, get_or_append_left, get_or-append_right, get_or-replicate, get_or-take, get_or-drop, length-take, length-drop}
-use Rattle.dual_model.specs.Prices.{RampRow, AreRising, ArePlacesOf, IsRowBefore, row_of, rows_before, unit_rows}
+use Rattle.dual_model.specs.Prelude.{RampRow, AreRising, ArePlacesOf, IsRowBefore, row_of, rows_before, unit_rows}
 
 -- ---- the order of units
 unit-order : (first second : RampRow) → IsRowBefore first second → first.g ≤ second.g

@@ -3,10 +3,9 @@ use Rattle.std.proofs.Common.{◌≡◌, ℕ, ◌<◌, List, length, Bool, true,
 use Rattle.std.proofs.lemmas.Bool.{and_parts, and_from, or_cases, not_from_true, true≢false}
 use Rattle.uc_model.specs.Prelude.{sum_below, Commitment, cap, is_allowed, is_allowed_at, thermal_unit}
 use Rattle.uc_model.proofs.Common.{le_antisymm, sum_below-same, int_le-true, all_below-at}
-use Rattle.dual_model.specs.Prices.{Instance, Table, pi_at}
-use Rattle.dual_model.specs.Fixings.{Node, unit_agrees, HasNoPattern}
-use Rattle.dual_model.specs.Term.{Point, IsTerm, IsTermAt, output_price, reserve_price}
-use Rattle.dual_model.specs.UnitValue.{Thermal, period_value, IsPatternValue, IsUnitValue}
+use Rattle.dual_model.specs.Prelude.{Instance, Table, pi_at, Node, unit_agrees, Point, IsTerm, IsTermAt, output_price, reserve_price, Thermal, IsPatternValue, IsUnitValue}
+use Rattle.dual_model.specs.Fixings.{HasNoPattern}
+use Rattle.dual_model.specs.UnitValue.{period_value}
 use Rattle.dual_model.proofs.Terms.{least_reduced_cost, is_term}
 use Rattle.dual_model.proofs.Locality.{SameBelow, starts-same, cap-same, sigma-same, is_allowed-same, fixed_below, kept-same}
 use Rattle.dual_model.proofs.Patterns.{IsLocal, IsBestOf, best_pattern, best_pattern_is}

@@ -2,9 +2,7 @@
 use Rattle.std.proofs.Common.{ℕ, ◌<◌, Bool, true, false, ap, ◌∙◌, arith, pos, ◌*ℤ◌}
 use Rattle.uc_model.specs.Prelude.{thermal_count, cost}
 use Rattle.uc_model.proofs.Common.{linear, le_trans, mul-le-mul_left, mul-lt-mul_left, mul-zero, zero-mul}
-use Rattle.dual_model.specs.Fixings.{Instance, Node}
-use Rattle.dual_model.specs.ValueKind.{IsBlocked, HasBlockedUnit}
-use Rattle.dual_model.specs.Laws.{WeakDuality, WeakDualityOfLeastStarts, RaysExclude, BlockedUnitsExclude, ValuesAreUnique, ValuesExist, ValuesExistAtSchedules, ChildBound}
+use Rattle.dual_model.specs.Prelude.{Instance, Node, IsBlocked, HasBlockedUnit, WeakDuality, WeakDualityOfLeastStarts, RaysExclude, BlockedUnitsExclude, ValuesAreUnique, ValuesExist, ValuesExistAtSchedules, ChildBound}
 use Rattle.dual_model.proofs.LeastStarts.{cost_by_least-cost}
 use Rattle.dual_model.proofs.NodeValues
 use Rattle.dual_model.proofs.ExactBound

@@ -3,10 +3,9 @@ use Rattle.std.proofs.Common.{◌≡◌, ℕ, zero, suc, ◌+◌, ◌<◌, ◌�
 use Rattle.std.proofs.lemmas.Bool.{cond-true, cond-false, lt-ltb, le-ltb}
 use Rattle.uc_model.specs.Prelude.{sum_below, Commitment, was_on, starts, last_stop, sigma, period_count, term_at, may_stop, may_start}
 use Rattle.uc_model.proofs.Common.{linear, sum_below-first, sum_below-same}
-use Rattle.dual_model.specs.PatternValue.{Terms, Thermal, is_followed, period_value, pattern_value}
-use Rattle.dual_model.specs.Bellman.{MoveCosts, EndCosts, total_of, since_after, way_cost}
-use Rattle.dual_model.specs.Moves.{Fix, may_be_on, may_be_off, may_move, allowed, holds_initially, hour_cost, hour_before, hour_and_start}
-use Rattle.dual_model.specs.CostToGo.{end_cost, way}
+use Rattle.dual_model.specs.Prelude.{Terms, Thermal, is_followed, pattern_value, MoveCosts, EndCosts, total_of, since_after, way_cost, Fix, may_be_on, may_be_off, may_move, holds_initially, hour_cost, hour_before, hour_and_start, end_cost, way}
+use Rattle.dual_model.specs.PatternValue.{period_value}
+use Rattle.dual_model.specs.Moves.{allowed}
 use Rattle.dual_model.proofs.Optimum.{total_of-parts}
 use Rattle.dual_model.proofs.Switches.{since, since-start, last_stop-since}
 

@@ -4,9 +4,8 @@
 use Rattle.std.proofs.Common.{◌≡◌, ℕ, zero, suc, ◌+◌, ◌-◌, ◌/◌, ◌<◌, Bool, true, false, cond, List, refl, ap, ◌∙◌, arith, ℤ, pos, ◌+ℤ◌, ◌-ℤ◌, ◌*ℤ◌, ◌≤ℤ◌}
 use Rattle.uc_model.specs.Prelude.{sum_below, hull_cost, starts, initial_p, last_stop, sigma, thermal_unit}
 use Rattle.uc_model.proofs.Common.{linear, one-mul, mul-add, sum_below-same, sum_below-zero, sum_below-add, sum_below-sub, sum_below-mul_left, sum_below-const, sum_below-swap, sum_below-le}
-use Rattle.dual_model.specs.Prices.{pi_at, mu_at}
-use Rattle.dual_model.specs.ExactValue.{Point, Thermal, Instance, Node, Table, UnitSchedule, slope_from, floored_cost, output_before, IsUnitScheduleAt, IsUnitSchedule, exact_cell_value, exact_period_value, unit_schedule_value}
-use Rattle.dual_model.specs.Laws.{WholeWattsBound, WholeWattsExist}
+use Rattle.dual_model.specs.Prelude.{pi_at, mu_at, Point, Thermal, Instance, Node, Table, UnitSchedule, slope_from, output_before, IsUnitScheduleAt, IsUnitSchedule, exact_cell_value, exact_period_value, unit_schedule_value, WholeWattsBound, WholeWattsExist}
+use Rattle.dual_model.specs.ExactValue.{floored_cost}
 use Rattle.dual_model.proofs.Hermite.{div_one, counted, floors, difference, above_none, below_floor, floor_mono}
 
 -- the schedule of number j

@@ -1,8 +1,7 @@
 -- Small instances, nodes and tables whose values are computed by hand: on the model's example unit of 10 to
 -- 50 MW, at 100 dollars an hour for 10 MW and 500 for 50.
 use Rattle.std.specs.Prelude.{ℕ, suc, ◌*◌, Bool, true, not, ◌&&◌, ◌==◌, List, [], ◌∷◌, ℤ, pos, neg_ℤ, length, replicate, if◌then◌else◌}
-use Rattle.uc_model.specs.Prelude.{Schedule}
-use Rattle.uc_model.specs.Examples.{base_unit, bent_unit, cold_unit, mw, dollars}
+use Rattle.uc_model.specs.Prelude.{Schedule, base_unit, bent_unit, cold_unit, mw, dollars}
 use Rattle.uc_model.specs.declared.instance.Renewable.{Renewable}
 use Rattle.uc_model.specs.declared.instance.Point.{Point}
 use Rattle.dual_model.specs.NodeValue.{Instance, Node, Thermal, Table, IsNodeValue}

@@ -1,8 +1,7 @@
 //! Worked examples of the definitions, as contracts: the check computes each of them.
 
 ghost use Rattle.std.specs.Prelude.{◌≡◌, [], pos, neg_ℤ, ◌∷◌, true, false};
-ghost use Rattle.uc_model.specs.Prelude.{cost};
-ghost use Rattle.uc_model.specs.Examples.{base_unit, two_category_unit, uneven_unit, mw, dollars};
+ghost use Rattle.uc_model.specs.Prelude.{cost, base_unit, two_category_unit, uneven_unit, mw, dollars};
 ghost use Rattle.dual_model.specs.Fixings.{HasEmptyUnit};
 ghost use Rattle.dual_model.specs.LeastStarts.{cost_by_least_starts};
 ghost use Rattle.dual_model.specs.UnitValue.{IsUnitValue};

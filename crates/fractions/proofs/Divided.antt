@@ -6,7 +6,7 @@ use Rattle.std.proofs.Math.Nat.{dvd-mul_left, dvd-mul_right, mul-dvd-mul_left, d
 use Rattle.std.proofs.lemmas.Nat.Gcd.{le_of_dvd}
 use Rattle.std.proofs.lemmas.Int.{ints, unsigned_abs-mul}
 use Rattle.uc_model.proofs.Common.{mul_comm, mul_assoc, mul-zero, neg-mul, mul-lt-mul_left}
-use Rattle.pivot_run.specs.Rows.{entry}
+use Rattle.pivot_run.specs.Prelude.{entry}
 use Rattle.pivot_run.proofs.Divisors.{divisor_of-positive, divisor_of-divides, divisor_of-greatest}
 use Rattle.cost_curves.proofs.LowestTerms.{coprime-dvd}
 use Rattle.fractions.specs.Fractions.{common_of, missing_factor, joined, FractionsAreLowest, JoinedAreLeast}

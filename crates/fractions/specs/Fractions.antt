@@ -1,7 +1,7 @@
 -- Fractions in lowest terms, and least common multiples. Source: Euclid, Elements, book VII, propositions 21 and 34.
 use Rattle.std.specs.Prelude.{◌≡◌, ℕ, [], ◌∷◌, ℤ, pos, ◌*ℤ◌, ◌<ℤ◌, int_div, unsigned_abs}
 use Rattle.std.specs.Int.{◌∣◌}
-use Rattle.pivot_run.specs.Rows.{divisor_of}
+use Rattle.pivot_run.specs.Prelude.{divisor_of}
 pub use Rattle.fractions.specs.declared.fraction.Fraction.{Fraction}
 
 -- the greatest common divisor of two numbers, 1 where both are 0

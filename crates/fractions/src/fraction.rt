@@ -1,6 +1,6 @@
 //! Fractions in lowest terms, and least common multiples.
 ghost use Rattle.std.specs.Prelude.{◌≡◌, ℕ, ◌^◌, ◌<◌, ◌≤◌, ◌<ℤ◌, pos, unsigned_abs, IfOk, IfErr, OnOk};
-ghost use Rattle.pivot_run.specs.Pivots.{IsNarrow, IsWide};
+ghost use Rattle.pivot_run.specs.Prelude.{IsNarrow, IsWide};
 ghost use Rattle.fractions.specs.Fractions.{JoinForms, joined, lowest as in_lowest_terms};
 
 use pivot_run::{Wide, common_divisor, product, quotient};

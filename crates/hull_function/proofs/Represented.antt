@@ -4,8 +4,7 @@ use Rattle.std.specs.Int.{int_max, int_min}
 use Rattle.std.proofs.lemmas.Int.{ints, clamps}
 use Rattle.std.proofs.lemmas.Bool.{cond-true, and_from}
 use Rattle.uc_model.proofs.Common.{linear, le_antisymm, le-int_le, int_min_left, int_min_right}
-use Rattle.dual_model.specs.Prelude.{greatest_output}
-use Rattle.dual_model.specs.CostToGo.{total_of}
+use Rattle.dual_model.specs.Prelude.{greatest_output, total_of}
 use Rattle.dual_model.proofs.Optimum.{AtMost, total_of-parts}
 use Rattle.step_functions.specs.Functions.{Steps, IsLeastBetween, IsPlace, last_place, value_at}
 use Rattle.hull_function.specs.Hulls.{IsBounded, IsHull}

@@ -1,8 +1,7 @@
 -- The hours of a run, and what they cost by an output, as a convex function. Source: the dynamic program of A. Frangioni and C.
 -- Gentile, "Solving Nonlinear Single-Unit Commitment Problems with Ramping Constraints" (Operations Research 54, 2006).
 use Rattle.std.specs.Prelude.{◌≡◌, ℕ, ◌*◌, ◌^◌, ◌+◌, ◌≤◌, Bool, true, ℤ, pos, ◌-ℤ◌, ◌*ℤ◌, neg_ℤ, ◌≤ℤ◌, unsigned_abs, Option, Some, None, if◌then◌else◌}
-use Rattle.dual_model.specs.Prelude.{pi_at}
-use Rattle.dual_model.specs.CostToGo.{total_of}
+use Rattle.dual_model.specs.Prelude.{pi_at, total_of}
 use Rattle.step_functions.specs.Functions.{IsPlace, value_at}
 use Rattle.unit_runs.specs.CostThrough.{is_output, output_cost, reserve_worth}
 use Rattle.hull_function.specs.Hulls.{Steps, MAX_HULL}

@@ -2,7 +2,7 @@
 
 ghost use Rattle.std.specs.Prelude.{◌≡◌, ℕ, ℤ, pos, ◌+◌, ◌<◌, ◌≤◌, ◌+ℤ◌, ◌-ℤ◌, ◌*ℤ◌, ◌≤ℤ◌, true, Option, Some};
 ghost use Rattle.uc_model.specs.Prelude.{IsLawfulThermal, IsLimit};
-ghost use Rattle.dual_model.specs.CostToGo.{total_of};
+ghost use Rattle.dual_model.specs.Prelude.{total_of};
 ghost use Rattle.step_functions.specs.Functions.{IsPlace, last_place, run_count, value_at};
 ghost use Rattle.unit_runs.specs.CostThrough.{least_between, reserve_cost};
 ghost use Rattle.hull_function.specs.Hours.{IsCostsOf, IsHourAt, IsNear, IsSizedHour, MAX_OUTPUT_COST, MAX_RESERVE, MAX_RUN, with_output};

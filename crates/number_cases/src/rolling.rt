@@ -2,8 +2,7 @@
 
 ghost use Rattle.std.specs.Prelude.{◌≡◌, ℕ, ◌+◌, ◌≤◌, IfOk, length};
 ghost use Rattle.uc_model.specs.Prelude.{IsLawfulInstance, thermal_count};
-ghost use Rattle.roll.specs.Kept.{IsKept};
-ghost use Rattle.roll.specs.Stitched.{IsContinuation};
+ghost use Rattle.roll.specs.Prelude.{IsKept, IsContinuation};
 
 use crate::Answer;
 use crate::commitment::patterns;

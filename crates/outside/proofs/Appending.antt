@@ -1,9 +1,7 @@
 -- How appended bytes add up, here and for what writes by these calls.
 use Rattle.std.proofs.Common.{◌≡◌, ℕ, ◌+◌, List, [], ◌++◌, take, drop, subst, sym, ◌∙◌, ap, append-nil, Option, None, Some, Result, Ok, Err, OnErr, take-append-drop}
 use Rattle.std.proofs.Math.Seq.{take-add}
-use Rattle.outside.specs.Counts.{HasRisen}
-use Rattle.outside.specs.ToldBytes.{Tells, Appends, AppendsFront}
-use Rattle.outside.specs.Sinks.{WriterState, WriterWrites, WriterCountsFault, WritesFront}
+use Rattle.outside.specs.Prelude.{HasRisen, Tells, Appends, AppendsFront, WriterState, WriterWrites, WriterCountsFault, WritesFront}
 use Rattle.outside.specs.Emitting.{appends-more}
 
 -- the first i bytes of a piece, and then n of the rest

@@ -2,8 +2,7 @@
 use Rattle.std.proofs.Common.{◌≡◌, ℕ, ◌+◌, ◌-◌, List, length, take, drop, ◌++◌, Option, None, Some, refl, ap, sym, ◌∙◌, append_assoc}
 use Rattle.std.proofs.lemmas.List.{take_rest, take-append-drop, drop-drop}
 use Rattle.std.specs.Option.{option_map}
-use Rattle.outside.specs.Slots.{SlotState, unread}
-use Rattle.outside.specs.Reading.{Reads}
+use Rattle.outside.specs.Prelude.{SlotState, unread, Reads}
 
 -- bytes that were taken one after another
 unread-bytes : (xs ys : List ℕ) (left : Option (List ℕ)) → option_map (λ rest. xs ++ rest) (option_map (λ rest. ys ++ rest) left) ≡ option_map (λ rest. (xs ++ ys) ++ rest) left

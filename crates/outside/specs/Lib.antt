@@ -8,3 +8,4 @@ pub mod Reading
 pub mod SlurpFault
 pub mod Latching
 pub mod Emitting
+pub mod Prelude

@@ -2,8 +2,7 @@
 use Rattle.std.specs.Prelude.{◌≡◌}
 use Rattle.outside_memory.specs.declared.faulty_file.FaultyFile.{FaultyFile}
 use Rattle.outside_memory.specs.declared.faulty_sink.FaultySink.{FaultySink}
-use Rattle.outside.specs.Slots.{SlotState, HasNothingWritten}
-use Rattle.outside.specs.Sinks.{SinkState}
+use Rattle.outside.specs.Prelude.{SlotState, HasNothingWritten, SinkState}
 use Rattle.outside_memory.specs.Memory.{Unopened, file_state, file_unwritten, sink_state}
 
 -- the file in memory, with the faults of the schedule

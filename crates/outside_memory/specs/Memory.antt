@@ -4,8 +4,7 @@ use Rattle.std.specs.Option.{option_map}
 pub use Rattle.outside.specs.declared.slot.Stage.TheVariants.{Unopened}
 use Rattle.outside_memory.specs.declared.memory_file.MemoryFile.{MemoryFile}
 use Rattle.outside_memory.specs.declared.memory_sink.MemorySink.{MemorySink}
-use Rattle.outside.specs.Slots.{SlotState, HasNothingWritten}
-use Rattle.outside.specs.Sinks.{SinkState}
+use Rattle.outside.specs.Prelude.{SlotState, HasNothingWritten, SinkState}
 
 -- what is told of the bytes written: these, unless some were not kept
 abbrev pub kept : Bool → List ℕ → Option (List ℕ)

@@ -5,7 +5,7 @@ use Rattle.outside_memory.specs.declared.schedule.Call.TheVariants.{Open, Read, 
 use Rattle.outside_memory.specs.declared.schedule.CallCounts.{CallCounts}
 use Rattle.outside_memory.specs.declared.schedule.FailingCall.{FailingCall}
 use Rattle.outside_memory.specs.declared.schedule.Schedule.{Schedule}
-use Rattle.outside.specs.Counts.{one_more}
+use Rattle.outside.specs.Prelude.{one_more}
 
 -- how many calls of a kind were made
 abbrev pub count_of : CallCounts → Call → ℕ

@@ -1,5 +1,5 @@
 ghost use Rattle.std.specs.Prelude.{◌≡◌, ◌↔◌, ◌<◌, ◌≤◌, min, Contains, IfOk, IsErr, OnOk, OnErr};
-ghost use Rattle.outside.specs.Counts.{HasRisen, one_more};
+ghost use Rattle.outside.specs.Prelude.{HasRisen, one_more};
 ghost use Rattle.outside_memory.specs.Schedule.{count_of, with_count, counted, IsFresh};
 ghost use Rattle.outside_memory.specs.contracts.schedule.CallCounts.{the_row as counts-row};
 ghost use Rattle.std.specs.Borrow.{sem, Lends, u64};

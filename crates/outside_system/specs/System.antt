@@ -4,8 +4,7 @@ use Rattle.outside.specs.declared.slot.Stage.{Stage}
 use Rattle.outside.specs.declared.slot.Stage.TheVariants.{Unopened, Open, Finished}
 use Rattle.outside_system.specs.declared.system.Handle.{Handle}
 use Rattle.outside_system.specs.declared.system.Handle.TheVariants.{Unopened as NoFile, Open as OpenFile, Lost as LostFile, Finished as DoneFile}
-use Rattle.outside.specs.Slots.{SlotState}
-use Rattle.outside.specs.Sinks.{SinkState}
+use Rattle.outside.specs.Prelude.{SlotState, SinkState}
 
 -- the stage of a file of the system; one that was given up after a fault stays open
 abbrev pub stage_of : {H : Type 0} → Handle H → Stage

@@ -1,7 +1,7 @@
 ghost use Rattle.std.specs.Prelude.{◌≡◌, ◌<◌, true, IsErr};
 ghost use Rattle.outside.specs.declared.slot.Slot.{Slot};
 ghost use Rattle.outside.specs.declared.slot.Stage.TheVariants.{Unopened as UnopenedStage, Open as OpenStage};
-ghost use Rattle.outside.specs.Slots.{AllUnopened};
+ghost use Rattle.outside.specs.Prelude.{AllUnopened};
 ghost use Rattle.outside_system.specs.System.{untold_slot};
 
 use crate::draft::{FileIdentity, Opened, open_target};

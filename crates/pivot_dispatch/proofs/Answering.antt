@@ -4,9 +4,9 @@ use Rattle.std.proofs.Common.{◌≡◌, ◌<◌, ◌⊎◌, ⊎_elim, inl, inr,
 use Rattle.uc_model.specs.Prelude.{IsLawfulInstance}
 use Rattle.uc_model.proofs.Common.{linear}
 use Rattle.dual_model.specs.declared.table.Table.{Table}
-use Rattle.pivot_run.specs.Pivots.{IsNarrow, IsWide}
+use Rattle.pivot_run.specs.Prelude.{IsNarrow, IsWide}
 use Rattle.pivot_run.specs.Tables as tables
-use Rattle.dispatch_program.specs.ProgramRuns.{IsCheapest, SumIsLeft}
+use Rattle.dispatch_program.specs.Prelude.{IsCheapest, SumIsLeft}
 use Rattle.dispatch_program.proofs.BasicValues.{shares_exist}
 use Rattle.dispatch_rules.specs.Prelude.{AreAllowed, Task, program, scale_of}
 use Rattle.dispatch_rules.specs.declared.amount.Amount.{Amount}

@@ -11,8 +11,7 @@ use Rattle.dual_model.proofs.ValueKinds.{values_exist_at_schedules}
 use Rattle.start_costs.specs.Cheapest.{HasLeastCategory}
 use Rattle.schedule_check.specs.SizedNumbers.{HasSizedNumbers}
 use Rattle.pivot_run.specs.Tables as tables
-use Rattle.dispatch_program.specs.LastTables.{IsReached, basis_values}
-use Rattle.dispatch_program.specs.ProgramRuns.{IsCheapest, SumIsLeft}
+use Rattle.dispatch_program.specs.Prelude.{IsReached, basis_values, IsCheapest, SumIsLeft}
 use Rattle.dispatch_program.proofs.LastTables.{bases_give_values}
 use Rattle.dispatch_rules.specs.Prelude.{Pattern, commitment_at, Task, program, IsTask, scale_of, Printed}
 use Rattle.dispatch_rules.proofs.Primals.{values_dispatch_is}

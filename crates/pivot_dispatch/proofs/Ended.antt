@@ -7,11 +7,9 @@ use Rattle.std.proofs.lemmas.List.{length-map}
 use Rattle.uc_model.specs.Prelude.{is_allowed, start_cap, stop_cap, IsLawfulInstance, thermal_unit, thermal_count}
 use Rattle.uc_model.proofs.Common.{linear, int_min_left}
 use Rattle.dual_model.proofs.UnitValues.{cap-allowed}
-use Rattle.pivot_run.specs.Tables.{Table, number, right_side}
+use Rattle.pivot_run.specs.Prelude.{Table, number, right_side}
 use Rattle.pivot_run.proofs.Orders.{int_lt-true, int_lt-false}
-use Rattle.dispatch_program.specs.LastTables.{IsReached}
-use Rattle.dispatch_program.specs.Programs.{CostValue, RightSide, place}
-use Rattle.dispatch_program.specs.ProgramRuns.{IsCheapest, SumIsLeft}
+use Rattle.dispatch_program.specs.Prelude.{IsReached, CostValue, RightSide, place, IsCheapest, SumIsLeft}
 use Rattle.dispatch_program.proofs.ProgramRuns.{runs_come}
 use Rattle.dispatch_program.proofs.Starts.{rows_long}
 use Rattle.dispatch_rules.specs.Prelude.{AreAllowed, commitment_at, limit_of, Task, limits, program, cost_times, HasRoom}

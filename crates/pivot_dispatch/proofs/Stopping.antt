@@ -1,13 +1,12 @@
 -- The answers where no run ends: a product is too large in making the table, or the run stops.
 -- Cite by `use Rattle.pivot_dispatch.proofs.Stopping.{made_wide, stopped_is, ended_is}`.
 use Rattle.std.proofs.Common.{◌≡◌, ℕ, inl, inr, refl, sym, subst, List, ℤ}
-use Rattle.pivot_run.specs.Stages.{StopsAt, StopsBy, state_of}
+use Rattle.pivot_run.specs.Prelude.{StopsAt, StopsBy, state_of}
 use Rattle.pivot_run.specs.declared.stop.Stop.{Stop}
 use Rattle.pivot_run.specs.declared.stop.StopCause.{StopCause as StopWhat}
 use Rattle.pivot_run.specs.declared.stop.StopCause.TheVariants.{Product as ProductStop, Pivots as PivotsStop}
 use Rattle.pivot_run.specs.declared.wide.Wide.{Wide as Factors}
-use Rattle.dispatch_program.specs.Programs.{free_columns, start_table}
-use Rattle.dispatch_program.specs.ProgramRuns.{state_at}
+use Rattle.dispatch_program.specs.Prelude.{free_columns, start_table, state_at}
 use Rattle.dispatch_rules.specs.Prelude.{Task, program}
 use Rattle.dispatch_table.specs.Start.{IsMade}
 use Rattle.dispatch_table.specs.declared.made.Made.TheVariants.{Start as StartOf, Wide as WideOf}

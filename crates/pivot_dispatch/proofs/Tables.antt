@@ -5,10 +5,7 @@ use Rattle.uc_model.proofs.Common.{zero-mul, mul-zero, mul-lt-mul_left}
 use Rattle.dual_model.specs.Prelude.{IsLawfulTable}
 use Rattle.dual_model.specs.declared.table.Table.{Table}
 use Rattle.pivot_run.specs.Tables as tables
-use Rattle.dispatch_program.specs.LastRows.{IsLastRow}
-use Rattle.dispatch_program.specs.LastTables.{IsReached}
-use Rattle.dispatch_program.specs.Programs.{CostValue, place}
-use Rattle.dispatch_program.specs.ProgramRuns.{IsCheapest, SumIsLeft}
+use Rattle.dispatch_program.specs.Prelude.{IsLastRow, IsReached, CostValue, place, IsCheapest, SumIsLeft}
 use Rattle.dispatch_program.proofs.LastTables.{count, cost_column, ends_are_last}
 use Rattle.dispatch_rules.specs.Prelude.{Task, program, IsTask, scale_of}
 use Rattle.dispatch_prices.specs.Readings.{IsPriceTable}

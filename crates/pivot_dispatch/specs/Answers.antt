@@ -1,11 +1,10 @@
 -- The answers of the exact dispatch, each with the run of pivots that it comes from: so that a limit is told exactly where the run meets one.
 -- Source: the simplex method in two phases (G. B. Dantzig, "Linear Programming and Extensions", 1963); the limits in size are this project's.
 use Rattle.std.specs.Prelude.{◌≡◌, ℕ, ◌+◌, ◌<◌, ◌⊎◌, true, List, ℤ, pos, ◌<ℤ◌, IsSome, unsigned_abs}
-use Rattle.pivot_run.specs.Pivots.{IsNarrow, IsWide, row_at}
-use Rattle.pivot_run.specs.Stages.{EndsAfter, IsRun, StepForms, plan_at, state_of}
+use Rattle.pivot_run.specs.Prelude.{IsNarrow, IsWide, row_at, EndsAfter, IsRun, StepForms, state_of}
+use Rattle.pivot_run.specs.Stages.{plan_at}
 use Rattle.pivot_run.specs.Tables as tables
-use Rattle.dispatch_program.specs.ProgramRuns.{IsCheapest, SumIsLeft, state_at}
-use Rattle.dispatch_program.specs.Programs.{free_columns, start_table, multiplier}
+use Rattle.dispatch_program.specs.Prelude.{IsCheapest, SumIsLeft, state_at, free_columns, start_table, multiplier}
 use Rattle.dispatch_rules.specs.Prelude.{IsTaskOf, MakingForms, Task, limit_at, program, IsReadOff, cost_times, scale_of}
 use Rattle.dispatch_prices.specs.ReadOff.{ReadingForms, is_priced}
 use Rattle.dispatch_schedule.specs.ColumnValues.{DenominatorForms, schedule_denominator}

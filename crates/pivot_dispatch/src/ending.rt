@@ -1,7 +1,7 @@
 //! What the end of a run gives: a ray where a sum is left, and else a cheapest schedule with its prices.
 ghost use Rattle.std.specs.Prelude.{◌≡◌, true, false, length, pos, ◌≤ℤ◌, IfOk, IfErr, OnOk};
 ghost use Rattle.uc_model.specs.Prelude.{IsLawfulInstance};
-ghost use Rattle.pivot_run.specs.Pivots.{IsNarrow, IsWide};
+ghost use Rattle.pivot_run.specs.Prelude.{IsNarrow, IsWide};
 ghost use Rattle.dispatch_rules.specs.Prelude.{AreAllowed, Task, scale_of};
 ghost use Rattle.pivot_dispatch.specs.Answers.{IsAnswer, TableScaleForms, cost_row};
 ghost use Rattle.pivot_dispatch.specs.inside.Endings.{IsEnded, IsEndedBy, IsPricedBy, Tells, leaves_sum};

@@ -3,9 +3,7 @@
 use Rattle.std.proofs.Common.{◌≡◌, ◌≢◌, ℕ, ◌<◌, ⊎_elim, sym, ap, subst, ◌∙◌, arith, List, length, ℤ, pos, ◌*ℤ◌, ◌<ℤ◌, int_lt}
 use Rattle.std.proofs.lemmas.Bool.{cases_eq}
 use Rattle.std.proofs.lemmas.List.{get_or-map, get_or-set_same, get_or-set_other}
-use Rattle.pivot_run.specs.Rows.{entry, reduced, upright, cleared, divisor_of}
-use Rattle.pivot_run.specs.Pivots.{pivot_row, row_at}
-use Rattle.pivot_run.specs.Tables.{IsTable, IsBasic, Table, basic, number, pivoted_table}
+use Rattle.pivot_run.specs.Prelude.{entry, reduced, upright, cleared, divisor_of, pivot_row, row_at, IsTable, IsBasic, Table, basic, number, pivoted_table}
 use Rattle.uc_model.proofs.Common.{linear, mul-zero, zero-mul, mul-lt-mul_left}
 use Rattle.pivot_run.proofs.Clearing.{entry-combined, length-combined}
 use Rattle.pivot_run.proofs.Solutions.{by_eliminated, no_factor, positive_divisor, length-upright, length-pivoted, row-pivoted_at, row-pivoted_other, upright_positive}

@@ -1,7 +1,7 @@
 -- The numbers of a combined row, and of rows that are a function of others number by number.
 use Rattle.std.proofs.Common.{◌≡◌, ℕ, zero, suc, ◌<◌, ◌≤◌, refl, sym, ap, ◌∙◌, arith, List, [], ◌∷◌, length, map, ℤ, pos, ◌-ℤ◌, ◌*ℤ◌}
 use Rattle.std.proofs.lemmas.List.{ext_get_or, length-map, get_or-map}
-use Rattle.pivot_run.specs.Rows.{entry, combined}
+use Rattle.pivot_run.specs.Prelude.{entry, combined}
 use Rattle.uc_model.proofs.Common.{linear, mul-zero, zero-mul}
 
 pub length-combined : (p e : ℤ) (row other : List ℤ) → length (combined p e row other) ≡ length row

@@ -5,7 +5,7 @@ use Rattle.std.proofs.lemmas.Bool.{cases_Bool, cases_lt, cond-true, cond-false}
 use Rattle.std.proofs.lemmas.Int.{ints}
 use Rattle.std.specs.Ordering.{int_eq}
 use Rattle.std.proofs.lemmas.List.{get_or_push, get_or_append_left, get_or_past, length-append}
-use Rattle.pivot_run.specs.Rows.{IsSmall, entry}
+use Rattle.pivot_run.specs.Prelude.{IsSmall, entry}
 use Rattle.pivot_run.specs.inside.Entries.{AreBelow, AreEntries, AreEntriesOf, IsCombined, IsNext, IsSplit, Rise, column, number_at, with_column, with_number}
 use Rattle.pivot_run.proofs.EntryLists.{number_cases, number_of_entry, number_of_none}
 

@@ -4,7 +4,7 @@ use Rattle.std.proofs.Common.{◌≡◌, ◌≢◌, ◌==◌, ◌⊎◌, ⊎_eli
 use Rattle.std.proofs.lemmas.Bool.{cases_Bool, cases_lt, cond-true, cond-false, eqb-true}
 use Rattle.std.proofs.lemmas.List.{ext_get_or, length-map, get_or-map, get_or_past}
 use Rattle.std.proofs.lemmas.List.FromFn.{length-map-range_with_len, get_or-map-range_with_len}
-use Rattle.pivot_run.specs.Rows.{entry}
+use Rattle.pivot_run.specs.Prelude.{entry}
 use Rattle.pivot_run.specs.inside.Entries.{AreBelow, AreEntries, IsSplit, Rise, column, number_at, spread}
 
 -- ---- a number of a row is that of an entry, or 0 where there is none

@@ -2,7 +2,7 @@
 -- Cite by `use Rattle.pivot_run.proofs.Halting.{met_weaker}`.
 use Rattle.pivot_run.specs.declared.halt.Halt.{Halt}
 use Rattle.pivot_run.specs.declared.halt.Halt.TheVariants.{Met, NoMemory}
-use Rattle.pivot_run.specs.Halts.{IfMet}
+use Rattle.pivot_run.specs.Prelude.{IfMet}
 
 pub met_weaker : {T : Type 0} (P Q : T → Type 0) (halt : Halt T) → ((limit : T) → P limit → Q limit) → IfMet P halt → IfMet Q halt
 met_weaker P Q (Met limit) follows told = follows limit told

@@ -5,10 +5,7 @@ use Rattle.std.specs.Option.{option_and_then, option_map}
 use Rattle.std.proofs.lemmas.Bool.{cases_eq}
 use Rattle.std.proofs.lemmas.List.{length-map, length-set, length-take}
 use Rattle.std.proofs.lemmas.List.Quantifiers.{position-Some}
-use Rattle.pivot_run.specs.Rows.{entry, cleared, divisor_of}
-use Rattle.pivot_run.specs.Pivots.{AreAsLong, pivot_row, pivoted, row_at}
-use Rattle.pivot_run.specs.Tables.{IsBasic, IsTable, Table, entering, leaving, number, pivoted_table, right_side}
-use Rattle.pivot_run.specs.Runs.{Keeps}
+use Rattle.pivot_run.specs.Prelude.{entry, cleared, divisor_of, AreAsLong, pivot_row, pivoted, row_at, IsBasic, IsTable, Table, entering, leaving, number, pivoted_table, right_side, Keeps}
 use Rattle.uc_model.proofs.Common.{linear}
 use Rattle.pivot_run.proofs.Clearing.{length-combined}
 use Rattle.pivot_run.proofs.Solutions.{by_eliminated, length-upright, length-pivoted, row-pivoted_at, row-pivoted_other, pivoted_solves, pivoted_solved}

@@ -2,7 +2,7 @@
 -- Cite by `use Rattle.pivot_run.proofs.Ratios.{leaving_least}`.
 use Rattle.std.proofs.Common.{◌≡◌, ℕ, zero, suc, ◌<◌, ◌≤◌, ⊎_elim, true, false, Option, None, Some, ap, subst, ◌∙◌, arith, ℤ, pos, ◌*ℤ◌, ◌≤ℤ◌, ◌<ℤ◌, int_lt}
 use Rattle.std.proofs.lemmas.Bool.{cases_lt}
-use Rattle.pivot_run.specs.Tables.{Table, number, right_side, leaves_before, foremost, leaving}
+use Rattle.pivot_run.specs.Prelude.{Table, number, right_side, leaves_before, foremost, leaving}
 use Rattle.uc_model.proofs.Common.{linear, mul_comm, mul_assoc, mul_left_comm, mul-le-mul_left, mul-le-mul_right, le_from_mul}
 use Rattle.pivot_run.proofs.Orders.{int_lt-true, int_lt-false}
 

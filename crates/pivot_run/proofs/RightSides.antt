@@ -3,9 +3,7 @@
 use Rattle.std.proofs.Common.{◌≡◌, ◌≢◌, ℕ, ◌-◌, ◌<◌, ⊎_elim, Option, Some, sym, subst, ◌∙◌, arith, List, length, map, ℤ, pos, ◌-ℤ◌, ◌*ℤ◌, ◌≤ℤ◌, ◌<ℤ◌, int_lt, int_div, neg_ℤ}
 use Rattle.std.proofs.lemmas.Bool.{cases_eq, cond-false}
 use Rattle.std.proofs.lemmas.List.{get_or-map}
-use Rattle.pivot_run.specs.Rows.{entry, reduced, upright, cleared, divisor_of}
-use Rattle.pivot_run.specs.Pivots.{pivot_row, row_at}
-use Rattle.pivot_run.specs.Tables.{IsTable, Table, number, right_side, leaving, pivoted_table}
+use Rattle.pivot_run.specs.Prelude.{entry, reduced, upright, cleared, divisor_of, pivot_row, row_at, IsTable, Table, number, right_side, leaving, pivoted_table}
 use Rattle.uc_model.proofs.Common.{linear, mul-zero, le_from_mul}
 use Rattle.pivot_run.proofs.Orders.{lt-int_lt_false}
 use Rattle.pivot_run.proofs.Clearing.{entry-combined, length-combined}

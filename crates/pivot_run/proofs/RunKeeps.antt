@@ -6,11 +6,7 @@ use Rattle.std.proofs.lemmas.Bool.{cases_Bool, cond-true, cond-false}
 use Rattle.std.proofs.lemmas.Option.{some_pair_parts}
 use Rattle.std.proofs.lemmas.List.{get_or-take, length-take}
 use Rattle.std.proofs.lemmas.List.Quantifiers.{position-Some}
-use Rattle.pivot_run.specs.Pivots.{row_at}
-use Rattle.pivot_run.specs.Tables.{Table, entering, leaving, number, pivoted_table, right_side}
-use Rattle.pivot_run.specs.Runs.{Keeps, next}
-use Rattle.pivot_run.specs.Driven.{driven, first_driven, or_later}
-use Rattle.pivot_run.specs.Stages.{State, advanced, after_sum, cost_target, drives, on_row, plan_of, rows_target, state_after, target}
+use Rattle.pivot_run.specs.Prelude.{row_at, Table, entering, leaving, number, pivoted_table, right_side, Keeps, next, driven, first_driven, or_later, State, advanced, after_sum, cost_target, drives, on_row, plan_of, rows_target, state_after, target}
 use Rattle.pivot_run.specs.declared.target.Target.{Target}
 use Rattle.pivot_run.specs.declared.target.Target.TheVariants.{Row, Drive, Ended}
 use Rattle.pivot_run.proofs.Solutions.{length-pivoted, pivoted_solves, pivoted_solved}

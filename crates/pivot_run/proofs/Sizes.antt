@@ -3,7 +3,7 @@
 use Rattle.std.proofs.Common.{ℕ, ◌^◌, ◌<◌, ◌≤◌, arith, List, length, ℤ, unsigned_abs}
 use Rattle.std.proofs.lemmas.Bool.{cases_lt}
 use Rattle.std.proofs.lemmas.List.{get_or_past}
-use Rattle.pivot_run.specs.Rows.{IsSmall, entry}
+use Rattle.pivot_run.specs.Prelude.{IsSmall, entry}
 
 -- past the end of a row all is 0
 pub small_from : (row : List ℤ) (n : ℕ) → length row ≤ n → ((k : ℕ) → k < n → unsigned_abs (entry row k) < 2 ^ 127) → IsSmall row

@@ -6,9 +6,7 @@ use Rattle.std.proofs.lemmas.Int.{ints, by_lt_z}
 use Rattle.std.proofs.lemmas.Nat.Gcd.{mod-eq-zero_of_dvd}
 use Rattle.std.proofs.lemmas.Bool.{cases_eq, cond_both}
 use Rattle.std.proofs.lemmas.List.{length-map, get_or-map, get_or-set_same, get_or-set_other, length-set}
-use Rattle.pivot_run.specs.Rows.{entry, reduced, upright, combined, cleared, divisor_of, eliminated}
-use Rattle.pivot_run.specs.Pivots.{AreAsLong, pivot_row, pivoted, row_at}
-use Rattle.pivot_run.specs.Solutions.{dot, Solves}
+use Rattle.pivot_run.specs.Prelude.{entry, reduced, upright, combined, cleared, divisor_of, eliminated, AreAsLong, pivot_row, pivoted, row_at, dot, Solves}
 use Rattle.uc_model.proofs.Common.{linear, mul_comm, mul_assoc, mul-add, mul-zero, sub-mul, neg-mul, mul-neg, le_from_mul, le_antisymm}
 use Rattle.pivot_run.proofs.Orders.{int_lt-true, int_lt-false}
 use Rattle.pivot_run.proofs.Divisors.{divisor_of-positive, divisor_of-divides}

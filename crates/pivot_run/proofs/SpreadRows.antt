@@ -10,8 +10,7 @@ use Rattle.std.proofs.lemmas.Int.{ints}
 use Rattle.std.proofs.lemmas.List.{get_or-take, get_or_past, length-take}
 use Rattle.std.proofs.lemmas.List.Sums.{fails_before_first, position_or_len_is}
 use Rattle.std.proofs.lemmas.List.Quantifiers.{position-Some}
-use Rattle.pivot_run.specs.Rows.{IsLargest, IsSmall, entry, reduced, cleared, divisor_of, total_size}
-use Rattle.pivot_run.specs.Pivots.{ClearingForms, IsNarrow}
+use Rattle.pivot_run.specs.Prelude.{IsLargest, IsSmall, entry, reduced, cleared, divisor_of, total_size, ClearingForms, IsNarrow}
 use Rattle.pivot_run.specs.inside.Entries.{AreBelow, AreEntries, CombiningForms, IsCombined, Rise, column, column_within, number_at, spread}
 use Rattle.pivot_run.proofs.EntryLists.{entry_spread, length_spread, map_spread, number_cases, number_of_entry, spread_is}
 use Rattle.pivot_run.proofs.Clearing.{entry-combined, length-combined}

@@ -2,11 +2,7 @@
 -- Cite by `use Rattle.pivot_run.proofs.Values.{values_solve}`.
 use Rattle.std.proofs.Common.{◌≡◌, ◌≢◌, ℕ, zero, suc, ◌<◌, ◌≤◌, ⊎_elim, refl, sym, ap, subst, ◌∙◌, arith, List, [], ◌∷◌, length, ℤ, pos, ◌+ℤ◌, ◌*ℤ◌, ◌≤ℤ◌, neg_ℤ}
 use Rattle.std.proofs.lemmas.Bool.{cases_eq, cases_lt}
-use Rattle.pivot_run.specs.Rows.{entry}
-use Rattle.pivot_run.specs.Pivots.{row_at}
-use Rattle.pivot_run.specs.Solutions.{dot}
-use Rattle.pivot_run.specs.Tables.{IsBasic, Table, basic, number}
-use Rattle.pivot_run.specs.Values.{at_column, values_of}
+use Rattle.pivot_run.specs.Prelude.{entry, row_at, dot, IsBasic, Table, basic, number, at_column, values_of}
 use Rattle.uc_model.proofs.Common.{le_refl, linear, mul-add, mul-zero, zero-mul, mul-neg, mul_assoc, mul_comm}
 
 pub dot-add : (row : List ℤ) (v w : ℕ → ℤ) → dot row (λ c. v c +ℤ w c) ≡ dot row v +ℤ dot row w

@@ -2,9 +2,7 @@
 -- Cite by `use Rattle.pivot_run.proofs.ZeroSides.{zero_sides_kept}`.
 use Rattle.std.proofs.Common.{◌≡◌, ◌≢◌, ℕ, ◌-◌, ◌<◌, ⊎_elim, sym, subst, arith, length, pos, ◌≤ℤ◌, ◌<ℤ◌}
 use Rattle.std.proofs.lemmas.Bool.{cases_eq}
-use Rattle.pivot_run.specs.Rows.{entry, cleared}
-use Rattle.pivot_run.specs.Pivots.{pivot_row, row_at}
-use Rattle.pivot_run.specs.Tables.{IsBasic, IsTable, Table, number, pivoted_table, right_side}
+use Rattle.pivot_run.specs.Prelude.{entry, cleared, pivot_row, row_at, IsBasic, IsTable, Table, number, pivoted_table, right_side}
 use Rattle.uc_model.proofs.Common.{linear, le_refl, mul_nonneg}
 use Rattle.pivot_run.proofs.Solutions.{by_eliminated, row-pivoted_at, row-pivoted_other}
 use Rattle.pivot_run.proofs.RightSides.{reduced_nonneg}

@@ -1,7 +1,7 @@
 //! The report of a certificate that was accepted.
 
 ghost use Rattle.std.specs.Prelude.{OnOk, OnErr};
-ghost use Rattle.outside.specs.Sinks.{SinkWrites, SinkWritesFront};
+ghost use Rattle.outside.specs.Prelude.{SinkWrites, SinkWritesFront};
 ghost use Rattle.report.specs.ClaimsReport.{schedule_cost_line, claim_lines, claims_report};
 
 use crate::found::put_bound;

@@ -1,7 +1,7 @@
 //! The report of a demo.
 
 ghost use Rattle.std.specs.Prelude.{OnOk, OnErr};
-ghost use Rattle.outside.specs.Sinks.{SinkWrites, SinkWritesFront};
+ghost use Rattle.outside.specs.Prelude.{SinkWrites, SinkWritesFront};
 ghost use Rattle.report.specs.DemoReport.{demo_report, outcome_summary};
 
 use crate::found::{put_no_summary, put_summary};

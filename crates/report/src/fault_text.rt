@@ -1,7 +1,7 @@
 //! The line of a fault.
 
 ghost use Rattle.std.specs.Prelude.{◌≡◌, ◌∷◌, [], OnOk, OnErr, codes};
-ghost use Rattle.outside.specs.Sinks.{SinkWrites, SinkWritesFront};
+ghost use Rattle.outside.specs.Prelude.{SinkWrites, SinkWritesFront};
 ghost use Rattle.outside.specs.Lines.{joined};
 ghost use Rattle.uc_model.specs.Decimal.{whole_text};
 ghost use Rattle.report.specs.FaultText.{usage_text, slot_text, read_line, write_line, long_line, json_text, field_text, owner_text, entry_text, instance_line, line_fault_text, unit_rule_line, period_rule_line, rule_line, costs_line, refusal_line, no_uplift_line, fault_text};

@@ -1,7 +1,7 @@
 //! The report of what a search found.
 
 ghost use Rattle.std.specs.Prelude.{◌≤◌, OnOk, OnErr};
-ghost use Rattle.outside.specs.Sinks.{SinkWrites, SinkWritesFront};
+ghost use Rattle.outside.specs.Prelude.{SinkWrites, SinkWritesFront};
 ghost use Rattle.branch_tree.specs.Prelude.{tree_bound};
 ghost use Rattle.report.specs.FoundReport.{size_line, state_line, bound_line, evaluations_line, schedule_summary, schedule_report, no_schedule_summary, no_schedule_report, found_report};
 

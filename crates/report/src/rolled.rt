@@ -1,7 +1,7 @@
 //! The report of a roll.
 
 ghost use Rattle.std.specs.Prelude.{OnOk, OnErr};
-ghost use Rattle.outside.specs.Sinks.{SinkWrites, SinkWritesFront};
+ghost use Rattle.outside.specs.Prelude.{SinkWrites, SinkWritesFront};
 ghost use Rattle.report.specs.RolledReport.{none_text, outcome_lines, rolled_report, stopped_line, whole_lines, windows_line};
 
 use crate::found::put_size;

@@ -1,7 +1,7 @@
 //! The report of a certificate that was written anew.
 
 ghost use Rattle.std.specs.Prelude.{OnOk, OnErr};
-ghost use Rattle.outside.specs.Sinks.{SinkWrites, SinkWritesFront};
+ghost use Rattle.outside.specs.Prelude.{SinkWrites, SinkWritesFront};
 ghost use Rattle.report.specs.UpgradeReport.{upgrade_report};
 
 use outside::{Failed, Latch, Out, Sink, SinkWriter};

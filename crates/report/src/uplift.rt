@@ -3,7 +3,7 @@
 ghost use Rattle.std.specs.Prelude.{◌≡◌, ◌∷◌, [], OnOk, OnErr};
 ghost use Rattle.uc_model.specs.Decimal.{signed_text};
 ghost use Rattle.outside.specs.Lines.{line};
-ghost use Rattle.outside.specs.Sinks.{SinkWrites, SinkWritesFront};
+ghost use Rattle.outside.specs.Prelude.{SinkWrites, SinkWritesFront};
 ghost use Rattle.report.specs.UpliftReport.{price_lines, thermal_uplift_line, renewable_uplift_line, has_shortage_price as is_shortage_priced, shed_uplift_line, uplift_report};
 
 use crate::names::put_unit;

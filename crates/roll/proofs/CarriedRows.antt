@@ -10,9 +10,7 @@ use Rattle.uc_model.specs.Rules as model
 use Rattle.uc_model.proofs.Common.{linear, le_trans, mul-one, mul-zero, int_le-true}
 use Rattle.schedule_check.specs.WholeWatts as watts
 use Rattle.schedule_check.proofs.Produced.{Holds, holds_from}
-use Rattle.roll.specs.FirstPeriods.{first_periods}
-use Rattle.roll.specs.Left.{Instance, Thermal, Cell, Printed, CarriedUnit, IsLeftBy, IsLawfulState}
-use Rattle.roll.specs.Kept.{ObeysFirst}
+use Rattle.roll.specs.Prelude.{first_periods, Instance, Thermal, Cell, Printed, CarriedUnit, IsLeftBy, IsLawfulState, ObeysFirst}
 use Rattle.roll.specs.inside.Rows.{AreStatesBehind, HasRows, IsWithinRange, row_at, unit_at}
 use Rattle.roll.proofs.KeptRules.{IsSolved, rule_in_watts}
 use Rattle.roll.proofs.Parts.{first_lawful}

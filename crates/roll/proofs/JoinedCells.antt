@@ -3,9 +3,7 @@
 use Rattle.std.proofs.Common.{arith, ◌≡◌, ℕ, suc, not, ◌||◌, List, ap, ◌+ℤ◌, int_le}
 use Rattle.uc_model.specs.Prelude.{must_run_at, was_on, stop_cap}
 use Rattle.schedule_check.specs.WholeWatts as watts
-use Rattle.roll.specs.Left.{Thermal, Cell, CarriedUnit}
-use Rattle.roll.specs.NextWindow.{continued}
-use Rattle.roll.specs.Stitched.{SameDispatch}
+use Rattle.roll.specs.Prelude.{Thermal, Cell, CarriedUnit, continued, SameDispatch}
 
 -- period t of a row of the unit is like period s of a row of the continued unit
 pub record AreAlike (unit : Thermal) (left : CarriedUnit) (row other : List Cell) (t s : ℕ) : Type 0 where

@@ -7,9 +7,7 @@ use Rattle.uc_model.specs.Prelude.{bit, Commitment, state_before, was_on, starts
 use Rattle.uc_model.proofs.Common.{linear, le_trans, mul-zero, int_le-true, le-int_le}
 use Rattle.schedule_check.specs.WholeWatts as watts
 use Rattle.schedule_check.proofs.Produced.{holds_from}
-use Rattle.roll.specs.Left.{Thermal, Cell, CarriedUnit, HasLasted, IsLeft, initial_state, is_too_high_to_stop, time_off_so_far, time_on_left, time_on_so_far}
-use Rattle.roll.specs.NextWindow.{continued}
-use Rattle.roll.specs.Stitched.{SameDispatch}
+use Rattle.roll.specs.Prelude.{Thermal, Cell, CarriedUnit, HasLasted, IsLeft, initial_state, is_too_high_to_stop, time_off_so_far, time_on_left, time_on_so_far, continued, SameDispatch}
 use Rattle.start_costs.specs.Cheapest.{HasLeastCategory}
 use Rattle.roll.proofs.CarriedRows.{cap_below, reduction_nonneg}
 use Rattle.roll.proofs.JoinedCells.{AreAlike, same_must_run, same_production, same_ramp_down, same_ramp_up, same_start_cap, same_stop_cap}

@@ -6,7 +6,7 @@
 use Rattle.std.proofs.Common.{◌≡◌, ℕ, zero, suc, ◌+◌, ◌-◌, ◌<◌, ◌≤◌, ⊎_elim, Bool, true, false, not, ◌&&◌, ◌==◌, refl, sym, ap, ◌∙◌, arith, IsTrue, if◌then◌else◌}
 use Rattle.std.proofs.lemmas.Bool.{and_parts, cases_lt, not-true}
 use Rattle.uc_model.specs.Prelude.{Commitment, state_before}
-use Rattle.roll.specs.Left.{HasLasted}
+use Rattle.roll.specs.Prelude.{HasLasted}
 use Rattle.roll.proofs.LastingChanges.{EachLasts}
 
 -- a change to the state in period t

@@ -6,8 +6,7 @@ use Rattle.uc_model.specs.Prelude.{sum_below, thermal_unit, thermal_count, renew
 use Rattle.uc_model.proofs.Common.{sum_below-same}
 use Rattle.schedule_check.specs.SizedNumbers.{output_at}
 use Rattle.schedule_check.specs.WholeWatts as watts
-use Rattle.roll.specs.Left.{Instance, Printed}
-use Rattle.roll.specs.Stitched.{SameDispatch}
+use Rattle.roll.specs.Prelude.{Instance, Printed, SameDispatch}
 
 -- period t of a schedule of the instance is like period s of a schedule of another one
 pub record AreSystemsAlike (instance other : Instance) (printed shown : Printed) (t s : ℕ) : Type 0 where

@@ -9,11 +9,7 @@ use Rattle.schedule_check.specs.FirstBroken.{HoldsThroughout}
 use Rattle.schedule_check.specs.SizedNumbers.{output_at}
 use Rattle.schedule_check.specs.WholeWatts as watts
 use Rattle.schedule_check.proofs.FirstPlaces.{obeys_stands}
-use Rattle.roll.specs.FirstPeriods.{first_periods}
-use Rattle.roll.specs.Left.{Instance, Thermal, Cell, Printed, state_of}
-use Rattle.roll.specs.NextWindow.{continued}
-use Rattle.roll.specs.Kept.{IsKept, PrintedObeys}
-use Rattle.roll.specs.Stitched.{IsContinuation, IsStitched, SameDispatch}
+use Rattle.roll.specs.Prelude.{first_periods, Instance, Thermal, Cell, Printed, state_of, continued, IsKept, PrintedObeys, IsContinuation, IsStitched, SameDispatch}
 use Rattle.start_costs.specs.Cheapest.{HasLeastCategory}
 use Rattle.roll.proofs.KeptRules.{IsSolved, rule_in_watts}
 use Rattle.roll.proofs.Parts.{IsPart, first_is_part, first_lawful, window_is_part}

@@ -6,8 +6,7 @@ use Rattle.uc_model.proofs.Common.{rule_at}
 use Rattle.schedule_check.specs.WholeWatts as watts
 use Rattle.schedule_check.proofs.Measures.{over_one}
 use Rattle.schedule_check.proofs.SameRules.{IsPlace, production-is, same_rule}
-use Rattle.roll.specs.FirstPeriods.{Instance}
-use Rattle.roll.specs.Kept.{Printed, PrintedObeys}
+use Rattle.roll.specs.Prelude.{Instance, Printed, PrintedObeys}
 
 -- a lawful instance with a schedule in whole watts that obeys
 pub record IsSolved (instance : Instance) (printed : Printed) : Type 0 where

@@ -3,11 +3,7 @@ use Rattle.std.proofs.Common.{◌≡◌, ℕ, ◌+◌, ◌<◌, ◌≤◌, ◌++
 use Rattle.std.proofs.lemmas.List.{get_or_append_left, get_or-append-add, get_or-take}
 use Rattle.uc_model.specs.Prelude.{thermal_count, renewable_count, cell_at, shed_at, short_at}
 use Rattle.schedule_check.specs.SizedNumbers.{output_at}
-use Rattle.roll.specs.Left.{Instance, Cell, Printed}
-use Rattle.roll.specs.NextWindow.{IsNextWindow}
-use Rattle.roll.specs.Kept.{IsKept}
-use Rattle.roll.specs.Stitched.{IsStitched, SameDispatch}
-use Rattle.roll.specs.Rolling.{IsShownFrom}
+use Rattle.roll.specs.Prelude.{Instance, Cell, Printed, IsNextWindow, IsKept, IsStitched, SameDispatch, IsShownFrom}
 
 -- the first m periods of a schedule are those of another one, but for the categories
 pub record AreSame (instance : Instance) (m : ℕ) (old new : Printed) : Type 0 where

@@ -1,8 +1,7 @@
 -- A window of a lawful instance is lawful, where its units' states are.
 use Rattle.std.proofs.Common.{arith, ℕ, ◌+◌, ◌≤◌, sym, subst}
 use Rattle.uc_model.specs.Prelude.{thermal_unit, IsLawfulInstance, IsLawfulThermal}
-use Rattle.roll.specs.Left.{Instance, Thermal, Carried, CarriedUnit, HasStates, IsLawfulState, state_of}
-use Rattle.roll.specs.NextWindow.{IsWindow, continued}
+use Rattle.roll.specs.Prelude.{Instance, Thermal, Carried, CarriedUnit, HasStates, IsLawfulState, state_of, IsWindow, continued}
 use Rattle.roll.proofs.Parts.{part_lawful, window_is_part}
 
 continued_lawful : (unit : Thermal) (left : CarriedUnit) → IsLawfulThermal unit → IsLawfulState left → IsLawfulThermal (continued unit left)

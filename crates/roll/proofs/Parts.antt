@@ -9,9 +9,7 @@ use Rattle.uc_model.specs.Prelude.{sum_below, thermal_unit, thermal_count, renew
 use Rattle.uc_model.specs.declared.limits.TheConstants.{MAX_SHORTAGE_COST}
 use Rattle.uc_model.specs.declared.instance.Renewable.{Renewable}
 use Rattle.uc_model.proofs.Common.{linear, le_trans, add-le-add, scale-le-scale, sum_below-same, sum_below-split, sum_below_nonneg}
-use Rattle.roll.specs.FirstPeriods.{first_periods, first_limits}
-use Rattle.roll.specs.Left.{Instance, Carried}
-use Rattle.roll.specs.NextWindow.{IsWindow}
+use Rattle.roll.specs.Prelude.{first_periods, first_limits, Instance, Carried, IsWindow}
 
 -- a renewable unit of the part has the limits of its periods
 pub record HasLimitsOf (instance : Instance) (start len : ℕ) (part : Instance) (w : ℕ) : Type 0 where

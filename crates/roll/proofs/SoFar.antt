@@ -3,10 +3,7 @@ use Rattle.std.proofs.Common.{◌≡◌, ℕ, suc, ◌+◌, ◌-◌, ◌<◌, �
 use Rattle.std.proofs.lemmas.Bool.{cases_lt}
 use Rattle.uc_model.specs.Prelude.{IsLawfulInstance}
 use Rattle.schedule_check.specs.Accepted.{IsAccepted}
-use Rattle.roll.specs.Kept.{IsKept}
-use Rattle.roll.specs.NextWindow.{IsNextWindow}
-use Rattle.roll.specs.Stitched.{IsContinuation, IsStitched}
-use Rattle.roll.specs.Rolling.{Found, Instance, Place, Printed, AreAllRolled, AreRolled, IsNextPlace, IsRolledSoFar, IsRolledWindow, IsStoppedRoll, IsWholeRoll, pace, periods_before}
+use Rattle.roll.specs.Prelude.{IsKept, IsNextWindow, IsContinuation, IsStitched, Found, Instance, Place, Printed, AreAllRolled, AreRolled, IsNextPlace, IsRolledSoFar, IsRolledWindow, IsStoppedRoll, IsWholeRoll, pace, periods_before}
 use Rattle.roll.proofs.KeptWindows.{AreSame, next_again, stitched_same, stitched_shown}
 
 -- ---- the place

@@ -8,10 +8,7 @@ use Rattle.schedule_check.specs.PlainNumbers.{HasPlainNumbers, IsPlainCell}
 use Rattle.schedule_check.specs.SizedNumbers.{output_at}
 use Rattle.schedule_check.specs.WholeWatts.{cell, commitment, row_of}
 use Rattle.schedule_check.proofs.Plain.{plain}
-use Rattle.roll.specs.FirstPeriods.{first_limits, first_periods}
-use Rattle.roll.specs.Left.{Instance, Thermal, Cell, Printed}
-use Rattle.roll.specs.Kept.{IsKept}
-use Rattle.roll.specs.Stitched.{IsContinuation, IsStitched, SameDispatch}
+use Rattle.roll.specs.Prelude.{first_limits, first_periods, Instance, Thermal, Cell, Printed, IsKept, IsContinuation, IsStitched, SameDispatch}
 use Rattle.start_costs.specs.Cheapest.{HasLeastCategory}
 use Rattle.roll.specs.inside.Joined.{AreEmpty, AreJoined, AreStitchedRows, IsStitchedRow}
 use Rattle.roll.specs.inside.Rows.{row_at, unit_at}

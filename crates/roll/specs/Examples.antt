@@ -1,7 +1,8 @@
 -- Two hours solved one by one: what the first leaves to the second, and how a whole breaks a rule whose windows break none, where
 -- less is left. The unit is uc_model's, of 10 to 50 MW, on initially at 20 MW.
 use Rattle.std.specs.Prelude.{ℕ, true, [], ◌∷◌, ℤ, pos}
-use Rattle.uc_model.specs.Examples.{Example, base_unit, cells, cold_unit, mw, system}
+use Rattle.uc_model.specs.Prelude.{Example, base_unit, cold_unit, mw, system}
+use Rattle.uc_model.specs.Examples.{cells}
 use Rattle.roll.specs.Left.{Thermal, Cell, CarriedUnit}
 use Rattle.roll.specs.NextWindow.{continued}
 

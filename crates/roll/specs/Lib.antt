@@ -6,3 +6,4 @@ pub mod Stitched
 pub mod Rolling
 pub mod Examples
 pub mod inside
+pub mod Prelude

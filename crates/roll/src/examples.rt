@@ -1,8 +1,8 @@
 //! Worked examples of the definitions, as contracts: the check computes each of them.
 
 ghost use Rattle.std.specs.Prelude.{◌≡◌, [], ◌∷◌, true, false, pos};
-ghost use Rattle.uc_model.specs.Prelude.{InitialUp, MinimumUp, RampUp, StopCap};
-ghost use Rattle.uc_model.specs.Examples.{broken_rules, dollars, mw, off, on, printed_cost_of};
+ghost use Rattle.uc_model.specs.Prelude.{InitialUp, MinimumUp, RampUp, StopCap, broken_rules, dollars, mw, off, printed_cost_of};
+ghost use Rattle.uc_model.specs.Examples.{on};
 ghost use Rattle.roll.specs.Examples.{low_stop_unit, on_at, second_hour, slow_unit, two_hour_unit, whole};
 ghost use Rattle.roll.specs.Left.{is_too_high_to_stop, time_on_left, time_on_so_far, total_output};
 

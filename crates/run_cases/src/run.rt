@@ -1,7 +1,7 @@
 //! A run of the program on devices in memory.
 
 ghost use Rattle.std.specs.Prelude.{◌≡◌, IfOk};
-ghost use Rattle.outside.specs.Slots.{AllUnopened};
+ghost use Rattle.outside.specs.Prelude.{AllUnopened};
 ghost use Rattle.outside.specs.declared.slot.Stage.TheVariants.{Unopened};
 
 use crate::case::{Case, Place};

@@ -30,7 +30,7 @@ pub struct State {
 }
 
 impl Model for State {
-    ghost use Rattle.search_machine.specs.Machine.{Machine};
+    ghost use Rattle.search_machine.specs.Prelude.{Machine};
     ghost use Rattle.search_core.specs.MachineCode.{machine_code};
 
     ghost Value = { Machine };
@@ -52,9 +52,7 @@ impl State {
     ghost use Rattle.search_machine.specs.declared.limits.TheConstants.{MAX_BUDGET};
     ghost use Rattle.search_machine.specs.declared.event.Event.TheVariants as event;
     ghost use Rattle.search_machine.specs.declared.event.StepFault.TheVariants as fault;
-    ghost use Rattle.search_machine.specs.Machine.{IsWorker, IsHolding, desk_of, entries_of, start_of};
-    ghost use Rattle.search_machine.specs.Moves.{kept, MayGoOn, MayPrune, IsMoveLegal, HasFreeCell};
-    ghost use Rattle.search_machine.specs.Steps.{HasSeen, IsClaimable, IsFresh, IsStoredTable, IsLegal, is_in_hand, after};
+    ghost use Rattle.search_machine.specs.Prelude.{IsWorker, IsHolding, desk_of, entries_of, start_of, kept, MayGoOn, MayPrune, IsMoveLegal, HasFreeCell, HasSeen, IsClaimable, IsFresh, IsStoredTable, IsLegal, is_in_hand, after};
 
     /// A state with no claim and no entry: the root of a tree over `units` thermal units and `periods` periods is
     /// open, and stores the table and its bound by V, `value`, in micro-dollars. Worker 0 has the root's ticket.

@@ -6,20 +6,15 @@ use Rattle.dual_model.specs.Prelude.{IsNodeOf, IsLawfulTable}
 use Rattle.dual_model.specs.declared.node.Node.{Node}
 use Rattle.branch_tree.specs.Prelude.{node_count, IsNodeAt}
 use Rattle.pivot_closing.proofs.Decided.{node_cells}
-use Rattle.book.specs.BookView.{BookView, state_of}
-use Rattle.book.specs.Calls.{IsClaimAnswer, IsHeldUnit, IsStoredAt, IsUnitHeld, claimed}
-use Rattle.book.specs.Claims.{holders}
+use Rattle.book.specs.Prelude.{BookView, state_of, IsClaimAnswer, IsHeldUnit, IsStoredAt, IsUnitHeld, claimed, holders, Opening, IsTrueOpening, number_of, replayed, IsRunning}
 use Rattle.book.specs.declared.claims.Claim.{Claim}
 use Rattle.book.specs.declared.claims.Claimed.TheVariants.{Mine}
 use Rattle.book.specs.declared.claims.Status.TheVariants.{Held}
 use Rattle.book.proofs.Units.{held_part}
 use Rattle.search_machine.specs.Prelude.{IsHolding, entries_of, holder_in, TreeRunsHold}
-use Rattle.book.specs.Opening.{Opening, IsTrueOpening}
-use Rattle.book.specs.Replay.{number_of, replayed}
 use Rattle.book.proofs.Books.{run_holds}
 use Rattle.book.proofs.Steps.{held_still}
 use Rattle.search_machine.proofs.Claims.{holdable}
-use Rattle.book.specs.Running.{IsRunning}
 use Rattle.search_desk.specs.Desks.{Table, IsLaterWithin, IsScaledWithin}
 
 -- a node of the book's tree is a node of the instance

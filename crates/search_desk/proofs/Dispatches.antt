@@ -32,13 +32,10 @@ use Rattle.search_machine.proofs.Claims.{holdable}
 use Rattle.search_machine.proofs.Growth.{tree_grows}
 use Rattle.search_machine.proofs.OrderlySteps.{free_for, sound_of}
 use Rattle.search_machine.proofs.TrueSteps.{NeverDecreases, best_within}
-use Rattle.book.specs.BookView.{state_of, opened}
-use Rattle.book.specs.Calls.{IsAbandonAnswer, IsClaimAnswer, IsCommitAnswer, IsHeldUnit, MayBe, committed}
+use Rattle.book.specs.Prelude.{state_of, IsAbandonAnswer, IsClaimAnswer, IsCommitAnswer, IsHeldUnit, MayBe, committed, IsTrueOpening, number_of, replayed, IsRunning}
+use Rattle.book.specs.BookView.{opened}
 use Rattle.book.specs.declared.claims.Claimed.{Claimed}
 use Rattle.book.specs.declared.claims.Claimed.TheVariants.{Spent, NotOpen, Mine}
-use Rattle.book.specs.Opening.{IsTrueOpening}
-use Rattle.book.specs.Replay.{number_of, replayed}
-use Rattle.book.specs.Running.{IsRunning}
 use Rattle.book.proofs.Books.{run_holds}
 use Rattle.book.proofs.Steps.{held_still}
 use Rattle.search_desk.specs.Best.{cost_of}

@@ -20,17 +20,13 @@ use Rattle.search_machine.proofs.OrderlySteps.{sound_of}
 use Rattle.search_machine.proofs.Plain.{IsPlainState, plain_after}
 use Rattle.search_machine.specs.declared.event.Event.TheVariants.{Commit}
 use Rattle.search_machine.proofs.TrueSteps.{NeverDecreases, best_within}
-use Rattle.book.specs.BookView.{BookView, state_of, opened}
-use Rattle.book.specs.Calls.{claimed, committed, given_back, MayBe, IsAbandonAnswer, IsClaimAnswer, IsCommitAnswer}
+use Rattle.book.specs.Prelude.{BookView, state_of, claimed, committed, given_back, MayBe, IsAbandonAnswer, IsClaimAnswer, IsCommitAnswer, ended, Opening, IsTrueOpening, number_of, replayed, IsRunning}
+use Rattle.book.specs.BookView.{opened}
 use Rattle.book.specs.declared.claims.Claimed.{Claimed}
 use Rattle.book.specs.declared.claims.Claimed.TheVariants.{Spent, NotOpen, Mine}
-use Rattle.book.specs.Claims.{ended}
 use Rattle.book.specs.declared.claims.Claim.{Claim}
 use Rattle.book.specs.declared.claims.Status.{Status}
 use Rattle.book.specs.declared.claims.Status.TheVariants.{Held, Committed, GivenBack}
-use Rattle.book.specs.Opening.{Opening, IsTrueOpening}
-use Rattle.book.specs.Replay.{number_of, replayed}
-use Rattle.book.specs.Running.{IsRunning}
 use Rattle.book.proofs.Books.{run_holds}
 use Rattle.book.proofs.Steps.{held_still}
 use Rattle.book.proofs.Units.{held_part, ended_part}

@@ -7,7 +7,7 @@ use Rattle.branch_tree.specs.declared.found.Outcome.TheVariants as outcome
 use Rattle.search_machine.specs.Prelude.{kept_after}
 use Rattle.search_machine.specs.declared.event.Move.{Move}
 use Rattle.search_machine.specs.declared.event.Move.TheVariants as move
-use Rattle.book.specs.Calls.{IsCommitted, IsHeldUnit, MayCommit}
+use Rattle.book.specs.Prelude.{IsCommitted, IsHeldUnit, MayCommit}
 use Rattle.incumbent.specs.Costs.{AtMost}
 use Rattle.search_desk.specs.Desks.{BookView, DeskView}
 use Rattle.search_desk.specs.declared.desk.HeldNode.{HeldNode}

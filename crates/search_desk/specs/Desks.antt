@@ -13,7 +13,7 @@ use Rattle.search_machine.specs.declared.event.Move.{Move}
 use Rattle.search_machine.specs.declared.event.Move.TheVariants as move
 pub use Rattle.incumbent.specs.Passes.{Known}
 pub use Rattle.book.specs.BookView.{BookView}
-use Rattle.book.specs.Claims.{stays}
+use Rattle.book.specs.Prelude.{stays}
 use Rattle.book.specs.declared.claims.Claim.{Claim}
 use Rattle.book.specs.declared.claims.Status.{Status}
 use Rattle.book.specs.declared.claims.Status.TheVariants.{Held, Committed, GivenBack}

@@ -116,8 +116,7 @@ impl<C: SearchCase> Model for Desk<C> {
 impl<C: SearchCase> Desk<C> {
     ghost use Rattle.std.specs.Prelude.{◌≡◌, ◌≤◌, ◌↔◌, IsTrue, false, None, All, IfOk};
     ghost use Rattle.book.specs.BookView.{opened};
-    ghost use Rattle.book.specs.Calls.{IsUnitHeld, IsClaimAnswer};
-    ghost use Rattle.book.specs.Opening.{IsTrueOpening};
+    ghost use Rattle.book.specs.Prelude.{IsUnitHeld, IsClaimAnswer, IsTrueOpening};
     ghost use Rattle.incumbent.specs.Costs.{AtMost};
     ghost use Rattle.search_desk.specs.Best.{cost_of};
     ghost use Rattle.search_desk.specs.Commits.{IsDeskCommit, IsEntry, move_for};

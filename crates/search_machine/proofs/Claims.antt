@@ -9,9 +9,8 @@ use Rattle.branch_tree.specs.Prelude.{NumberedTree, node_count, IsOpenAt}
 use Rattle.branch_tree.proofs.Changes.{get-set_other, get-append}
 use Rattle.branch_tree.proofs.Subtrees.{one_here, none_here}
 use Rattle.branch_tree.proofs.Grown.{open_numbered}
-use Rattle.search_machine.specs.Machine.{Holder, holder_in, IsHeldIn, WorkerState, no_desk, desk_in, Machine, IsHolding}
-use Rattle.search_machine.specs.Orderly.{AreHoldersApart, held_count, times_at, times_in, IsEachTicketOnce, IsOrderly}
-use Rattle.search_machine.specs.Steps.{with_desk, with_tickets, with_queued, without_first, first_queued, is_in_hand, taken}
+use Rattle.search_machine.specs.Prelude.{Holder, holder_in, IsHeldIn, WorkerState, no_desk, desk_in, Machine, IsHolding, AreHoldersApart, held_count, times_in, IsEachTicketOnce, IsOrderly, with_desk, with_tickets, with_queued, without_first, first_queued, is_in_hand, taken}
+use Rattle.search_machine.specs.Orderly.{times_at}
 
 -- ---- reading a list that was changed
 -- an item of a list with one more is one of the list, or the last

@@ -13,7 +13,8 @@ use Rattle.branch_tree.proofs.Subtrees.{number_of-replaced, AreApart, IsHere, ap
 use Rattle.search_machine.specs.declared.stored.Stored.{Stored}
 use Rattle.branch_tree.specs.declared.tree.Leaf.{Leaf}
 use Rattle.branch_tree.specs.declared.tree.Spot.{Spot}
-use Rattle.search_machine.specs.Moves.{Again, Empty, Outcome, Prune, Ray, Split, Move, closed, split, live_leaf, bound_leaf, ray_leaf, empty_leaf, tree_after, tickets_of, unit_of, IsFreeFor, HasFreeCell}
+use Rattle.search_machine.specs.Prelude.{Again, Empty, Outcome, Prune, Ray, Split, Move, closed, split, live_leaf, bound_leaf, ray_leaf, empty_leaf, tree_after, tickets_of, IsFreeFor, HasFreeCell}
+use Rattle.search_machine.specs.Moves.{unit_of}
 use Rattle.search_machine.proofs.Claims.{StaysElsewhere}
 
 -- the tree's nodes have places, and it is a cover of each instance of its size

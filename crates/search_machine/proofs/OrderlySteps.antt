@@ -8,10 +8,8 @@ use Rattle.std.proofs.lemmas.Option.{slice_get_within}
 use Rattle.branch_tree.specs.Prelude.{node_count, TreeView, IsOpenAt, lesser_bound}
 use Rattle.branch_tree.proofs.Grown.{open_numbered, root_placed}
 use Rattle.branch_tree.proofs.Subtrees.{one_if}
-use Rattle.search_machine.specs.Machine.{Entry, Table, Holder, WorkerState, Machine, holder_of, IsWorker, desk_in, no_desk, first_desk, start_of}
-use Rattle.search_machine.specs.Moves.{children_by, Again, Outcome, Split, Move, kept, tickets_of, IsFreeFor, IsMoveLegal}
-use Rattle.search_machine.specs.Steps.{Claim, Commit, Look, Pop, Publish, Push, Steal, Event, IsLegalBy, committed, committed_by, after, with_desk, with_tickets, IsClaimable}
-use Rattle.search_machine.specs.Orderly.{MAX_BUDGET, WHOLE_GAP, IsOrderly, IsEachTicketOnce, held_count, times_at}
+use Rattle.search_machine.specs.Prelude.{Entry, Table, Holder, WorkerState, Machine, holder_of, IsWorker, desk_in, no_desk, first_desk, start_of, children_by, Again, Outcome, Split, Move, kept, tickets_of, IsFreeFor, IsMoveLegal, Claim, Commit, Look, Pop, Publish, Push, Steal, Event, IsLegalBy, committed, committed_by, after, with_desk, with_tickets, IsClaimable, MAX_BUDGET, WHOLE_GAP, IsOrderly, IsEachTicketOnce, held_count}
+use Rattle.search_machine.specs.Orderly.{times_at}
 use Rattle.search_machine.proofs.Claims.{holder_place, held_push, held_ended, holders_push, holders_ended, times_kept, tickets_queued, tickets_taken, tickets_more, tickets_same}
 use Rattle.search_machine.proofs.Growth.{IsSound, tree_grows}
 

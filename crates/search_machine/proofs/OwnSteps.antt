@@ -13,13 +13,9 @@ use Rattle.branch_tree.specs.declared.tree.Leaf.TheVariants as leaf
 use Rattle.branch_tree.proofs.Subtrees.{one_if, replaced_nowhere, same_or_not, AreApart, IsOff, IsOn, apart_off, apart_on, leaf_sides, not_root, part_counted}
 use Rattle.branch_tree.proofs.Changes.{get-append, get-set_other, get-set_same, are_apart}
 use Rattle.branch_tree.proofs.Grown.{closed_count, open_numbered}
-use Rattle.search_machine.specs.Machine.{Entry, Table, entries_of, Holder, holder_in, Machine, stored_at, spot_stored}
+use Rattle.search_machine.specs.Prelude.{Entry, Table, entries_of, Holder, holder_in, Machine, stored_at, spot_stored, Node, HasFreeCellAt, StartsAt, HoldsStored, OwnsBelow, stored_after, stored_by, Owns, Outcome, bound_of, kept_after, Again, Empty, Prune, Ray, Split, Move, HasFreeCell, kept, closed, split, live_leaf, tree_after, IsOrderly, IsStoredTable}
 use Rattle.search_machine.specs.declared.stored.Stored.{Stored}
 use Rattle.branch_tree.specs.declared.tree.Leaf.{Leaf}
-use Rattle.search_machine.specs.OwnTables.{Node, HasFreeCellAt, StartsAt, HoldsStored, OwnsBelow, stored_after, stored_by, Owns}
-use Rattle.search_machine.specs.Moves.{Outcome, bound_of, kept_after, Again, Empty, Prune, Ray, Split, Move, HasFreeCell, kept, closed, split, live_leaf, tree_after}
-use Rattle.search_machine.specs.Orderly.{IsOrderly}
-use Rattle.search_machine.specs.Steps.{IsStoredTable}
 use Rattle.search_machine.proofs.Claims.{holder_place}
 use Rattle.search_machine.proofs.Growth.{IsSound, closed_grows, open_again, IsLeafPart, leaf_part, of_ray, of_empty}
 use Rattle.search_machine.proofs.OrderlySteps.{sound_of, entries_more}

@@ -7,11 +7,9 @@ use Rattle.branch_tree.specs.Prelude.{IsPlainLeaf, IsPlainTree, NumberedTree, En
 use Rattle.branch_tree.specs.declared.tree.Leaf.{Leaf}
 use Rattle.branch_tree.specs.declared.tree.Leaf.TheVariants as leaf
 use Rattle.branch_tree.specs.declared.found.Outcome.TheVariants as outcome
-use Rattle.search_machine.specs.Machine.{Entry, Table, Holder, Machine, holder_of, spot_stored, stored_at}
-use Rattle.search_machine.specs.OwnTables.{Node}
+use Rattle.search_machine.specs.Prelude.{Entry, Table, Holder, Machine, holder_of, spot_stored, stored_at, Node, Outcome, Move, Again, Split, Prune, Ray, Empty, bound_of, kept_after, live_leaf, bound_leaf, empty_leaf, kept, tree_after, Event, Claim, Commit, committed, committed_by, after}
 use Rattle.search_machine.specs.declared.stored.Stored.{Stored}
-use Rattle.search_machine.specs.Moves.{Outcome, Move, Again, Split, Prune, Ray, Empty, bound_of, kept_after, live_leaf, bound_leaf, empty_leaf, unit_of, kept, tree_after}
-use Rattle.search_machine.specs.Steps.{Event, Claim, Commit, committed, committed_by, after}
+use Rattle.search_machine.specs.Moves.{unit_of}
 
 -- the tree and the log know no exact value
 pub record IsPlainState (m : Machine) : Type 0 where

@@ -11,12 +11,8 @@ use Rattle.branch_tree.specs.Prelude.{StoredHolds, IsSizeOf, IsOpenAt, tree_of}
 use Rattle.branch_tree.specs.declared.tree.Leaf.TheVariants as leaf
 use Rattle.branch_tree.specs.declared.found.Outcome.TheVariants as outcome
 use Rattle.branch_tree.proofs.Changes.{get-append}
-use Rattle.search_machine.specs.Runs.{Leaf, Node, Instance, IsTrueOutcome, IsTrueEvent, IsTrueStart}
-use Rattle.search_machine.specs.Machine.{Table, WorkerState, Machine, Holder, IsHolding, stored_at, spot_stored}
+use Rattle.search_machine.specs.Prelude.{Leaf, Node, Instance, IsTrueOutcome, IsTrueEvent, IsTrueStart, Table, WorkerState, Machine, Holder, IsHolding, stored_at, spot_stored, Outcome, bound_of, kept_after, IsPositive, Again, Empty, Prune, Ray, Split, Move, kept, ray_leaf, empty_leaf, IsMoveLegal, Claim, Commit, Look, Pop, Publish, Push, Steal, Event, IsLegalBy, committed, committed_by, after, IsOrderly}
 use Rattle.search_machine.specs.declared.stored.Stored.{Stored}
-use Rattle.search_machine.specs.Moves.{Outcome, bound_of, kept_after, IsPositive, Again, Empty, Prune, Ray, Split, Move, kept, ray_leaf, empty_leaf, IsMoveLegal}
-use Rattle.search_machine.specs.Steps.{Claim, Commit, Look, Pop, Publish, Push, Steal, Event, IsLegalBy, committed, committed_by, after}
-use Rattle.search_machine.specs.Orderly.{IsOrderly}
 use Rattle.search_machine.proofs.Claims.{get_push_last, holdable}
 use Rattle.search_machine.proofs.Growth.{HoldsOfNew, leaf_part, part_node, holds_of_leaf, after_holds}
 use Rattle.search_machine.proofs.OrderlySteps.{orderly_start, as_large_after, orderly_after, sound_of}

@@ -13,11 +13,7 @@ use Rattle.branch_tree.specs.Prelude.{is_within_gap, AtMost, lesser_bound, least
 use Rattle.branch_tree.specs.declared.tree.Leaf.TheVariants as leaf
 use Rattle.branch_tree.proofs.Grown.{IsClosedLeaf, each_leaf_map, all_closed}
 use Rattle.branch_tree.proofs.Bounds.{at_most_itself, at_most_through, lesser_first, lesser_second, lesser_greatest, stored_bounds_hold, excluded_below}
-use Rattle.search_machine.specs.Runs.{Leaf, Node, WHOLE_GAP, IsBestWithin, IsPrunedWithin, Instance, IsTrueCost, IsTrueEvent, IsTrueStart, IsTrueRun, IsTrueRunBy, IsReachedBy, IsSettled, TreeHoldsAt, HoldsAt, HoldsAlong, RunsHold, StartsAreReached, StepsReach, ReachedStatesHold, TreeRunsHold, after_all}
-use Rattle.search_machine.specs.Machine.{Table, WorkerState, Machine, IsWorker, IsHolding, no_desk, desk_in, first_desk}
-use Rattle.search_machine.specs.Moves.{Outcome, Again, Empty, Prune, Ray, Split, Move, kept, tickets_of, IsMoveLegal}
-use Rattle.search_machine.specs.Steps.{Claim, Commit, Look, Pop, Publish, Push, Steal, Event, IsLegal, IsLegalBy, HasSeen, AnyCost, committed, after, with_desk, with_tickets, with_queued, without_first, first_queued, taken}
-use Rattle.search_machine.specs.Orderly.{IsOrderly}
+use Rattle.search_machine.specs.Prelude.{Leaf, Node, WHOLE_GAP, IsBestWithin, IsPrunedWithin, Instance, IsTrueCost, IsTrueEvent, IsTrueStart, IsTrueRun, IsTrueRunBy, IsReachedBy, IsSettled, TreeHoldsAt, HoldsAt, HoldsAlong, RunsHold, StartsAreReached, StepsReach, ReachedStatesHold, TreeRunsHold, after_all, Table, WorkerState, Machine, IsWorker, IsHolding, no_desk, desk_in, first_desk, Outcome, Again, Empty, Prune, Ray, Split, Move, kept, tickets_of, IsMoveLegal, Claim, Commit, Look, Pop, Publish, Push, Steal, Event, IsLegal, IsLegalBy, HasSeen, AnyCost, committed, after, with_desk, with_tickets, with_queued, without_first, first_queued, taken, IsOrderly}
 use Rattle.search_machine.proofs.Claims.{holdable}
 use Rattle.search_machine.proofs.OrderlySteps.{sound_of}
 use Rattle.search_machine.proofs.Growth.{HoldsOfNew, leaf_part, after_holds}

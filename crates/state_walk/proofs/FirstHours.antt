@@ -5,8 +5,7 @@ use Rattle.std.proofs.lemmas.Int.{ints, clamps}
 use Rattle.std.proofs.lemmas.Bool.{cond-true}
 use Rattle.uc_model.specs.Prelude.{IsLimit, cell_cap}
 use Rattle.uc_model.proofs.Common.{linear, mul-one, mul-zero, abs_mul, int_min_left, int_min_right}
-use Rattle.dual_model.specs.Prelude.{greatest_output}
-use Rattle.dual_model.specs.CostToGo.{total_of}
+use Rattle.dual_model.specs.Prelude.{greatest_output, total_of}
 use Rattle.dual_model.proofs.Optimum.{AtMost}
 use Rattle.step_functions.specs.Functions.{Steps, IsPlace, value_at}
 use Rattle.unit_runs.specs.CostThrough.{is_output, least_between, output_cost, reserve_cost}

@@ -4,8 +4,7 @@ use Rattle.std.proofs.Common.{◌≡◌, ℕ, zero, suc, ◌+◌, Bool, true, fa
 use Rattle.std.specs.Ordering.{int_eq}
 use Rattle.std.proofs.lemmas.Bool.{cond-true, cond-false, and_from, and_parts, eq-eqb, eqb-true, eqb-false, ne_eqb}
 use Rattle.uc_model.proofs.Common.{linear, int_le-true, le-int_le, int_eq-true, eq-int_eq}
-use Rattle.dual_model.specs.Prelude.{greatest_output}
-use Rattle.dual_model.specs.CostToGo.{total_of}
+use Rattle.dual_model.specs.Prelude.{greatest_output, total_of}
 use Rattle.uc_model.specs.Prelude.{cell_cap}
 use Rattle.dual_model.proofs.Optimum.{AtMost, total_of-parts}
 use Rattle.unit_runs.specs.CostThrough.{cost_through, hour_after, is_output, least_between, output_cost, reserve_cost, run_cost}

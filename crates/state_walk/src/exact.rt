@@ -4,8 +4,7 @@
 ghost use Rattle.std.specs.Prelude.{◌≡◌, ℕ, pos, suc, ◌+◌, ◌-◌, ◌<◌, ◌≤◌, false, true, None, Some, IfOk, MatchOption, length, if◌then◌else◌};
 ghost use Rattle.cost_curves.specs.LowerHull.{IsLowerHull};
 ghost use Rattle.uc_model.specs.Prelude.{IsLawfulInstance, IsLawfulThermal, thermal_count, thermal_unit};
-ghost use Rattle.dual_model.specs.Prelude.{IsWithin, MAX_COST_TO_GO, HasNoUnitSchedule, IsExactUnitValue, IsFixOf, may_be_off, HasSizeOf, IsWithinLimits};
-ghost use Rattle.dual_model.specs.CostToGo.{lesser_of, total_of};
+ghost use Rattle.dual_model.specs.Prelude.{IsWithin, MAX_COST_TO_GO, HasNoUnitSchedule, IsExactUnitValue, IsFixOf, may_be_off, HasSizeOf, IsWithinLimits, lesser_of, total_of};
 ghost use Rattle.dual_model.specs.declared.node.Node.{Node};
 ghost use Rattle.hull_function.specs.Hulls.{IsScale};
 ghost use Rattle.unit_runs.specs.RunsToGo.{least_runs, may_stay, run_until, switch_cost};

@@ -3,11 +3,10 @@
 ghost use Rattle.std.specs.Prelude.{◌≡◌, ℕ, suc, ◌+◌, ◌-◌, ◌<◌, ◌≤◌, IfSome, IfOk, IfNone, length};
 ghost use Rattle.uc_model.specs.Prelude.{IsLawfulThermal, thermal_unit, period_count};
 ghost use Rattle.uc_model.specs.declared.instance.Instance.{Instance};
-ghost use Rattle.dual_model.specs.Prelude.{IsFixOf, AreSizedTerms, IsLeastValue, AreTermsOf, IsUnitValueOf, cost_to_go, IsWithin, MAX_COST_TO_GO};
+ghost use Rattle.dual_model.specs.Prelude.{IsFixOf, AreSizedTerms, IsLeastValue, AreTermsOf, IsUnitValueOf, cost_to_go, IsWithin, MAX_COST_TO_GO, total_of, lesser_of};
 ghost use Rattle.dual_model.specs.declared.node.Node.{Node};
 ghost use Rattle.dual_model.specs.declared.table.Table.{Table};
 ghost use Rattle.dual_model.specs.PatternValue.{HasNoPattern};
-ghost use Rattle.dual_model.specs.CostToGo.{total_of, lesser_of};
 ghost use Rattle.state_walk.specs.inside.WalkTable.{entry, IsTable};
 
 use crate::moves::move_cost;

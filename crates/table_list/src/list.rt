@@ -24,7 +24,7 @@ pub struct TableList {
 
 impl Model for TableList {
     ghost use Rattle.std.specs.Prelude.{List};
-    ghost use Rattle.dual_model.specs.PriceTable.{PriceTable};
+    ghost use Rattle.dual_model.specs.Prelude.{PriceTable};
 
     ghost Value = { List PriceTable };
 
@@ -36,7 +36,7 @@ impl Model for TableList {
 }
 
 impl TableList {
-    ghost use Rattle.dual_model.specs.PriceTable.{PriceTable};
+    ghost use Rattle.dual_model.specs.Prelude.{PriceTable};
     ghost use Rattle.table_list.specs.Changes.{table_changes};
     ghost use Rattle.table_list.specs.TableChanges.{changes_of, last_table, AreAlike};
 

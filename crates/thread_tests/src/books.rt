@@ -4,7 +4,7 @@ ghost use Rattle.std.specs.Prelude.{◌≡◌, ◌↔◌, ◌<ℤ◌, IfOk, IsTr
 ghost use Rattle.uc_model.specs.Prelude.{IsLawfulInstance};
 ghost use Rattle.uc_model.specs.declared.instance.Instance.{Instance};
 ghost use Rattle.dual_model.specs.Prelude.{IsTableBound, IsNodeOf, IsLawfulTable, root};
-ghost use Rattle.book.specs.Opening.{IsTrueOpening};
+ghost use Rattle.book.specs.Prelude.{IsTrueOpening};
 ghost use Rattle.search_machine.specs.Prelude.{IsTrueOutcome};
 
 use book::{Book, Case, Claimed};

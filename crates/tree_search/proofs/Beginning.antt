@@ -7,8 +7,8 @@ use Rattle.uc_model.proofs.Common.{IsFloor-int_div_euclid}
 use Rattle.branch_tree.specs.Prelude.{is_schedule_within}
 use Rattle.search_machine.specs.declared.limits.TheConstants.{MAX_BUDGET}
 use Rattle.search_machine.specs.Prelude.{bound_of}
-use Rattle.book.specs.BookView.{BookView, opened}
-use Rattle.book.specs.Opening.{Opening, IsTrueOpening}
+use Rattle.book.specs.Prelude.{BookView, Opening, IsTrueOpening}
+use Rattle.book.specs.BookView.{opened}
 use Rattle.opening.specs.RootTables.{IsPricedOf}
 use Rattle.search_desk.specs.Best.{cost_of}
 use Rattle.closing_pass.specs.Closings.{IsEnded}

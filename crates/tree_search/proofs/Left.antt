@@ -7,10 +7,7 @@ use Rattle.dual_model.specs.declared.node.Node.{Node}
 use Rattle.branch_tree.specs.Prelude.{NumberedTree, EndAt, SplitAt, node_count, IsWhole}
 use Rattle.search_machine.specs.Prelude.{entries_of, bound_of, HasFreeCellAt, HoldsStored, OwnsBelow, StartsAt, stored_after, stored_by, TreeRunsHold}
 use Rattle.search_machine.specs.declared.stored.Stored.{Stored}
-use Rattle.book.specs.BookView.{BookView}
-use Rattle.book.specs.Opening.{Opening, IsTrueOpening}
-use Rattle.book.specs.Replay.{with_unit, number_of}
-use Rattle.book.specs.Running.{IsRunning}
+use Rattle.book.specs.Prelude.{BookView, Opening, IsTrueOpening, with_unit, number_of, IsRunning}
 use Rattle.book.proofs.Books.{run_holds}
 use Rattle.search_desk.specs.declared.grown.Grown.{Grown}
 use Rattle.closing_pass.specs.Closings.{IsEnded}

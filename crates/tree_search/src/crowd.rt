@@ -3,7 +3,7 @@
 ghost use Rattle.std.specs.Prelude.{◌≡◌, ◌+◌, ◌*◌, IfOk, vec_len};
 ghost use Rattle.found_schedule.specs.Found.{IsFoundIfAny};
 ghost use Rattle.book.specs.BookView.{opened};
-ghost use Rattle.book.specs.Opening.{IsTrueOpening};
+ghost use Rattle.book.specs.Prelude.{IsTrueOpening};
 ghost use Rattle.search_desk.specs.Best.{IsNoWorse, cost_of};
 ghost use Rattle.search_desk.specs.Dispatches.{IsPivotedBook};
 ghost use Rattle.node_visits.specs.Trials.{IsNextAt};

@@ -7,7 +7,7 @@ ghost use Rattle.search_machine.specs.Prelude.{bound_of};
 ghost use Rattle.schedule_check.specs.Accepted.{IsAcceptedIfFound};
 ghost use Rattle.opening.specs.RootTables.{IsPricedOf};
 ghost use Rattle.book.specs.BookView.{opened};
-ghost use Rattle.book.specs.Opening.{IsTrueOpening};
+ghost use Rattle.book.specs.Prelude.{IsTrueOpening};
 ghost use Rattle.tree_search.specs.Options.{AreOptions};
 ghost use Rattle.search_desk.specs.Best.{IsNoWorse};
 ghost use Rattle.closing_pass.specs.Closings.{IsEnded};

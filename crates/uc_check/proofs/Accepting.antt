@@ -10,8 +10,7 @@ use Rattle.instance.specs.declared.from_bytes.ReadFault.TheVariants as read_faul
 use Rattle.instance.proofs.ExactLaws.{exact_is}
 use Rattle.dual_model.specs.Prelude.{Certificate, CertificateHolds}
 use Rattle.outside.specs.declared.slot.Slot.TheVariants as slot
-use Rattle.outside.specs.ToldBytes.{Tells}
-use Rattle.outside.specs.Slots.{SlotState}
+use Rattle.outside.specs.Prelude.{Tells, SlotState}
 use Rattle.branch_tree.specs.declared.found.Found.{Found}
 use Rattle.cert_text.specs.CertificateText.{certificate_text, listing_of}
 use Rattle.cert_text.specs.TextConditions.{HasText}
@@ -19,11 +18,8 @@ use Rattle.cert_text.specs.declared.cert.Version.{Version}
 use Rattle.report.specs.FaultText.{status_of}
 use Rattle.report.specs.declared.fault.Fault.TheVariants.{Instance as Refused, Json, Line, Long, Memory, Read}
 use Rattle.command_line.specs.Command.{Check}
-use Rattle.command_runs.specs.Outside.{Outside}
+use Rattle.command_runs.specs.Prelude.{Outside, most_bytes, StandForPriced, HasInstance, HasCause, IsRefused, IsTooDear, most_certificate_bytes, IsCertificateText, IsAnswered, IsFaulty}
 use Rattle.command_runs.specs.declared.input.ReadOptions.{ReadOptions}
-use Rattle.command_runs.specs.Reading.{most_bytes, StandForPriced, HasInstance, HasCause, IsRefused, IsTooDear}
-use Rattle.command_runs.specs.Certificates.{most_certificate_bytes, IsCertificateText}
-use Rattle.command_runs.specs.Ending.{IsAnswered, IsFaulty}
 use Rattle.uc_check.specs.Checking.{Code, Fault, Write, check_options, HasCertificateCause, IsInstanceFault, IsCertificateFault, IsCheckFailure, IsAccepting}
 use Rattle.uc_check.specs.Accepting.{IsAcceptedFor, IsLittle, IsUndisturbed}
 use Rattle.uc_check.proofs.SameTexts.{same_certificate}

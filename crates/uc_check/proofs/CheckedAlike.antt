@@ -3,16 +3,13 @@ use Rattle.std.proofs.Common.{◌≡◌, ℕ, ◌<◌, ◌≤◌, true, List, []
 use Rattle.uc_model.specs.declared.instance.Instance.{Instance}
 use Rattle.dual_model.specs.Prelude.{Certificate}
 use Rattle.outside.specs.declared.slot.Slot.TheVariants as slot
-use Rattle.outside.specs.ToldBytes.{Tells}
-use Rattle.outside.specs.Slots.{SlotState}
+use Rattle.outside.specs.Prelude.{Tells, SlotState}
 use Rattle.outside.specs.declared.slot.Slot.{Slot}
 use Rattle.branch_tree.specs.declared.found.Found.{Found}
 use Rattle.report.specs.declared.fault.Fault.TheVariants.{Line, Long, Memory, Read}
 use Rattle.command_line.specs.Command.{Check}
-use Rattle.command_runs.specs.Outside.{Outside}
-use Rattle.command_runs.specs.Certificates.{most_certificate_bytes, IsCertificateText, HasCertificate}
+use Rattle.command_runs.specs.Prelude.{Outside, most_certificate_bytes, IsCertificateText, HasCertificate, IsAnswered, IsFaulty}
 use Rattle.command_runs.specs.declared.ending.End.{End}
-use Rattle.command_runs.specs.Ending.{IsAnswered, IsFaulty}
 use Rattle.uc_check.specs.Checking.{Code, Fault, Write, IsVerified, HasCertificateCause, IsInstanceFault, IsCertificateFault, IsCheckStopped, IsCheckFailure, KeepsToInput, IsAccepting}
 use Rattle.uc_check.specs.Upgrading.{TellTheSame, with_left, leaving, IsCheckedAs}
 

@@ -2,17 +2,13 @@
 -- h), and the report.
 use Rattle.std.proofs.Common.{◌≡◌, ◌∙◌, refl, sym, ap, subst, None}
 use Rattle.outside.specs.declared.slot.Slot.TheVariants as slot
-use Rattle.outside.specs.Slots.{SlotState, SameBut}
-use Rattle.outside.specs.Sinks.{SinkState}
+use Rattle.outside.specs.Prelude.{SlotState, SameBut, SinkState}
 use Rattle.outside.specs.declared.slot.Slot.{Slot}
 use Rattle.cert_text.specs.CertificateText.{listing_of, written_text, written_version}
 use Rattle.cert_text.proofs.Parts.{written_text_is}
 use Rattle.cert_text.specs.declared.cert.Cert.{Cert}
 use Rattle.command_line.specs.Command.{Upgrade}
-use Rattle.command_runs.specs.Outside.{outside_of}
-use Rattle.command_runs.specs.Reading.{IsOpenedByNoOther, IsOnlyRead}
-use Rattle.command_runs.specs.Writing.{IsSaved, FailsToSave}
-use Rattle.command_runs.specs.Certificates.{most_certificate_bytes, HasCertificateText, IsCertificateText, HasReadCause}
+use Rattle.command_runs.specs.Prelude.{outside_of, IsOpenedByNoOther, IsOnlyRead, IsSaved, FailsToSave, most_certificate_bytes, HasCertificateText, IsCertificateText, HasReadCause}
 use Rattle.uc_check.specs.Checking.{Fault, Write}
 use Rattle.uc_check.specs.Upgrading.{IsRewritten, IsUpgradeFailure, IsUpgradeUnsaved, KeepsToCertificates}
 use Rattle.uc_check.proofs.SameTexts.{tell_the_same}

@@ -3,7 +3,7 @@ use Rattle.std.proofs.Common.{◌≡◌, ◌∙◌, sym, ap, subst, List, [], �
 use Rattle.dual_model.specs.Prelude.{Tree, Ends, Splits, Leaf, Certificate}
 use Rattle.cert_text.specs.CertificateText.{Listing, TreeNode, LeafNode, SplitNode, preorder, listing_of, certificate_text}
 use Rattle.cert_text.proofs.GrammarLaws.{texts_apart}
-use Rattle.command_runs.specs.Certificates.{IsCertificateText}
+use Rattle.command_runs.specs.Prelude.{IsCertificateText}
 use Rattle.uc_check.specs.Upgrading.{TellTheSame}
 
 -- nodes in preorder tell their tree, and where they end

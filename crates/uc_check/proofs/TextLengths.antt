@@ -16,7 +16,7 @@ use Rattle.table_list.specs.Changes.{Change, OfDemand, OfReserve, OfRamps, is_be
 use Rattle.cert_text.specs.declared.cert.Version.{Version}
 use Rattle.cert_text.specs.declared.cert.Version.TheVariants.{First, Second, Third}
 use Rattle.cert_text.specs.CertificateText.{Cell, Printed, Table, RampRow, TreeNode, LeafNode, SplitNode, Listing, certificate_lines, certificate_text, cell_text, change_line, claim_line, cost_line, end_line, has_price, listing_of, next_line, next_lines, node_line, over_words, penalty_line, plan_lines, prices_line, ramp_line, ramps_line, renewable_line, scale_line, schedule_lines, shed_line, short_line, shortage_lines, size_line, table_lines, tables_lines, thermal_line, told_from, told_lines, version_line}
-use Rattle.command_runs.specs.Certificates.{most_certificate_bytes}
+use Rattle.command_runs.specs.Prelude.{most_certificate_bytes}
 use Rattle.uc_check.specs.Accepting.{most_rows, IsLittle}
 use Rattle.cert_text.specs.TextConditions.{AreShortagesText, HasDigits, HasText, IsCellText, IsMoney, IsNodeText, IsPowerRow, IsRampText, IsScheduleText, IsTableText, IsThermalRow}
 

@@ -6,8 +6,7 @@ use Rattle.uc_model.proofs.Common.{cost-le-printed}
 use Rattle.uc_model.specs.declared.instance.Instance.{Instance}
 use Rattle.dual_model.specs.Prelude.{Certificate, CertificateHolds, WrittenSchedule, IsClaimTrue}
 use Rattle.outside.specs.declared.slot.Slot.TheVariants as slot
-use Rattle.outside.specs.Slots.{SlotState, SameBut}
-use Rattle.outside.specs.Sinks.{SinkState}
+use Rattle.outside.specs.Prelude.{SlotState, SameBut, SinkState}
 use Rattle.outside.specs.declared.slot.Slot.{Slot}
 use Rattle.cert_text.specs.Reading.{IsTextOf}
 use Rattle.cert_text.specs.declared.cert.Cert.{Cert}
@@ -17,9 +16,7 @@ use Rattle.report.specs.ClaimsReport.{claims_report}
 use Rattle.report.specs.declared.fault.Fault.{Fault}
 use Rattle.report.specs.declared.fault.Fault.TheVariants.{Memory}
 use Rattle.command_line.specs.Command.{Check}
-use Rattle.command_runs.specs.Outside.{Outside, outside_of}
-use Rattle.command_runs.specs.Reading.{HasInstance}
-use Rattle.command_runs.specs.Certificates.{HasCertificate, HasCertificateText, HasReadCause}
+use Rattle.command_runs.specs.Prelude.{Outside, outside_of, HasInstance, HasCertificate, HasCertificateText, HasReadCause}
 use Rattle.uc_check.specs.Checking.{Code, Write, check_options, HasCertificateCause, IsCertificateFault, IsCheckFailure, IsCheckStopped, IsInstanceFault, IsScheduleTrue, text_of_claims}
 use Rattle.uc_check.specs.Checks.{IsChecked}
 use Rattle.uc_check.specs.inside.Refusals.{IsRefusedCert}

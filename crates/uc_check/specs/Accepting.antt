@@ -1,11 +1,11 @@
 -- That a certificate that holds is accepted: how each run of `check` on it ends in which no call fails. This project's own.
 use Rattle.std.specs.Prelude.{◌≡◌, ℕ, ◌*◌, ◌≤◌, ◌⊎◌, List, Some, All, length}
 use Rattle.dual_model.specs.declared.table.Table.{Table}
-use Rattle.outside.specs.Counts.{HasRisen}
+use Rattle.outside.specs.Prelude.{HasRisen}
 use Rattle.outside.specs.declared.slot.Slot.TheVariants as slot
 use Rattle.cert_text.specs.CertificateText.{Listing}
 use Rattle.command_line.specs.Command.{Check}
-use Rattle.command_runs.specs.Outside.{Outside}
+use Rattle.command_runs.specs.Prelude.{Outside}
 use Rattle.command_runs.specs.declared.ending.End.{End}
 use Rattle.uc_check.specs.Checking.{IsCheckRun}
 

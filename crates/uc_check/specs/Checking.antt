@@ -5,7 +5,7 @@ use Rattle.uc_model.specs.declared.refusal.Refusal.{Refusal}
 use Rattle.uc_model.specs.declared.instance.Instance.{Instance}
 use Rattle.dual_model.specs.Prelude.{Certificate, CertificateHolds, WrittenSchedule, IsClaimTrue}
 use Rattle.outside.specs.declared.slot.Slot.TheVariants as slot
-use Rattle.outside.specs.Slots.{SlotState}
+use Rattle.outside.specs.Prelude.{SlotState}
 use Rattle.outside.specs.declared.slot.Slot.{Slot}
 use Rattle.branch_tree.specs.declared.found.Found.{Found}
 use Rattle.cert_check.specs.Answers.{cost_of, is_none}
@@ -14,13 +14,9 @@ use Rattle.report.specs.ClaimsReport.{claims_report}
 pub use Rattle.report.specs.declared.fault.Fault.{Fault}
 pub use Rattle.report.specs.declared.fault.Fault.TheVariants.{Write, Code}
 use Rattle.command_line.specs.Command.{Check}
-use Rattle.command_runs.specs.Outside.{Outside}
+use Rattle.command_runs.specs.Prelude.{Outside, most_bytes, HasInstance, HasCause, IsOpenedByNoOther, IsOnlyRead, most_certificate_bytes, HasCertificate, HasReadCause, IsTold, FailsToTell, Ends}
 use Rattle.command_runs.specs.declared.input.ReadOptions.{ReadOptions}
-use Rattle.command_runs.specs.Reading.{most_bytes, HasInstance, HasCause, IsOpenedByNoOther, IsOnlyRead}
-use Rattle.command_runs.specs.Certificates.{most_certificate_bytes, HasCertificate, HasReadCause}
-use Rattle.command_runs.specs.Writing.{IsTold, FailsToTell}
 use Rattle.command_runs.specs.declared.ending.End.{End}
-use Rattle.command_runs.specs.Ending.{Ends}
 
 -- how the instance is read: a rounded number isn't refused
 abbrev pub check_options : Check → ReadOptions

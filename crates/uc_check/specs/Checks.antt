@@ -2,7 +2,7 @@
 use Rattle.std.specs.Prelude.{◌≡◌}
 use Rattle.dual_model.specs.Prelude.{Certificate}
 use Rattle.outside.specs.declared.slot.Slot.{Slot}
-use Rattle.outside.specs.Slots.{SlotState}
+use Rattle.outside.specs.Prelude.{SlotState}
 use Rattle.cert_text.specs.CertificateText.{listing_of}
 use Rattle.cert_text.specs.Reading.{listing_read}
 use Rattle.cert_check.specs.Answers.{AreClaimsOf}

@@ -2,7 +2,7 @@
 use Rattle.std.specs.Prelude.{◌≡◌, ◌↔◌, ℕ, ◌≤◌, true, false, List, Option, Some, None, length}
 use Rattle.dual_model.specs.Prelude.{Certificate}
 use Rattle.outside.specs.declared.slot.Slot.TheVariants as slot
-use Rattle.outside.specs.Slots.{SlotState}
+use Rattle.outside.specs.Prelude.{SlotState}
 use Rattle.outside.specs.declared.slot.Slot.{Slot}
 use Rattle.branch_tree.specs.declared.found.Found.{Found}
 use Rattle.cert_text.specs.CertificateText.{written_text}
@@ -10,12 +10,8 @@ use Rattle.report.specs.UpgradeReport.{upgrade_report}
 use Rattle.report.specs.declared.fault.Fault.{Fault}
 use Rattle.report.specs.declared.fault.Fault.TheVariants.{Write}
 use Rattle.command_line.specs.Command.{Check, Upgrade}
-use Rattle.command_runs.specs.Outside.{Outside}
-use Rattle.command_runs.specs.Reading.{IsOpenedByNoOther, IsOnlyRead}
-use Rattle.command_runs.specs.Writing.{IsSaved, FailsToSave, IsTold, FailsToTell}
-use Rattle.command_runs.specs.Certificates.{most_certificate_bytes, IsCertificateText, HasCertificate, HasReadCause}
+use Rattle.command_runs.specs.Prelude.{Outside, IsOpenedByNoOther, IsOnlyRead, IsSaved, FailsToSave, IsTold, FailsToTell, most_certificate_bytes, IsCertificateText, HasCertificate, HasReadCause, Ends}
 use Rattle.command_runs.specs.declared.ending.End.{End}
-use Rattle.command_runs.specs.Ending.{Ends}
 use Rattle.uc_check.specs.Checking.{IsCheckRun}
 
 -- ---- two texts of one certificate

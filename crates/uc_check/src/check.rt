@@ -1,12 +1,10 @@
 //! A run of `check`.
 
 ghost use Rattle.std.specs.Prelude.{IfOk, IfErr, OnOk, OnErr};
-ghost use Rattle.outside.specs.Slots.{AllUnopened};
-ghost use Rattle.outside.specs.Sinks.{SinkState};
+ghost use Rattle.outside.specs.Prelude.{AllUnopened, SinkState};
 ghost use Rattle.report.specs.ClaimsReport.{claims_report};
 ghost use Rattle.command_line.specs.Asked.{check_asked, HasPrices};
-ghost use Rattle.command_runs.specs.Outside.{outside_of};
-ghost use Rattle.command_runs.specs.Writing.{IsTold, FailsToTell};
+ghost use Rattle.command_runs.specs.Prelude.{outside_of, IsTold, FailsToTell};
 ghost use Rattle.uc_check.specs.Checking.{IsAccepting, IsCheckFailure, KeepsToInput, IsCheckRun};
 
 use crate::verify::verify;

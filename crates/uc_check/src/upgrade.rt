@@ -3,16 +3,13 @@
 ghost use Rattle.std.specs.Prelude.{◌≡◌, None, IfOk, IfErr, OnOk, OnErr};
 ghost use Rattle.dual_model.specs.Prelude.{Certificate};
 ghost use Rattle.outside.specs.declared.slot.Slot.TheVariants.{CertOut};
-ghost use Rattle.outside.specs.Slots.{AllUnopened, SameBut};
-ghost use Rattle.outside.specs.Sinks.{SinkState};
+ghost use Rattle.outside.specs.Prelude.{AllUnopened, SameBut, SinkState};
 ghost use Rattle.outside.specs.declared.slot.Stage.TheVariants.{Unopened};
 ghost use Rattle.cert_text.specs.CertificateText.{listing_of, written_text};
 ghost use Rattle.cert_text.specs.Reading.{listing_read};
 ghost use Rattle.report.specs.UpgradeReport.{upgrade_report};
 ghost use Rattle.command_line.specs.Asked.{upgrade_asked};
-ghost use Rattle.command_runs.specs.Outside.{outside_of};
-ghost use Rattle.command_runs.specs.Reading.{IsOpenedByNoOther};
-ghost use Rattle.command_runs.specs.Writing.{IsSaved, FailsToSave, IsTold, FailsToTell};
+ghost use Rattle.command_runs.specs.Prelude.{outside_of, IsOpenedByNoOther, IsSaved, FailsToSave, IsTold, FailsToTell};
 ghost use Rattle.uc_check.specs.Upgrading.{IsRewritten, IsUpgrading, IsUpgradeFailure, KeepsToCertificates, IsUpgradeRun};
 
 use cert_text::{Cert, write_cert};

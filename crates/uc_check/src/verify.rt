@@ -3,11 +3,10 @@
 ghost use Rattle.std.specs.Prelude.{IfOk, IfErr};
 ghost use Rattle.uc_model.specs.Prelude.{IsLawfulInstance};
 ghost use Rattle.dual_model.specs.Prelude.{IsClaimTrue};
-ghost use Rattle.outside.specs.Slots.{AllUnopened};
-ghost use Rattle.outside.specs.Sinks.{SinkState};
+ghost use Rattle.outside.specs.Prelude.{AllUnopened, SinkState};
 ghost use Rattle.cert_check.specs.Answers.{IsAccepted, IsRead};
 ghost use Rattle.command_line.specs.Asked.{check_asked, HasPrices};
-ghost use Rattle.command_runs.specs.Outside.{outside_of};
+ghost use Rattle.command_runs.specs.Prelude.{outside_of};
 ghost use Rattle.uc_check.specs.Checking.{IsCheckStopped, KeepsToInput};
 ghost use Rattle.uc_check.specs.inside.Refusals.{IsRefusedCert};
 ghost use Rattle.uc_check.specs.Checks.{IsChecked};

@@ -2,12 +2,9 @@
 -- certificate (from g to h) and the report.
 use Rattle.std.proofs.Common.{◌≡◌, ℕ, true, false, subst, ap, ◌∙◌, refl, Some, None}
 use Rattle.outside.specs.declared.slot.Slot.TheVariants as slot
-use Rattle.outside.specs.Slots.{SlotState, SameBut}
-use Rattle.outside.specs.Sinks.{SinkState}
-use Rattle.command_runs.specs.Writing.{IsSaved, FailsToSave, text_of_certificate}
+use Rattle.outside.specs.Prelude.{SlotState, SameBut, SinkState}
+use Rattle.command_runs.specs.Prelude.{IsSaved, FailsToSave, text_of_certificate, outside_of, HasCause}
 use Rattle.command_line.specs.Command.{Solve}
-use Rattle.command_runs.specs.Outside.{outside_of}
-use Rattle.command_runs.specs.Reading.{HasCause}
 use Rattle.uc_cli.specs.Run.{Fault, Instance, Slot, Write, solve_options, IsAnswer, IsDone, IsFailure, IsUnsaved, IsUntold}
 use Rattle.uc_cli.specs.inside.Written.{AreUnwritten, AreWritten, IsNotSaved, IsNotTold}
 use Rattle.branch_tree.specs.declared.found.Found.{Found}

@@ -1,11 +1,9 @@
 -- How the ends of a run of `roll` follow from its steps: reading and rolling (from the files f to g), and the report.
 use Rattle.std.proofs.Common.{◌≡◌, ℕ, true, Option, None, sym, subst, ap, refl}
 use Rattle.outside.specs.declared.slot.Slot.TheVariants as slot
-use Rattle.outside.specs.Slots.{SlotState, SameBut}
-use Rattle.outside.specs.Sinks.{SinkState}
+use Rattle.outside.specs.Prelude.{SlotState, SameBut, SinkState}
 use Rattle.command_line.specs.Command.{Roll}
-use Rattle.command_runs.specs.Outside.{outside_of}
-use Rattle.command_runs.specs.Reading.{HasCause}
+use Rattle.command_runs.specs.Prelude.{outside_of, HasCause}
 use Rattle.uc_cli.specs.RollRun.{Fault, Instance, Rolled, Slot, Write, roll_options, IsRollAnswer, IsRollDone, IsRollFailure}
 use Rattle.uc_cli.specs.inside.Rolls.{IsToldRoll, IsUntoldRoll}
 

@@ -5,13 +5,13 @@ use Rattle.uc_model.specs.Prelude.{IsLawfulInstance}
 use Rattle.dual_model.specs.declared.table.Table.{Table}
 use Rattle.dual_model.specs.Prelude.{IsClaimTrue}
 use Rattle.dual_model.proofs.Covers.{certificates_claim_truly}
-use Rattle.outside.specs.Slots.{SlotState}
+use Rattle.outside.specs.Prelude.{SlotState}
 use Rattle.branch_tree.specs.Prelude.{tree_bound, certificate_of, written_tables}
 use Rattle.cert_text.specs.TextConditions.{HasWrittenText, IsMoney}
 use Rattle.cert_text.specs.declared.cert.Version.TheVariants.{Third}
 use Rattle.cert_text.proofs.Parts.{found_has_text}
 use Rattle.demo_gen.specs.Demo.{demo_instance}
-use Rattle.roll.specs.NextWindow.{IsNextWindow}
+use Rattle.roll.specs.Prelude.{IsNextWindow}
 use Rattle.roll.specs.declared.rolled.Rolled.{Rolled}
 use Rattle.roll.specs.declared.rolled.Rolled.TheVariants.{Whole, Stopped}
 use Rattle.uc_model.proofs.Common.{cost-le-printed}
@@ -21,7 +21,7 @@ use Rattle.search_answers.specs.Writable.{HasFewRows, IsWritable}
 use Rattle.workers.specs.Rolling.{IsRolled}
 use Rattle.search_answers.specs.SearchResult.{IsSearchResult}
 use Rattle.command_line.specs.Command.{Solve}
-use Rattle.command_runs.specs.Reading.{HasInstance}
+use Rattle.command_runs.specs.Prelude.{HasInstance}
 use Rattle.uc_check.specs.Checking.{IsScheduleTrue}
 use Rattle.uc_cli.specs.DemoRun.{Found, IsDemoAnswer}
 use Rattle.uc_cli.specs.RollRun.{IsRolledTrue}

@@ -1,18 +1,14 @@
 -- Where memory is refused at words that are taken, the run is one of their command that was stopped by that.
 use Rattle.std.proofs.Common.{◌≡◌, ◌∙◌, true, refl, sym, subst, inl, inr, true≢false, List, ℕ, Option, Some, None, Err, is_some}
 use Rattle.outside.specs.declared.slot.Slot.TheVariants as slot
-use Rattle.outside.specs.Slots.{SlotState, AllUnopened}
-use Rattle.outside.specs.Sinks.{SinkState}
+use Rattle.outside.specs.Prelude.{SlotState, AllUnopened, SinkState}
 use Rattle.command_line.specs.Arguments.{is_taken}
-use Rattle.command_runs.specs.Certificates.{most_certificate_bytes}
+use Rattle.command_runs.specs.Prelude.{most_certificate_bytes, outside_of, most_bytes, IsEndOf}
 use Rattle.command_line.specs.Command.{Check, Command, Solves, Checks, Demos, Upgrades, Uplifts, Rolls, command_of}
-use Rattle.command_runs.specs.Outside.{outside_of}
-use Rattle.command_runs.specs.Reading.{most_bytes}
 use Rattle.uc_check.specs.Checking.{KeepsToInput}
 use Rattle.uc_cli.specs.RollRun.{IsRollFailure}
 use Rattle.uc_cli.specs.Run.{Fault, Memory, Slot, Words, IsRun, IsTurnedAway, IsUsage}
 use Rattle.command_runs.specs.declared.ending.End.{End}
-use Rattle.command_runs.specs.Ending.{IsEndOf}
 use Rattle.command_line.specs.Asked.{IsRefusal}
 use Rattle.command_line.proofs.Commands.{names_a_command}
 use Rattle.command_runs.proofs.Endings.{faulty}

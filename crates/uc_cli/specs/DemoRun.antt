@@ -1,7 +1,7 @@
 -- What a run of `demo` did, by how it ended. This project's own.
 use Rattle.std.specs.Prelude.{◌≡◌, ℕ, true, false, Option, Some, None}
 use Rattle.dual_model.specs.Prelude.{WrittenSchedule, IsClaimTrue}
-use Rattle.outside.specs.Sinks.{SinkState}
+use Rattle.outside.specs.Prelude.{SinkState}
 use Rattle.branch_tree.specs.Prelude.{written_of, status_of, tree_bound}
 pub use Rattle.branch_tree.specs.declared.found.Found.{Found}
 use Rattle.demo_gen.specs.Demo.{demo_instance}
@@ -9,11 +9,9 @@ use Rattle.search_answers.specs.SearchResult.{IsSearchResult}
 use Rattle.report.specs.DemoReport.{demo_report}
 use Rattle.report.specs.declared.fault.Fault.{Fault}
 use Rattle.report.specs.declared.fault.Fault.TheVariants.{Write, Memory}
-use Rattle.command_runs.specs.Outside.{Outside}
+use Rattle.command_runs.specs.Prelude.{Outside, Ends, IsTold, FailsToTell}
 use Rattle.command_line.specs.Command.{Demo}
 use Rattle.uc_check.specs.Checking.{IsScheduleTrue}
-use Rattle.command_runs.specs.Ending.{Ends}
-use Rattle.command_runs.specs.Writing.{IsTold, FailsToTell}
 use Rattle.command_runs.specs.declared.ending.End.{End}
 
 -- an answer for the instance of the seed: what was found with a budget of 200 claims and at a gap of a thousandth of the cost; that

@@ -4,23 +4,19 @@ pub use Rattle.uc_model.specs.declared.instance.Instance.{Instance}
 use Rattle.dual_model.specs.Prelude.{IsClaimTrue}
 pub use Rattle.outside.specs.declared.slot.Slot.{Slot}
 use Rattle.outside.specs.declared.slot.Slot.TheVariants as slot
-use Rattle.outside.specs.Slots.{SlotState}
+use Rattle.outside.specs.Prelude.{SlotState}
 use Rattle.branch_tree.specs.Prelude.{tree_bound}
-use Rattle.roll.specs.Rolling.{status_of}
+use Rattle.roll.specs.Prelude.{status_of, IsNextWindow}
 pub use Rattle.roll.specs.declared.rolled.Rolled.{Rolled}
 use Rattle.roll.specs.declared.rolled.Rolled.TheVariants.{Whole, Stopped}
-use Rattle.roll.specs.NextWindow.{IsNextWindow}
 use Rattle.workers.specs.Rolling.{IsRolled}
 use Rattle.report.specs.RolledReport.{rolled_report}
 use Rattle.report.specs.FaultText.{status_of as status_of_fault}
 pub use Rattle.report.specs.declared.fault.Fault.{Fault}
 pub use Rattle.report.specs.declared.fault.Fault.TheVariants.{Write}
 use Rattle.command_line.specs.Command.{Roll}
-use Rattle.command_runs.specs.Outside.{Outside}
-use Rattle.command_runs.specs.Reading.{most_bytes, HasInstance, HasCause, IsOpenedByNoOther, IsOnlyRead}
+use Rattle.command_runs.specs.Prelude.{Outside, most_bytes, HasInstance, HasCause, IsOpenedByNoOther, IsOnlyRead, IsAnswered, IsTold, FailsToTell, TellsFault}
 use Rattle.uc_check.specs.Checking.{IsScheduleTrue}
-use Rattle.command_runs.specs.Ending.{IsAnswered}
-use Rattle.command_runs.specs.Writing.{IsTold, FailsToTell, TellsFault}
 pub use Rattle.command_runs.specs.declared.ending.End.{End}
 use Rattle.command_runs.specs.declared.input.ReadOptions.{ReadOptions}
 

@@ -5,7 +5,7 @@ pub use Rattle.uc_model.specs.declared.instance.Instance.{Instance}
 use Rattle.dual_model.specs.Prelude.{IsClaimTrue, WrittenSchedule}
 pub use Rattle.outside.specs.declared.slot.Slot.{Slot}
 use Rattle.outside.specs.declared.slot.Slot.TheVariants as slot
-use Rattle.outside.specs.Slots.{SlotState}
+use Rattle.outside.specs.Prelude.{SlotState}
 use Rattle.branch_tree.specs.Prelude.{tree_bound, status_of, certificate_of, written_of}
 use Rattle.search_answers.specs.Pivoted.{IsPivotedFound}
 use Rattle.search_answers.specs.SearchResult.{IsSearchResult}
@@ -16,17 +16,14 @@ use Rattle.branch_tree.specs.declared.found.Found.{Found}
 use Rattle.report.specs.FoundReport.{found_report}
 pub use Rattle.report.specs.declared.fault.Fault.{Fault}
 pub use Rattle.report.specs.declared.fault.Fault.TheVariants.{Words, Write, Memory}
-use Rattle.command_runs.specs.Outside.{Outside}
+use Rattle.command_runs.specs.Prelude.{Outside, most_bytes, HasInstance, HasCause, IsOpenedByNoOther, IsOnlyRead, Ends, IsFaulty, text_of_certificate, IsSaved, FailsToSave, IsTold, FailsToTell}
 use Rattle.command_line.specs.Command.{Solve, Command, Solves, Checks, Demos, Upgrades, Uplifts, Rolls}
-use Rattle.command_runs.specs.Reading.{most_bytes, HasInstance, HasCause, IsOpenedByNoOther, IsOnlyRead}
 use Rattle.uc_check.specs.Checking.{IsCheckRun, IsScheduleTrue}
 use Rattle.uc_check.specs.Accepting.{IsAcceptedFor}
 use Rattle.uc_check.specs.Upgrading.{IsUpgradeRun}
 use Rattle.uc_uplift.specs.Uplifting.{IsUpliftRun}
-use Rattle.command_runs.specs.Ending.{Ends, IsFaulty}
 use Rattle.uc_cli.specs.DemoRun.{IsDemoRun}
 use Rattle.uc_cli.specs.RollRun.{IsRollRun}
-use Rattle.command_runs.specs.Writing.{text_of_certificate, IsSaved, FailsToSave, IsTold, FailsToTell}
 use Rattle.command_runs.specs.declared.ending.End.{End}
 use Rattle.command_runs.specs.declared.input.ReadOptions.{ReadOptions}
 

@@ -2,10 +2,9 @@
 
 ghost use Rattle.std.specs.Prelude.{◌≡◌, IfOk, IfErr, OnOk, OnErr};
 ghost use Rattle.outside.specs.declared.slot.Slot.{Slot};
-ghost use Rattle.outside.specs.Slots.{SlotState};
+ghost use Rattle.outside.specs.Prelude.{SlotState};
 ghost use Rattle.report.specs.DemoReport.{demo_report};
-ghost use Rattle.command_runs.specs.Outside.{outside_of};
-ghost use Rattle.command_runs.specs.Writing.{IsTold, FailsToTell};
+ghost use Rattle.command_runs.specs.Prelude.{outside_of, IsTold, FailsToTell};
 ghost use Rattle.uc_cli.specs.DemoRun.{IsDemoAnswer, IsDemoAnswered, IsDemoFailure, IsDemoRun};
 ghost use Rattle.command_line.specs.Asked.{demo_asked};
 

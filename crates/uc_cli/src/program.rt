@@ -1,10 +1,10 @@
 //! The top call: a run of the program from its words.
 
 ghost use Rattle.std.specs.Prelude.{◌≡◌, map, string_bytes, true, false, Some};
-ghost use Rattle.outside.specs.Slots.{AllUnopened};
+ghost use Rattle.outside.specs.Prelude.{AllUnopened};
 ghost use Rattle.command_line.specs.Arguments.{is_taken};
 ghost use Rattle.command_line.specs.Command.{Command as WordsCommand, command_of as command_of_words};
-ghost use Rattle.command_runs.specs.Outside.{outside_of};
+ghost use Rattle.command_runs.specs.Prelude.{outside_of};
 ghost use Rattle.uc_cli.specs.Run.{IsRun, IsUsage};
 
 use crate::demo::demo;

@@ -3,11 +3,8 @@
 ghost use Rattle.std.specs.Prelude.{◌≡◌, IfOk, IfErr, OnOk, OnErr};
 ghost use Rattle.outside.specs.declared.slot.Slot.TheVariants as slot;
 ghost use Rattle.outside.specs.declared.slot.Stage.TheVariants.{Unopened};
-ghost use Rattle.outside.specs.Slots.{AllUnopened, SameBut};
-ghost use Rattle.outside.specs.Sinks.{SinkState};
-ghost use Rattle.command_runs.specs.Reading.{most_bytes, HasCause, IsOpenedByNoOther, IsOnlyRead};
-ghost use Rattle.command_runs.specs.Outside.{outside_of};
-ghost use Rattle.command_runs.specs.Writing.{IsTold, FailsToTell};
+ghost use Rattle.outside.specs.Prelude.{AllUnopened, SameBut, SinkState};
+ghost use Rattle.command_runs.specs.Prelude.{most_bytes, HasCause, IsOpenedByNoOther, IsOnlyRead, outside_of, IsTold, FailsToTell};
 ghost use Rattle.report.specs.RolledReport.{rolled_report};
 ghost use Rattle.uc_cli.specs.RollRun.{Slot, roll_options, IsRollAnswer, IsRollDone, IsRollFailure, KeepsToInstance, IsRollRun};
 ghost use Rattle.uc_cli.specs.inside.Rolls.{IsToldRoll, IsUntoldRoll, IsFaultEnd};

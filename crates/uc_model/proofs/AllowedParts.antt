@@ -4,8 +4,7 @@ use Rattle.std.proofs.Common.{◌≡◌, ℕ, suc, ◌-◌, ◌<◌, ⊎_elim, B
 use Rattle.std.specs.Int.{int_min, int_max}
 use Rattle.std.proofs.lemmas.Int.{ints, clamps}
 use Rattle.std.proofs.lemmas.Bool.{and_parts, and_from, cases_Bool, true≢false, not-true, not_from_false, ltb-true, lt-ltb, cond-true, cond-false, cond_both}
-use Rattle.uc_model.specs.Sums.{bit, all_below}
-use Rattle.uc_model.specs.Commitment.{Thermal, Commitment, starts, stops, minimum_up_at, minimum_down_at, initial_stop_holds, start_cap, stop_cap, cap, is_allowed_at, is_allowed}
+use Rattle.uc_model.specs.Prelude.{bit, all_below, Thermal, Commitment, starts, stops, minimum_up_at, minimum_down_at, initial_stop_holds, start_cap, stop_cap, cap, is_allowed_at, is_allowed}
 use Rattle.uc_model.proofs.Ring.{linear, le_trans, mul-one, mul-zero, one-mul}
 use Rattle.uc_model.proofs.Tests.{int_le-true, le-int_le, all_below-at, all_below-from, int_min_left, int_min_right}
 use Rattle.uc_model.proofs.Obeyed.{min_nonneg}

@@ -1,8 +1,7 @@
 -- Numbers within the limit of a power are what their bits say, so a cap is the range less its reduction.
 use Rattle.std.proofs.Common.{arith, ◌≡◌, ◌∙◌, lit<, sym, subst, Bool, ℤ, ◌-ℤ◌, ◌*ℤ◌, to_z, of_z}
 use Rattle.std.specs.Int.{w64}
-use Rattle.uc_model.specs.Limits.{IsLimit, IsPower, MAX_POWER}
-use Rattle.uc_model.specs.Sums.{bit}
+use Rattle.uc_model.specs.Prelude.{IsLimit, IsPower, MAX_POWER, bit}
 use Rattle.uc_model.proofs.Sizes.{narrow}
 
 abbrev pub bits : ℤ → ℤ

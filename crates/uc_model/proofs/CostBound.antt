@@ -2,13 +2,7 @@
 -- Cite from a crate above by `use Rattle.uc_model.proofs.CostBound.{cost_fits}`.
 use Rattle.std.proofs.Common.{◌≡◌, ℕ, zero, suc, ◌*◌, ◌<◌, ◌≤◌, sym, ap, subst, ◌∙◌, arith, ℤ, pos, negsuc, ◌+ℤ◌, ◌*ℤ◌, neg_ℤ, ◌≤ℤ◌, IsTrue, unsigned_abs}
 use Rattle.std.proofs.lemmas.Bool.{cases_Bool, eqb-true, true≢false, cond-true, cond-false}
-use Rattle.uc_model.specs.Sums.{sum_below, bit}
-use Rattle.uc_model.specs.Commitment.{Thermal, Commitment}
-use Rattle.uc_model.specs.StartCategory.{category_cost, is_category_allowed, category_holds_at}
-use Rattle.uc_model.specs.Schedule.{Instance, Row, Schedule, thermal_unit, thermal_count, point, point_count}
-use Rattle.uc_model.specs.Rules.{Category, Production, Obeys}
-use Rattle.uc_model.specs.Cost.{production_cost, cell_cost, unit_cost, shortage_cost, cost}
-use Rattle.uc_model.specs.Limits.{IsLawfulThermal, IsLawfulInstance, MAX_COST, MAX_SHORTAGE_COST, COST_MAX}
+use Rattle.uc_model.specs.Prelude.{sum_below, bit, Thermal, Commitment, category_cost, is_category_allowed, category_holds_at, Instance, Row, Schedule, thermal_unit, thermal_count, point, point_count, Category, Production, Obeys, production_cost, cell_cost, unit_cost, shortage_cost, cost, IsLawfulThermal, IsLawfulInstance, MAX_COST, MAX_SHORTAGE_COST, COST_MAX}
 use Rattle.uc_model.proofs.Ring.{linear, le_trans, scale-le-scale, mul-neg, mul_comm, mul-add, mul-one, pos-le-pos}
 use Rattle.uc_model.proofs.Sums.{sum_below-le, sum_below-mul_left, sum_below-const}
 use Rattle.uc_model.proofs.Obeyed.{rule_at, Produces, production_parts}

@@ -4,10 +4,7 @@
 -- Cite from a crate above by `use Rattle.uc_model.proofs.ExtremePatterns.{most-from_highest}`.
 use Rattle.std.proofs.Common.{◌≡◌, ℕ, zero, suc, ◌-◌, ◌<◌, ◌≤◌, ◌⊎◌, ⊎_elim, min, max, Bool, true, false, not, refl, sym, ap, ◌∙◌, arith, ◌≤ℤ◌, ◌<ℤ◌, IsTrue}
 use Rattle.std.proofs.lemmas.Bool.{and_from, cases_Bool, cases_lt, true≢false, not_from_false, true_from_ne_false, false_from_ne_true}
-use Rattle.uc_model.specs.Sums.{bit}
-use Rattle.uc_model.specs.Commitment.{Thermal, Commitment, starts, stops, is_allowed}
-use Rattle.uc_model.specs.ExtremePatterns.{on_periods, on_during, IsMostOn, IsFewestOn, HasNoAllowedPattern, HasExactlyOne}
-use Rattle.uc_model.specs.Limits.{IsLawfulThermal}
+use Rattle.uc_model.specs.Prelude.{bit, Thermal, Commitment, starts, stops, is_allowed, on_periods, on_during, IsMostOn, IsFewestOn, HasNoAllowedPattern, HasExactlyOne, IsLawfulThermal}
 use Rattle.uc_model.proofs.Ring.{linear, le_or_lt}
 use Rattle.uc_model.proofs.Sums.{sum_below-le}
 use Rattle.uc_model.proofs.MinimumTimes.{bit_nonneg}

@@ -4,10 +4,7 @@ use Rattle.std.proofs.Common.{◌≡◌, ℕ, zero, suc, ◌*◌, ◌/◌, ◌<�
 use Rattle.std.proofs.Math.Nat.{le-max_left}
 use Rattle.std.proofs.lemmas.Option.{none-some, same_Some}
 use Rattle.std.proofs.lemmas.Bool.{and_parts, or_cases, cases_Bool, cond-true, cond-false, eqb-true, eqb-false, eq-eqb, ne_eqb}
-use Rattle.uc_model.specs.Points.{Point, point_of, output_of, weighted_cost}
-use Rattle.uc_model.specs.Division.{quotient_up}
-use Rattle.uc_model.specs.Hull.{run, rise, segment_holds, or_else, first_below, Segment, segment_from, first_segment, segment_at, segment_width, from_left, to_right, segment_cost}
-use Rattle.uc_model.specs.PrintedSchedule.{segment_weight}
+use Rattle.uc_model.specs.Prelude.{Point, point_of, output_of, weighted_cost, quotient_up, run, rise, segment_holds, or_else, first_below, Segment, segment_from, first_segment, segment_at, segment_width, from_left, to_right, segment_cost, segment_weight}
 use Rattle.uc_model.proofs.Ring.{linear, spread, mul_comm, mul_assoc, mul-add, mul-sub, mul-zero, zero-mul, pos-mul, scale-le-scale, sub_nonneg, pos_nonneg}
 use Rattle.uc_model.proofs.Sums.{sum_below-single, sum_below-pair}
 use Rattle.uc_model.proofs.Tests.{int_le-true, int_lt-true}

@@ -6,9 +6,7 @@ use Rattle.std.proofs.Common.{◌≡◌, ℕ, zero, suc, ◌+◌, ◌-◌, ◌*�
 use Rattle.std.proofs.lemmas.Bool.{and_parts, and_from, or_cases, or_left, or_right, cond-true, eqb-true, eq-eqb}
 use Rattle.std.proofs.lemmas.Nat.{mul-add-lt, div-mul-add, mod-mul-add, div_below, mod_below}
 use Rattle.std.proofs.lemmas.Option.{none-some, same_Some}
-use Rattle.uc_model.specs.Sums.{all_below}
-use Rattle.uc_model.specs.Points.{Point, point_of, output_of}
-use Rattle.uc_model.specs.Hull.{run, rise, is_above_line, is_hull_segment, is_hull_point, segment_holds, or_else, first_below, Segment, segment_from, first_segment, segment_at}
+use Rattle.uc_model.specs.Prelude.{all_below, Point, point_of, output_of, run, rise, is_above_line, is_hull_segment, is_hull_point, segment_holds, or_else, first_below, Segment, segment_from, first_segment, segment_at}
 use Rattle.uc_model.proofs.Ring.{linear, spread, le_or_lt, le_trans, mul_comm, mul_assoc, mul_left_comm, mul-le-mul_left, le_from_mul, one-mul}
 use Rattle.uc_model.proofs.HullPoints.{Holds, segment_at-holds}
 use Rattle.uc_model.proofs.Tests.{le-int_le, lt-int_lt, int_le-true, int_lt-true, all_below-from, all_below-at}

@@ -4,8 +4,7 @@
 use Rattle.std.proofs.Common.{◌≡◌, ℕ, zero, suc, ◌+◌, ◌-◌, ◌<◌, ◌≤◌, ◌≢◌, ◌⊎◌, ⊎_elim, min, max, Bool, true, false, not, ◌&&◌, refl, sym, ap, ◌∙◌, arith, ℤ, pos, ◌+ℤ◌, ◌-ℤ◌, ◌≤ℤ◌, IsTrue, int_le, nat_lt}
 use mathlib.Core.Bool.{and_comm}
 use Rattle.std.proofs.lemmas.Bool.{or_cases, cases_Bool, cases_order, ltb-true, true≢false, not-true, not-false, not_from_true}
-use Rattle.uc_model.specs.Sums.{sum_below, bit}
-use Rattle.uc_model.specs.Commitment.{Commitment, state_before, keeps_minimum_at, KeepsMinimumTimes}
+use Rattle.uc_model.specs.Prelude.{sum_below, bit, Commitment, state_before, keeps_minimum_at, KeepsMinimumTimes}
 use Rattle.uc_model.proofs.Ring.{linear}
 use Rattle.uc_model.proofs.Sums.{term-le-sum_below}
 use Rattle.uc_model.proofs.Tests.{int_le-true}

@@ -5,11 +5,7 @@ use Rattle.std.specs.Int.{int_min}
 use Rattle.std.specs.Ordering.{int_eq}
 use Rattle.std.proofs.lemmas.Int.{ints}
 use Rattle.std.proofs.lemmas.Bool.{and_parts, and_from, or_cases, or_right, cond_both, not_from_true, true≢false, leb-true}
-use Rattle.uc_model.specs.Sums.{all_below, bit}
-use Rattle.uc_model.specs.Commitment.{Thermal, start_cap, stop_cap, cap, is_allowed_at, is_allowed}
-use Rattle.uc_model.specs.Schedule.{Instance, Row, Schedule, thermal_unit, thermal_count, point, point_count, point_p, p_at, weight_sum}
-use Rattle.uc_model.specs.Rules.{Rule, MustRun, InitialUp, InitialDown, MinimumUp, MinimumDown, InitialStop, Production, StartCap, StopCap, holds_at, rule_units, rule_periods, production_at, Obeys}
-use Rattle.uc_model.specs.Limits.{IsLawfulThermal}
+use Rattle.uc_model.specs.Prelude.{all_below, bit, Thermal, start_cap, stop_cap, cap, is_allowed_at, is_allowed, Instance, Row, Schedule, thermal_unit, thermal_count, point, point_count, point_p, p_at, weight_sum, Rule, MustRun, InitialUp, InitialDown, MinimumUp, MinimumDown, InitialStop, Production, StartCap, StopCap, holds_at, rule_units, rule_periods, production_at, Obeys, IsLawfulThermal}
 use Rattle.uc_model.proofs.Ring.{linear, le_trans, mul_nonneg, pos_nonneg, sub_nonneg}
 use Rattle.uc_model.proofs.Sums.{sum_below_nonneg}
 use Rattle.uc_model.proofs.Tests.{int_le-true, le-int_le, int_eq-true, all_below-at, all_below-from}

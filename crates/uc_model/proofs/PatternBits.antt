@@ -5,7 +5,7 @@ use Rattle.std.specs.Int.{bit_at}
 use Rattle.std.proofs.lemmas.Bool.{cond-true, cond-false}
 use Rattle.std.proofs.lemmas.Nat.Bits.{bit_at-lt, bit_at_lowest, bit_at-suc}
 use Rattle.std.proofs.Math.Nat.{pow-suc}
-use Rattle.uc_model.specs.PatternBits.{Pattern, commitment_of}
+use Rattle.uc_model.specs.Prelude.{Pattern, commitment_of}
 
 pub commitment-low : (pattern : Pattern) (t : ℕ) → t < 128 → commitment_of pattern t ≡ (bit_at pattern.low t == 1)
 commitment-low pattern t h = cond-true _ _ _ (lt-ltb t 128 h)

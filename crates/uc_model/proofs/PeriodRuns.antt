@@ -2,9 +2,7 @@
 -- they keep the minimum times.
 use Rattle.std.proofs.Common.{◌≡◌, ℕ, zero, suc, ◌+◌, ◌-◌, ◌<◌, ◌≤◌, ⊎_elim, true, false, sym, ap, ◌∙◌, arith, pos, ◌≤ℤ◌, IsTrue, nat_lt}
 use Rattle.std.proofs.lemmas.Bool.{and_parts, and_from, and_left, and_right, or_left, or_right, cases_Bool, cases_lt, true≢false, not-true, false_from_ne_true, ltb-true, leb-true, lt-ltb, le-ltb, lt-leb, le-leb}
-use Rattle.uc_model.specs.Sums.{sum_below, bit}
-use Rattle.uc_model.specs.Commitment.{Thermal, Commitment, was_on, starts, stops, keeps_minimum_at}
-use Rattle.uc_model.specs.ExtremePatterns.{on_during}
+use Rattle.uc_model.specs.Prelude.{sum_below, bit, Thermal, Commitment, was_on, starts, stops, keeps_minimum_at, on_during}
 use Rattle.uc_model.proofs.Ring.{linear}
 use Rattle.uc_model.proofs.Sums.{sum_below-zero}
 use Rattle.uc_model.proofs.MinimumTimes.{bit_nonneg}

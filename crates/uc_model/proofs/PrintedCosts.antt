@@ -3,15 +3,8 @@
 use Rattle.std.proofs.Common.{◌≡◌, ℕ, zero, suc, ◌*◌, ◌<◌, ◌≤◌, ⊎_elim, Bool, true, false, refl, sym, ap, subst, ◌∙◌, arith, length, ℤ, pos, ◌+ℤ◌, ◌-ℤ◌, ◌*ℤ◌, ◌≤ℤ◌, ◌<ℤ◌, List, Option, Some, None, unsigned_abs, if◌then◌else◌}
 use Rattle.std.specs.Ordering.{int_eq}
 use Rattle.std.proofs.lemmas.Bool.{cases_lt}
-use Rattle.uc_model.specs.Sums.{sum_below}
-use Rattle.uc_model.specs.Points.{Point, point_of, weighted_cost}
-use Rattle.uc_model.specs.StartCategory.{Thermal, category_cost}
-use Rattle.uc_model.specs.Schedule.{Instance, thermal_unit, thermal_count}
-use Rattle.uc_model.specs.Rules.{Category, Production, Obeys}
-use Rattle.uc_model.specs.Cost.{cell_cost, unit_cost, cost}
-use Rattle.uc_model.specs.Hull.{Segment, segment_at, segment_width, segment_cost, hull_cost, rise, from_left}
-use Rattle.uc_model.specs.PrintedSchedule.{Printed, watt_denominator, cell_at, product_below, width_on, cell_width, printed_denominator, refused_weight, segment_weight, printed_schedule, printed_cell_cost, printed_shortage_cost, printed_cost}
-use Rattle.uc_model.specs.Limits.{IsLawfulThermal, IsLawfulInstance, MAX_COST, COST_MAX}
+use Rattle.uc_model.specs.Prelude.{sum_below, Point, point_of, weighted_cost, Thermal, category_cost, Instance, thermal_unit, thermal_count, Category, Production, Obeys, cell_cost, unit_cost, cost, Segment, segment_at, segment_width, segment_cost, hull_cost, rise, from_left, Printed, watt_denominator, product_below, width_on, cell_width, printed_denominator, refused_weight, segment_weight, printed_schedule, printed_cell_cost, printed_shortage_cost, printed_cost, IsLawfulThermal, IsLawfulInstance, MAX_COST, COST_MAX, IsCeiling}
+use Rattle.uc_model.specs.PrintedSchedule.{cell_at}
 use Rattle.uc_model.proofs.Ring.{linear, mul-add, mul-zero, zero-mul, mul_comm, mul_nonneg, mul-le-mul_left, mul-le-mul_turned, le_from_mul, le_or_lt, le_trans, add-le-add, sub_nonneg, pos-le-pos}
 use Rattle.uc_model.proofs.Sums.{sum_below-le, sum_below-mul_left, sum_below-zero}
 use Rattle.uc_model.proofs.Obeyed.{rule_at, production_parts}
@@ -19,7 +12,6 @@ use Rattle.uc_model.proofs.HullPoints.{segment_at-holds, lies_on, from_left-le, 
 use Rattle.uc_model.proofs.CostBound.{IsWithin, within_of_abs, abs_of_within, within_add, within_more, within_const_sum, within_shortages, category_cost_fits}
 use Rattle.uc_model.proofs.Shortages.{share_is, shortages-le-printed, printed_shortages_nonneg, printed_shortages-le}
 use Rattle.uc_model.proofs.Quotients.{IsCeiling-least, quotient_up-is}
-use Rattle.uc_model.specs.Division.{IsCeiling}
 
 -- ---- the denominator is a multiple of each cell's
 product_below-factor : (n : ℕ) (f : ℕ → ℕ) (k : ℕ) → k < n → (c : ℕ) × (product_below n f ≡ c * f k)

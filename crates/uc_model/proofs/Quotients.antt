@@ -3,7 +3,7 @@
 use Rattle.std.proofs.Common.{◌≡◌, ◌≢◌, ◌-◌, arith, ℤ, pos, negsuc, ◌+ℤ◌, ◌*ℤ◌, neg_ℤ, ◌≤ℤ◌, ◌<ℤ◌}
 use Rattle.std.specs.Int.{int_div_euclid, int_rem_euclid}
 use Rattle.std.proofs.lemmas.Int.{ints, by_lt_z}
-use Rattle.uc_model.specs.Division.{IsFloor, IsCeiling, quotient_up}
+use Rattle.uc_model.specs.Prelude.{IsFloor, IsCeiling, quotient_up}
 use Rattle.uc_model.proofs.Ring.{linear, add-mul, neg-mul, one-mul, mul-le-mul_right, le_antisymm}
 
 -- ---- a bound by a multiple

@@ -4,13 +4,7 @@
 use Rattle.std.proofs.Common.{◌≡◌, ℕ, zero, suc, ◌*◌, ◌/◌, ◌<◌, ◌≤◌, sym, ap, subst, ◌∙◌, arith, ℤ, pos, ◌+ℤ◌, ◌*ℤ◌, ◌≤ℤ◌, ◌<ℤ◌, IsTrue, slice_index_or}
 use Rattle.std.proofs.Math.Nat.{mul-div_cancel}
 use Rattle.std.proofs.lemmas.List.{get_or-replicate}
-use Rattle.uc_model.specs.Sums.{sum_below}
-use Rattle.uc_model.specs.Division.{quotient_up}
-use Rattle.uc_model.specs.Schedule.{Instance, Schedule, most_shed, most_short}
-use Rattle.uc_model.specs.Rules.{ShedRange, ShortRange, shortage_holds, Obeys}
-use Rattle.uc_model.specs.Cost.{shortage_cost}
-use Rattle.uc_model.specs.PrintedSchedule.{Printed, LacksNothing, watt_denominator, shed_at, short_at, printed_schedule, printed_shortage_cost}
-use Rattle.uc_model.specs.Limits.{greatest_shortage_cost}
+use Rattle.uc_model.specs.Prelude.{sum_below, quotient_up, Instance, Schedule, most_shed, most_short, ShedRange, ShortRange, shortage_holds, Obeys, shortage_cost, Printed, LacksNothing, watt_denominator, shed_at, short_at, printed_schedule, printed_shortage_cost, greatest_shortage_cost}
 use Rattle.uc_model.proofs.Ring.{linear, mul-add, mul_comm, mul_assoc, mul_left_comm, mul-zero, mul_nonneg, scale-le-scale, le_from_mul, pos_nonneg, pos-mul, add-le-add}
 use Rattle.uc_model.proofs.Sums.{sum_below-le, sum_below-add, sum_below-mul_left, sum_below_nonneg}
 use Rattle.uc_model.proofs.Obeyed.{rule_at}

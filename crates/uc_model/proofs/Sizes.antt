@@ -9,7 +9,7 @@ use Rattle.std.specs.Int.{w64, w128, int_min}
 use Rattle.std.proofs.lemmas.Int.{ints, unsigned_abs-mul, to_z-of_z, fits_signed_from_abs, by_lt_z}
 use Rattle.std.proofs.lemmas.Nat.{mul-le}
 use Rattle.std.proofs.lemmas.Bool.{cond_both, ltb-false}
-use Rattle.uc_model.specs.Division.{IsFloor}
+use Rattle.uc_model.specs.Prelude.{IsFloor}
 use Rattle.uc_model.proofs.Ring.{linear, mul-one, one-mul, add-mul, mul-le-mul_left, mul-le-mul_turned}
 
 -- ---- sizes

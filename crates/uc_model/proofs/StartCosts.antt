@@ -2,10 +2,7 @@
 -- Cite from a crate above by `use Rattle.uc_model.proofs.StartCosts.{sigma-le-allowed, sigma-size}`.
 use Rattle.std.proofs.Common.{◌≡◌, ℕ, zero, suc, ◌-◌, ◌<◌, ◌≤◌, ◌≢◌, ⊎_elim, false, not, ◌&&◌, cond, sym, ap, subst, ◌∙◌, arith, ℤ, ◌≤ℤ◌, Bool, IsTrue, nat_lt, nat_le, ◌==◌, Option, Some, unsigned_abs}
 use Rattle.std.proofs.lemmas.Bool.{and_parts, and_from, or_cases, cases_Bool, cond_both, cond-true, cond-false, true≢false, leb-true, ltb-true, eqb-true, le-leb, lt-ltb}
-use Rattle.uc_model.specs.Sums.{least_below}
-use Rattle.uc_model.specs.Commitment.{Thermal, Commitment, starts, stops}
-use Rattle.uc_model.specs.StartCategory.{category_count, category_lag, category_cost, has_stop_within, is_barred, is_category_allowed, last_stop, stopped_within, may_cost_as, sigma}
-use Rattle.uc_model.specs.Limits.{IsLawfulThermal, MAX_COST}
+use Rattle.uc_model.specs.Prelude.{least_below, Thermal, Commitment, starts, stops, category_count, category_lag, category_cost, has_stop_within, is_barred, is_category_allowed, last_stop, stopped_within, may_cost_as, sigma, IsLawfulThermal, MAX_COST}
 use Rattle.uc_model.proofs.Sizes.{abs_min}
 use Rattle.uc_model.proofs.Tests.{any_below-at, least_below-le, least_below-le-other}
 

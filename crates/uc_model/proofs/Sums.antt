@@ -2,7 +2,7 @@
 -- Cite from a crate above by `use Rattle.uc_model.proofs.Sums.{sum_below-add}`. A premise over the places comes as
 -- `(k : ℕ) → k < n → ..`, and the number of places first.
 use Rattle.std.proofs.Common.{◌≡◌, ℕ, zero, suc, ◌+◌, ◌<◌, ◌≢◌, ◌⊎◌, ⊎_elim, refl, sym, ap, subst, ◌∙◌, arith, ℤ, pos, ◌+ℤ◌, ◌-ℤ◌, ◌*ℤ◌, neg_ℤ, ◌≤ℤ◌}
-use Rattle.uc_model.specs.Sums.{sum_below}
+use Rattle.uc_model.specs.Prelude.{sum_below}
 use Rattle.uc_model.proofs.Ring.{linear, add-le-add, le_refl, mul-add, add-mul, mul-zero, zero-mul, suc-mul}
 
 -- a place below n + 1

@@ -6,7 +6,7 @@ use Rattle.std.specs.Ordering.{int_eq}
 use Rattle.std.proofs.lemmas.Int.{ints}
 use Rattle.std.proofs.lemmas.Bool.{and_parts, and_from, or_cases, or_left, or_right, cond-true, cond_both}
 use Rattle.std.proofs.lemmas.Bool.Decides.{Decides-int_eq}
-use Rattle.uc_model.specs.Sums.{all_below, any_below, least_below}
+use Rattle.uc_model.specs.Prelude.{all_below, any_below, least_below}
 use Rattle.uc_model.proofs.Sums.{below_or_last}
 
 -- ---- tests of whole numbers

@@ -5,8 +5,7 @@ use Rattle.std.proofs.lemmas.Option.{none-some, get_or_from_slice_get, slice_get
 use Rattle.std.specs.Option.{IfSome}
 use Rattle.dual_model.specs.Prelude.{Certificate, IsLawfulTable}
 use Rattle.outside.specs.declared.slot.Slot.TheVariants as slot
-use Rattle.outside.specs.Slots.{SlotState}
-use Rattle.outside.specs.Sinks.{SinkState}
+use Rattle.outside.specs.Prelude.{SlotState, SinkState}
 use Rattle.outside.specs.declared.slot.Slot.{Slot}
 use Rattle.branch_tree.specs.Prelude.{written_of}
 use Rattle.cert_text.specs.CertificateText.{Listing, has_price, listing_of}
@@ -17,7 +16,7 @@ use Rattle.report.specs.UpliftReport.{uplift_report}
 use Rattle.report.specs.declared.fault.Fault.TheVariants.{NoUplift, Memory, Write}
 use Rattle.report.specs.declared.fault.Fault.{Fault}
 use Rattle.command_line.specs.Command.{Check, Uplift}
-use Rattle.command_runs.specs.Outside.{Outside, outside_of}
+use Rattle.command_runs.specs.Prelude.{Outside, outside_of}
 use Rattle.uc_check.specs.Checking.{IsCertificateFault, IsCheckStopped, IsInstanceFault}
 use Rattle.uc_check.specs.declared.verify.Checked.{Checked}
 use Rattle.uc_check.specs.Checks.{IsChecked}

@@ -4,7 +4,7 @@ pub use Rattle.uc_model.specs.declared.schedule.Printed.{Printed}
 use Rattle.uc_model.specs.declared.instance.Instance.{Instance}
 use Rattle.dual_model.specs.Prelude.{Certificate, WrittenSchedule}
 pub use Rattle.dual_model.specs.declared.table.Table.{Table}
-use Rattle.outside.specs.Slots.{SlotState}
+use Rattle.outside.specs.Prelude.{SlotState}
 use Rattle.outside.specs.declared.slot.Slot.{Slot}
 use Rattle.branch_tree.specs.declared.found.Found.{Found}
 use Rattle.uplift.specs.Uplift.{AreUplifts}
@@ -16,10 +16,8 @@ use Rattle.report.specs.declared.fault.Fault.TheVariants.{Write, NoUplift}
 pub use Rattle.report.specs.declared.fault.UpliftRefusal.{UpliftRefusal}
 use Rattle.report.specs.declared.fault.UpliftRefusal.TheVariants as reasons
 use Rattle.command_line.specs.Command.{Uplift}
-use Rattle.command_runs.specs.Outside.{Outside}
-use Rattle.command_runs.specs.Writing.{IsTold, FailsToTell}
+use Rattle.command_runs.specs.Prelude.{Outside, IsTold, FailsToTell, Ends}
 use Rattle.command_runs.specs.declared.ending.End.{End}
-use Rattle.command_runs.specs.Ending.{Ends}
 use Rattle.uc_check.specs.Checking.{IsVerified, IsCheckStopped, KeepsToInput}
 
 -- ---- what uplifts are of

@@ -1,16 +1,14 @@
 //! A run of `uplift`.
 
 ghost use Rattle.std.specs.Prelude.{◌≡◌, ℕ, List, IfOk, IfErr, OnOk, OnErr};
-ghost use Rattle.outside.specs.Slots.{AllUnopened, SlotState};
-ghost use Rattle.outside.specs.Sinks.{SinkState};
+ghost use Rattle.outside.specs.Prelude.{AllUnopened, SlotState, SinkState};
 ghost use Rattle.outside.specs.declared.slot.Slot.{Slot};
 ghost use Rattle.branch_tree.specs.Prelude.{written_of};
 ghost use Rattle.uplift.specs.Uplift.{AreUplifts};
 ghost use Rattle.report.specs.UpliftReport.{uplift_report};
 ghost use Rattle.command_line.specs.Asked.{uplift_asked, HasPrices};
 ghost use Rattle.command_line.specs.Command.{Check};
-ghost use Rattle.command_runs.specs.Outside.{outside_of};
-ghost use Rattle.command_runs.specs.Writing.{IsTold, FailsToTell};
+ghost use Rattle.command_runs.specs.Prelude.{outside_of, IsTold, FailsToTell};
 ghost use Rattle.uc_check.specs.Checking.{KeepsToInput};
 ghost use Rattle.uc_check.specs.Checks.{IsChecked};
 ghost use Rattle.uc_uplift.specs.Uplifting.{Table as TableNumbers, Printed as PrintedNumbers, table_of as table_of_number, told_numbers, HasNoUplifts, IsPriceTable, IsWholeSchedule, IsUplifting, IsUpliftFailure, IsUpliftRun};

@@ -1,7 +1,7 @@
 -- The best end of a state among those before a period, with the ways that go on from it, is the least way.
 use Rattle.std.proofs.Common.{◌≡◌, ℕ, suc, ◌-◌, ◌<◌, ◌≤◌, ⊎_elim, Bool, false, ◌==◌, refl, sym, ap, subst, ◌∙◌, arith, ℤ, pos, IsTrue, Option, Some, None, IfSome, unwrap_or}
 use Rattle.std.proofs.lemmas.Bool.{cases_lt, cond-true, eq-eqb}
-use Rattle.dual_model.specs.CostToGo.{lesser_of}
+use Rattle.dual_model.specs.Prelude.{lesser_of}
 use Rattle.dual_model.proofs.BestChoices.{some-of}
 use Rattle.unit_runs.specs.RunsToGo.{Fix, may_stay, runs_to_go}
 use Rattle.unit_exact.specs.inside.Choices.{Choice, choice_cost, IsCostBelow, IsOneOf}

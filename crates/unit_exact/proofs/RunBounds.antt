@@ -2,8 +2,7 @@
 use Rattle.std.proofs.Common.{◌≡◌, ℕ, suc, ◌-◌, ◌≤◌, ◌==◌, Bool, true, false, true≢false, refl, sym, ap, ◌∙◌, arith, ℤ, pos, ◌+ℤ◌, ◌-ℤ◌, ◌*ℤ◌, ◌≤ℤ◌, neg_ℤ, nat_lt, Option, Some, if◌then◌else◌}
 use Rattle.std.specs.Int.{int_min}
 use Rattle.uc_model.proofs.Common.{linear, mul-le-mul_left, int_min_left, int_min_right}
-use Rattle.dual_model.specs.Prelude.{greatest_output}
-use Rattle.dual_model.specs.CostToGo.{total_of}
+use Rattle.dual_model.specs.Prelude.{greatest_output, total_of}
 use Rattle.uc_model.specs.Prelude.{cell_cap}
 use Rattle.dual_model.proofs.Optimum.{total_of-parts}
 use Rattle.step_functions.specs.Functions.{Steps, IsPlace, value_at}

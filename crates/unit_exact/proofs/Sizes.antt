@@ -1,6 +1,6 @@
 -- How large the costs of ways are.
 use Rattle.std.proofs.Common.{ℕ, suc, ◌≤◌, arith, ℤ, unsigned_abs, Option, Some, None, IfSome}
-use Rattle.dual_model.specs.CostToGo.{total_of}
+use Rattle.dual_model.specs.Prelude.{total_of}
 use Rattle.unit_exact.specs.inside.Choices.{Choice, choice_cost}
 use Rattle.unit_exact.specs.inside.Problems.{MAX_SWITCH}
 use Rattle.unit_exact.specs.inside.Switches.{IsWithinSwitches}

@@ -2,7 +2,7 @@
 use Rattle.std.proofs.Common.{◌≡◌, ℕ, suc, ◌-◌, ◌<◌, Bool, false, not, ◌==◌, sym, ap, ◌∙◌, arith, ℤ, IsTrue, Option, Some, None, if◌then◌else◌}
 use Rattle.std.proofs.lemmas.Int.{ints}
 use Rattle.std.proofs.lemmas.Bool.{cond-true, cond-false, eq-eqb, ne_eqb}
-use Rattle.dual_model.specs.CostToGo.{lesser_of, total_of}
+use Rattle.dual_model.specs.Prelude.{lesser_of, total_of}
 use Rattle.dual_model.proofs.Costs.{lesser-assoc, lesser-none}
 use Rattle.unit_runs.specs.RunsToGo.{Fix, may_stay, runs_to_go, switch_cost}
 use Rattle.unit_runs.proofs.Changes.{by_change}

@@ -5,8 +5,7 @@ use Rattle.std.proofs.lemmas.Int.{ints}
 use Rattle.std.proofs.lemmas.Bool.{cond-true, cond-false, eq-eqb, lt-ltb}
 use Rattle.uc_model.specs.Prelude.{sum_below}
 use Rattle.uc_model.proofs.Common.{linear, le_antisymm, le_of_eq, int_eq-true}
-use Rattle.dual_model.specs.Prelude.{may_move}
-use Rattle.dual_model.specs.CostToGo.{total_of}
+use Rattle.dual_model.specs.Prelude.{may_move, total_of}
 use Rattle.dual_model.proofs.Following.{may-turn_off}
 use Rattle.step_functions.specs.Functions.{Steps, IsLeastBetween, IsPlace, last_place, value_at}
 use Rattle.step_functions.specs.Runs.{slope_at}

@@ -2,8 +2,7 @@
 use Rattle.std.proofs.Common.{◌≡◌, ℕ, zero, suc, ◌+◌, ◌-◌, ◌<◌, ◌≤◌, Bool, true, false, ◌&&◌, refl, ap, ◌∙◌, arith, pos, IsTrue, Option, Some, None, List}
 use Rattle.std.proofs.lemmas.Bool.{cond-true}
 use Rattle.uc_model.specs.Prelude.{commitment_of}
-use Rattle.dual_model.specs.Prelude.{AreLeast, IsAttained, IsLeastBehind, IsTraced, MoveCosts, allowed, ends_at, holds_initially, lasting, may_be_off, may_be_on, stretch}
-use Rattle.dual_model.specs.CostToGo.{total_of}
+use Rattle.dual_model.specs.Prelude.{AreLeast, IsAttained, IsLeastBehind, IsTraced, MoveCosts, allowed, ends_at, holds_initially, lasting, may_be_off, may_be_on, stretch, total_of}
 use Rattle.dual_model.specs.declared.traces.Trace.{Trace}
 use Rattle.dual_model.proofs.Costs.{total-zero}
 use Rattle.dual_model.proofs.Following.{followed, may-enter_off, may-enter_on}

@@ -1,7 +1,7 @@
 //! The least ways from a switch on, and costs with those of choices behind them.
 
 ghost use Rattle.std.specs.Prelude.{◌≡◌, ◌+◌, ◌^◌, ◌<◌, ◌≤◌, ℤ, unsigned_abs, IfSome, Option, Some};
-ghost use Rattle.dual_model.specs.CostToGo.{total_of};
+ghost use Rattle.dual_model.specs.Prelude.{total_of};
 ghost use Rattle.unit_exact.specs.inside.Choices.{choice_cost, IsReached};
 ghost use Rattle.unit_exact.specs.inside.Problems.{MAX_WAY};
 

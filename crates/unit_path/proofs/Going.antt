@@ -2,8 +2,7 @@
 use Rattle.std.proofs.Common.{◌≡◌, ℕ, suc, ◌-◌, ◌<◌, ◌≤◌, Bool, true, false, arith, ℤ, Option}
 use Rattle.std.proofs.lemmas.Bool.{cond-true, cond-false, eq-eqb, ne_eqb}
 use Rattle.uc_model.specs.Prelude.{IsLawfulThermal, period_count}
-use Rattle.dual_model.specs.Prelude.{AreSizedTerms, move, cost_to_go, end_cost, IsWithin, MAX_COST_TO_GO}
-use Rattle.dual_model.specs.CostToGo.{lesser_of, total_of}
+use Rattle.dual_model.specs.Prelude.{AreSizedTerms, move, cost_to_go, end_cost, IsWithin, MAX_COST_TO_GO, lesser_of, total_of}
 use Rattle.dual_model.proofs.CostSizes.{cost_to_go-fits}
 use Rattle.unit_path.specs.inside.Choices.{Fix, Terms, Thermal, start_total, stop_cost}
 

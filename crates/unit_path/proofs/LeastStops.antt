@@ -2,8 +2,7 @@
 use Rattle.std.proofs.Common.{◌≡◌, ℕ, suc, ◌+◌, ◌-◌, ◌<◌, ◌≤◌, ◌⊎◌, ⊎_elim, true, false, refl, sym, ap, subst, ◌∙◌, arith, ℤ, pos, ◌+ℤ◌, Option, Some, None, IfSome, unwrap_or, ◌==◌}
 use Rattle.std.proofs.lemmas.Bool.{cases_Bool, ne_eqb}
 use Rattle.uc_model.specs.Prelude.{IsLawfulThermal, period_count, may_stop}
-use Rattle.dual_model.specs.Prelude.{AreSizedTerms, hour_before, may_be_on, move, IsWithin, MAX_COST_TO_GO}
-use Rattle.dual_model.specs.CostToGo.{lesser_of, total_of}
+use Rattle.dual_model.specs.Prelude.{AreSizedTerms, hour_before, may_be_on, move, IsWithin, MAX_COST_TO_GO, lesser_of, total_of}
 use Rattle.unit_path.specs.inside.Choices.{Fix, Terms, Thermal, Choice, choice_cost, ends_at, longer_of, stays, stop_cost, IsLeastStop, IsOneOf, IsStop, IsStopAtOnce}
 use Rattle.unit_path.specs.inside.Hours.{leave_cost, IsOnward, IsStopIn}
 use Rattle.dual_model.proofs.BestChoices.{some-of}

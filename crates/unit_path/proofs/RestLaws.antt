@@ -2,8 +2,7 @@
 use Rattle.std.proofs.Common.{◌≡◌, ℕ, zero, suc, ◌+◌, ◌-◌, ◌<◌, ◌≤◌, true, false, refl, ap, ◌∙◌, arith, pos, Some, None, if◌then◌else◌}
 use Rattle.std.proofs.lemmas.Bool.{cond-true, cond-false, le-leb, leb-true}
 use Rattle.uc_model.specs.Prelude.{period_count, has_lasted, may_start}
-use Rattle.dual_model.specs.Prelude.{may_be_off, move}
-use Rattle.dual_model.specs.CostToGo.{lesser_of, total_of}
+use Rattle.dual_model.specs.Prelude.{may_be_off, move, lesser_of, total_of}
 use Rattle.unit_path.specs.inside.Choices.{Fix, Terms, Thermal, rests, start_total}
 use Rattle.dual_model.proofs.Costs.{total-none, total-zero}
 use Rattle.dual_model.proofs.Following.{forced-to, lasting-split}

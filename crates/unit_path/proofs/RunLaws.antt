@@ -6,8 +6,7 @@ use Rattle.uc_model.specs.declared.limits.TheConstants.{MAX_PERIODS}
 use Rattle.uc_model.proofs.Common.{abs_add}
 use Rattle.uc_model.proofs.Sizes.{wide}
 use Rattle.uc_model.specs.Prelude.{period_count, may_stop}
-use Rattle.dual_model.specs.Prelude.{end_cost, holds_initially, hour_before, may_be_on, move, MAX_MOVE}
-use Rattle.dual_model.specs.CostToGo.{lesser_of, total_of}
+use Rattle.dual_model.specs.Prelude.{end_cost, holds_initially, hour_before, may_be_on, move, MAX_MOVE, lesser_of, total_of}
 use Rattle.unit_path.specs.inside.Choices.{Fix, Terms, Thermal, stays, stop_cost}
 use Rattle.unit_path.specs.inside.Hours.{leave_cost}
 use Rattle.dual_model.proofs.Costs.{lesser-comm, total-assoc, total-none, total-zero}

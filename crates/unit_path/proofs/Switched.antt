@@ -2,8 +2,7 @@
 use Rattle.std.proofs.Common.{arith, ◌≡◌, ℕ, ◌<◌, true, ◌*ℤ◌, Option, Some, ◌==◌}
 use Rattle.std.proofs.lemmas.Bool.{cases_Bool, cond-true, cond-false}
 use Rattle.uc_model.specs.Prelude.{sigma, period_count, may_start, may_stop}
-use Rattle.dual_model.specs.Prelude.{stop_since, IsWithin, MAX_COST_TO_GO}
-use Rattle.dual_model.specs.CostToGo.{total_of}
+use Rattle.dual_model.specs.Prelude.{stop_since, IsWithin, MAX_COST_TO_GO, total_of}
 use Rattle.unit_path.specs.inside.Choices.{Fix, Terms, Thermal, Choice, choice_cost, start_total, stop_cost}
 use Rattle.unit_path.specs.inside.Hours.{leave_cost, IsStartIn, IsStopIn}
 use Rattle.unit_path.proofs.Going.{start_total-at, to_go}

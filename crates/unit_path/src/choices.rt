@@ -1,8 +1,7 @@
 //! Choices with costs before them, and the better of two.
 
 ghost use Rattle.std.specs.Prelude.{◌≡◌, ◌≤◌, ◌⊎◌, Some, unsigned_abs};
-ghost use Rattle.dual_model.specs.Prelude.{IsWithin, MAX_COST_TO_GO};
-ghost use Rattle.dual_model.specs.CostToGo.{lesser_of, total_of};
+ghost use Rattle.dual_model.specs.Prelude.{IsWithin, MAX_COST_TO_GO, lesser_of, total_of};
 ghost use Rattle.unit_path.specs.inside.Choices.{choice_cost, longer_of};
 
 use dual_model::choices::{Choice, better};

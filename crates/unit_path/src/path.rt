@@ -3,12 +3,11 @@
 ghost use Rattle.std.specs.Prelude.{◌≡◌, ℕ, suc, ◌<◌, ◌≤◌, IfSome, IfNone, MatchOption, None, true, false, length, unsigned_abs};
 ghost use Rattle.uc_model.specs.Prelude.{IsLawfulThermal, commitment_of, thermal_unit, period_count};
 ghost use Rattle.uc_model.specs.declared.instance.Instance.{Instance};
-ghost use Rattle.dual_model.specs.Prelude.{IsFixOf, AreSizedTerms, IsBestPattern, IsLeastValue, IsPattern, pattern_value, AreTermsOf, cost_to_go, IsWithin, MAX_COST_TO_GO, MAX_MOVE, may_be_off as may_be_off_in, may_be_on as may_be_on_in};
+ghost use Rattle.dual_model.specs.Prelude.{IsFixOf, AreSizedTerms, IsBestPattern, IsLeastValue, IsPattern, pattern_value, AreTermsOf, cost_to_go, IsWithin, MAX_COST_TO_GO, MAX_MOVE, may_be_off as may_be_off_in, may_be_on as may_be_on_in, total_of};
 ghost use Rattle.dual_model.specs.Fixings.{HasNoPattern as HasNoPatternAt};
 ghost use Rattle.dual_model.specs.PatternValue.{HasNoPattern};
 ghost use Rattle.dual_model.specs.declared.node.Node.{Node};
 ghost use Rattle.dual_model.specs.declared.table.Table.{Table};
-ghost use Rattle.dual_model.specs.CostToGo.{total_of};
 ghost use Rattle.unit_path.specs.inside.Choices.{choice_cost, IsFirst};
 ghost use Rattle.unit_path.specs.inside.Hours.{IsEnd, IsHour, IsStartIn, IsStopIn, IsTableFrom};
 

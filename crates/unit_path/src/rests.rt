@@ -2,8 +2,7 @@
 
 ghost use Rattle.std.specs.Prelude.{◌≡◌, ℕ, ◌-◌, ◌<◌, ◌≤◌, ◌*ℤ◌, Some, None, true, false, IfSome};
 ghost use Rattle.uc_model.specs.Prelude.{IsCost, IsLawfulThermal, sigma, period_count, may_start};
-ghost use Rattle.dual_model.specs.Prelude.{IsLawfulScale, AreSizedTerms, cost_to_go, IsWithin, MAX_COST_TO_GO, may_be_off, stop_since};
-ghost use Rattle.dual_model.specs.CostToGo.{lesser_of, total_of};
+ghost use Rattle.dual_model.specs.Prelude.{IsLawfulScale, AreSizedTerms, cost_to_go, IsWithin, MAX_COST_TO_GO, may_be_off, stop_since, lesser_of, total_of};
 ghost use Rattle.unit_path.specs.inside.Choices.{choice_cost, IsLeastStart, IsOneOf, IsStart};
 ghost use Rattle.unit_path.specs.inside.Hours.{IsTableFrom};
 

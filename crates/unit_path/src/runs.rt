@@ -2,8 +2,7 @@
 
 ghost use Rattle.std.specs.Prelude.{◌≡◌, ℕ, ◌-◌, ◌<◌, ◌≤◌, Some, true, unsigned_abs};
 ghost use Rattle.uc_model.specs.Prelude.{IsLawfulThermal, period_count};
-ghost use Rattle.dual_model.specs.Prelude.{AreSizedTerms, IsWithin, MAX_COST_TO_GO, MAX_MOVE, may_be_on, move};
-ghost use Rattle.dual_model.specs.CostToGo.{lesser_of, total_of};
+ghost use Rattle.dual_model.specs.Prelude.{AreSizedTerms, IsWithin, MAX_COST_TO_GO, MAX_MOVE, may_be_on, move, lesser_of, total_of};
 ghost use Rattle.unit_path.specs.inside.Choices.{choice_cost, longer_of, stays, stop_cost, IsLeastStop, IsOneOf, IsStopAtOnce};
 ghost use Rattle.unit_path.specs.inside.Hours.{IsHour, IsTableFrom};
 

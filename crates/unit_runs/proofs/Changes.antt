@@ -2,8 +2,7 @@
 -- Cite from a crate above by `use Rattle.unit_runs.proofs.Changes.{by_change, way-switched, way-kept}`.
 use Rattle.std.proofs.Common.{◌≡◌, ℕ, suc, Bool, true, false, not, refl, ap, ◌∙◌, IsTrue, ℤ, pos, Option, Some, None, if◌then◌else◌}
 use Rattle.std.proofs.lemmas.Bool.{cond-true}
-use Rattle.dual_model.specs.Prelude.{allowed}
-use Rattle.dual_model.specs.Bellman.{total_of, lesser_of, since_after}
+use Rattle.dual_model.specs.Prelude.{allowed, total_of, lesser_of, since_after}
 use Rattle.dual_model.proofs.Costs.{lesser-comm, total-zero}
 use Rattle.unit_runs.specs.Runs.{Table, Thermal}
 use Rattle.unit_runs.specs.Patterns.{Commitment}

@@ -7,8 +7,7 @@ use Rattle.std.specs.Ordering.{int_eq}
 use Rattle.std.proofs.lemmas.Int.{ints}
 use Rattle.std.proofs.lemmas.Bool.{cond-true, cond-false, and_parts, and_from, eq-eqb, ne_eqb, lt-ltb, le-ltb, cases_lt}
 use Rattle.uc_model.proofs.Common.{linear, mul-add, mul-sub, sub-mul, zero-mul, mul-zero, mul-le-mul_left, mul-le-mul_right, sum_below-same, int_le-true, le-int_le, int_eq-true, eq-int_eq, int_min_left, int_min_right, abs_is}
-use Rattle.dual_model.specs.Prelude.{pi_at, mu_at, greatest_output}
-use Rattle.dual_model.specs.CostToGo.{total_of}
+use Rattle.dual_model.specs.Prelude.{pi_at, mu_at, greatest_output, total_of}
 use Rattle.dual_model.specs.ExactValue.{floored_cost}
 use Rattle.dual_model.proofs.Optimum.{AtMost, Parts, total_of-parts}
 use Rattle.unit_runs.specs.Runs.{Table, Thermal, Trajectory, entry_output, output_before_hour, hour_cap, IsHourOf, IsTrajectory, hour_value, trajectory_value, IsRunValueOf}

@@ -4,8 +4,7 @@ use Rattle.std.proofs.Common.{◌≡◌, ℕ, zero, suc, ◌+◌, ◌-◌, ◌<�
 use Rattle.std.proofs.lemmas.Bool.{cases_Bool, cases_lt, cond-true, cond-false, and_from, and_right, not_from_false}
 use Rattle.uc_model.specs.Prelude.{was_on, last_stop, sigma, IsLawfulThermal}
 use Rattle.uc_model.proofs.Common.{linear}
-use Rattle.dual_model.specs.Prelude.{MoveCosts, EndCosts, allowed, stop_since, IsPattern, MAX_PERIODS}
-use Rattle.dual_model.specs.Bellman.{since_after}
+use Rattle.dual_model.specs.Prelude.{MoveCosts, EndCosts, allowed, stop_since, IsPattern, MAX_PERIODS, since_after}
 use Rattle.dual_model.proofs.Optimum.{way-at_most, attained}
 use Rattle.dual_model.proofs.Switches.{since, since-le, last_stop-since}
 use Rattle.dual_model.proofs.Ways.{IsRight, IsThere, Moved, moved, way-moved, right-from, right-may}

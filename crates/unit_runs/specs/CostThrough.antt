@@ -7,8 +7,7 @@
 use Rattle.std.specs.Prelude.{ℕ, zero, suc, ◌+◌, Bool, ◌&&◌, nat_lt, ℤ, pos, ◌+ℤ◌, ◌-ℤ◌, ◌*ℤ◌, neg_ℤ, int_le, unsigned_abs, Option, Some, None, if◌then◌else◌}
 use Rattle.std.specs.Int.{int_min, int_max}
 use Rattle.std.specs.Ordering.{int_eq}
-use Rattle.dual_model.specs.Prelude.{pi_at, mu_at, greatest_output}
-use Rattle.dual_model.specs.CostToGo.{total_of, lesser_of}
+use Rattle.dual_model.specs.Prelude.{pi_at, mu_at, greatest_output, total_of, lesser_of}
 use Rattle.dual_model.specs.ExactValue.{floored_cost}
 use Rattle.unit_runs.specs.Runs.{Thermal, Table, entry_output, hour_cap}
 

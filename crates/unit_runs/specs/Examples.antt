@@ -1,6 +1,6 @@
 -- A small unit whose runs are computed by hand: of 10 to 50 W, at 100 micro-dollars an hour for 10 W and 500 for 50.
 use Rattle.std.specs.Prelude.{false, [], ◌∷◌, ℤ, pos}
-use Rattle.uc_model.specs.Examples.{base_unit}
+use Rattle.uc_model.specs.Prelude.{base_unit}
 use Rattle.unit_runs.specs.Runs.{Thermal, Table}
 
 -- it was on before, at 20 W, and can fall by 5 W

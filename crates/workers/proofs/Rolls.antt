@@ -2,10 +2,7 @@
 use Rattle.std.proofs.Common.{◌≡◌, false, suc, ◌+◌, ◌<◌, sym, subst, arith, length, Result, Ok, Err, IfOk}
 use Rattle.uc_model.specs.Prelude.{IsLawfulInstance}
 use Rattle.branch_tree.specs.declared.found.Found.{Found}
-use Rattle.roll.specs.Kept.{IsKept}
-use Rattle.roll.specs.NextWindow.{IsNextWindow}
-use Rattle.roll.specs.Rolling.{IsNextPlace, IsRolledSoFar}
-use Rattle.roll.specs.Stitched.{IsContinuation, IsStitched}
+use Rattle.roll.specs.Prelude.{IsKept, IsNextWindow, IsNextPlace, IsRolledSoFar, IsContinuation, IsStitched}
 use Rattle.roll.specs.declared.places.Place.{Place}
 use Rattle.roll.proofs.SoFar.{continuation, further, place_within}
 use Rattle.uc_model.specs.declared.instance.Instance.{Instance}

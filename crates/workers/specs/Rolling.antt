@@ -1,6 +1,6 @@
 -- What a roll answers, where each window is searched by values of the kind, with this budget and at this gap. This project's own statement.
 use Rattle.std.specs.Prelude.{ℕ, Bool}
-use Rattle.roll.specs.Rolling.{IsRolledBy}
+use Rattle.roll.specs.Prelude.{IsRolledBy}
 pub use Rattle.roll.specs.declared.rolled.Rolled.{Rolled}
 use Rattle.uc_model.specs.declared.instance.Instance.{Instance}
 use Rattle.search_answers.specs.SearchResult.{IsSearchResult}

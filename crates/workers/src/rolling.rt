@@ -3,7 +3,7 @@
 ghost use Rattle.std.specs.Prelude.{◌≡◌, ◌≤◌, ◌<◌, ℕ, false, IfOk, IfSome, None};
 ghost use Rattle.uc_model.specs.Prelude.{IsLawfulInstance};
 ghost use Rattle.uc_model.specs.declared.limits.TheConstants.{MAX_PERIODS};
-ghost use Rattle.roll.specs.Rolling.{IsNextPlace};
+ghost use Rattle.roll.specs.Prelude.{IsNextPlace};
 ghost use Rattle.tree_search.specs.Options.{AreOptions};
 ghost use Rattle.workers.specs.Rolling.{IsRolled};
 ghost use Rattle.workers.specs.inside.Rolls.{IsPlan, IsKeptSoFar, IsFoundAhead, IsShownAhead, IsStep};

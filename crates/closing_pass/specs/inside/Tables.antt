@@ -8,8 +8,7 @@ pub use Rattle.dual_model.specs.declared.table.Table.{Table}
 use Rattle.branch_tree.specs.Prelude.{HasFreeCell}
 use Rattle.search_machine.specs.Prelude.{entries_of, IsFresh, IsStoredTable}
 pub use Rattle.book.specs.BookView.{BookView}
-use Rattle.book.specs.BookView.{state_of}
-use Rattle.book.specs.Calls.{IsStoredAt}
+use Rattle.book.specs.Prelude.{state_of, IsStoredAt}
 use Rattle.decided_nodes.specs.Decided.{DecidesEach, IsDispatched, IsWideAt}
 use Rattle.found_schedule.specs.Found.{IsFoundIfAny}
 use Rattle.search_desk.specs.Desks.{IsLaterWithin}

@@ -1,8 +1,7 @@
 -- Why the bytes of a slot were not read.
 use Rattle.std.specs.Prelude.{◌≡◌, ℕ, ⊤}
 use Rattle.outside.specs.declared.slot.Slot.{Slot}
-use Rattle.outside.specs.Counts.{HasRisen}
-use Rattle.outside.specs.Slots.{SlotState}
+use Rattle.outside.specs.Prelude.{HasRisen, SlotState}
 use Rattle.command_runs.specs.Reading.{Fault, Long, Memory, Read, IsLong}
 
 -- the cause of a fault in reading the slot, of whose file at most so many bytes are read

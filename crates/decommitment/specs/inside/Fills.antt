@@ -2,13 +2,10 @@
 -- commitment that differs in one unit alone was filled. This project's own.
 use Rattle.std.specs.Prelude.{◌≡◌, ◌≢◌, ℕ, suc, ◌+◌, ◌*◌, ◌<◌, ◌≤◌, List, ℤ, pos, ◌+ℤ◌, ◌-ℤ◌, ◌*ℤ◌, ◌≤ℤ◌, IsTrue, length, unsigned_abs, slice_set}
 use Rattle.uc_model.specs.Prelude.{Commitment, renewable_count, thermal_count, thermal_unit, bit, sum_below}
-use Rattle.dispatch_repair.specs.Amounts.{AreBeforePeriod, AreHeadsOf, IsSizedEnd, amount_at, next_period, thermal_amount}
-use Rattle.dispatch_repair.specs.Filled.{IsDispatchedFrom}
-use Rattle.dispatch_repair.specs.Filling.{IsStart}
-use Rattle.dispatch_repair.specs.Period.{Instance, Pattern, Period, FromRenewable, FromThermal, head, highest, lowest, low_of, high_of, renewable_sum}
-use Rattle.dispatch_repair.specs.Segments.{source_count}
-use Rattle.dispatch_repair.specs.Stuck.{HaveRanges, IsFirstObstacle}
-use Rattle.dispatch_repair.specs.Totals.{MAX_POWER, MAX_UNITS, AreTotalsOf, IsSum}
+use Rattle.dispatch_repair.specs.Prelude.{AreBeforePeriod, AreHeadsOf, IsSizedEnd, next_period, thermal_amount, IsDispatchedFrom, IsStart, Period, FromRenewable, FromThermal, head, highest, lowest, low_of, high_of, renewable_sum, source_count, HaveRanges, IsFirstObstacle, AreTotalsOf, IsSum}
+use Rattle.dispatch_repair.specs.Amounts.{amount_at}
+use Rattle.dispatch_repair.specs.Period.{Instance, Pattern}
+use Rattle.dispatch_repair.specs.Totals.{MAX_POWER, MAX_UNITS}
 use Rattle.dispatch_repair.specs.declared.fill.Left.{Left}
 use Rattle.dispatch_repair.specs.declared.segment.Segment.{Segment}
 use Rattle.dispatch_repair.specs.declared.obstacle.Totals.{Totals}

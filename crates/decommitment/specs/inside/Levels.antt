@@ -3,9 +3,8 @@
 use Rattle.std.specs.Prelude.{◌≡◌, ℕ, suc, ◌<◌, ◌⊎◌, List, [], ◌++◌, ◌∷◌, ℤ, ◌≤ℤ◌, ◌<ℤ◌, IsTrue, length, slice_index_or, slice_set}
 use Rattle.std.specs.Int.{int_min}
 use Rattle.dispatch_repair.specs.Amounts.{amount_at}
-use Rattle.dispatch_repair.specs.Period.{Period, low_of, high_of}
-use Rattle.dispatch_repair.specs.Rooms.{rows_of}
-use Rattle.dispatch_repair.specs.Segments.{Instance, AreInMeritOrder, segment_at, source_at, source_count}
+use Rattle.dispatch_repair.specs.Prelude.{Period, low_of, high_of, rows_of, AreInMeritOrder, segment_at, source_at, source_count}
+use Rattle.dispatch_repair.specs.Segments.{Instance}
 use Rattle.dispatch_repair.specs.declared.segment.Segment.{Segment}
 pub use Rattle.dispatch_repair.specs.declared.range.Range.{Range}
 pub use Rattle.decommitment.specs.declared.merit.Merit.{Merit}

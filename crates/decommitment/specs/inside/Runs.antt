@@ -5,12 +5,9 @@ use Rattle.std.specs.Prelude.{◌≡◌, ◌⊎◌, ℕ, Bool, true, false, None
 use Rattle.uc_model.specs.Prelude.{initial_p, IsLawfulInstance, cell_at, printed_cell_cost, shed_at, short_at, thermal_count, thermal_unit, sum_below}
 pub use Rattle.uc_model.specs.declared.schedule.Cell.{Cell}
 use Rattle.schedule_check.specs.WholeWatts.{cell}
-use Rattle.dispatch_repair.specs.Amounts.{next_period, thermal_amount}
-use Rattle.dispatch_repair.specs.Dispatch.{IsCommittedCell}
-use Rattle.dispatch_repair.specs.Rooms.{IsRoomOf}
-use Rattle.dispatch_repair.specs.Segments.{source_count}
+use Rattle.dispatch_repair.specs.Prelude.{next_period, thermal_amount, IsCommittedCell, IsRoomOf, source_count, IsDispatchOf, IsFirstObstacle}
 use Rattle.dispatch_repair.specs.declared.segment.Segment.{Segment}
-use Rattle.dispatch_repair.specs.Stuck.{Why, IsDispatchOf, IsFirstObstacle}
+use Rattle.dispatch_repair.specs.Stuck.{Why}
 pub use Rattle.dispatch_repair.specs.declared.shortage.Shortage.{Shortage}
 use Rattle.decommitment.specs.DropCommitment.{Instance, Pattern, Printed, IsDropPass, IsEndingOf, IsFewestOnOf}
 use Rattle.decommitment.specs.inside.Fills.{HasEntered, IsFill}

@@ -1,7 +1,7 @@
 -- The trials of commitments, and what a turn makes of the pass.
 use Rattle.std.specs.Prelude.{◌≡◌, ℕ, ◌<◌, Bool, true, false, nat_lt, int_lt, List, IsTrue}
 use Rattle.uc_model.specs.Prelude.{is_allowed, thermal_count, thermal_unit}
-use Rattle.dispatch_repair.specs.Period.{commitment_at}
+use Rattle.dispatch_repair.specs.Prelude.{commitment_at}
 use Rattle.decommitment.specs.DropCommitment.{Instance, Pattern, Printed, Ending, Dispatched, StuckIn}
 use Rattle.decommitment.specs.MostOnStuck.{IsMostOnStuck}
 pub use Rattle.decommitment.specs.declared.stand.Stand.{Stand}

@@ -2,7 +2,7 @@
 use Rattle.std.specs.Prelude.{◌≡◌, ℕ, zero, suc, ◌+◌, ◌<◌, List, length, slice_index_or, ℤ, pos, ◌≤ℤ◌, ◌<ℤ◌}
 use Rattle.fractions.specs.declared.fraction.Fraction.{Fraction}
 use Rattle.fractions.specs.Fractions.{joined, JoinForms}
-use Rattle.pivot_run.specs.Tables.{Table, basic, number, right_side}
+use Rattle.pivot_run.specs.Prelude.{Table, basic, number, right_side}
 use Rattle.dispatch_schedule.specs.ColumnValues.{nothing, value_to}
 
 -- the table has a number above 0 in each constraint's basic column, a right side of 0 or above, and two rows behind the constraints

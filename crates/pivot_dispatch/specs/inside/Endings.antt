@@ -1,7 +1,6 @@
 -- What is held of a commitment's table where its run has ended.
 use Rattle.std.specs.Prelude.{◌≡◌, ℕ, Bool, List, length, map, pos, int_lt, ◌≤ℤ◌}
-use Rattle.pivot_run.specs.Pivots.{IsNarrow}
-use Rattle.pivot_run.specs.Tables.{Table, right_side}
+use Rattle.pivot_run.specs.Prelude.{IsNarrow, Table, right_side}
 use Rattle.dispatch_rules.specs.Prelude.{IsTaskOf, MakingForms, limit_of, Task, amounts, limits, program, right_of, IsTask, scale_of}
 use Rattle.dispatch_rules.specs.declared.limit.LimitAt.{LimitAt}
 use Rattle.dispatch_prices.specs.ReadOff.{HasSmallMultipliers, ReadingForms}

@@ -5,8 +5,7 @@
 --
 -- Outputs are watts above the minimum, and costs 1/K micro-dollars; None is what may not be.
 use Rattle.std.specs.Prelude.{ℕ, zero, suc, Bool, false, ◌&&◌, ◌==◌, nat_lt, ℤ, pos, ◌+ℤ◌, ◌-ℤ◌, neg_ℤ, int_le, Option, Some, None, if◌then◌else◌}
-use Rattle.dual_model.specs.Prelude.{greatest_output}
-use Rattle.dual_model.specs.CostToGo.{total_of}
+use Rattle.dual_model.specs.Prelude.{greatest_output, total_of}
 use Rattle.uc_model.specs.Prelude.{cell_cap}
 use Rattle.unit_runs.specs.CostThrough.{least_between, reserve_cost}
 use Rattle.hull_function.specs.Hours.{with_output}

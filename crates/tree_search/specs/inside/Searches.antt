@@ -4,7 +4,7 @@ use Rattle.atomic_table.specs.Seated.{TableId}
 use Rattle.uc_model.specs.declared.instance.Instance.{Instance}
 use Rattle.incumbent.specs.Passes.{Incumbent, Known}
 use Rattle.search_machine.specs.Prelude.{bound_of}
-use Rattle.book.specs.Opening.{Opening}
+use Rattle.book.specs.Prelude.{Opening}
 use Rattle.opening.specs.declared.root_tables.Priced.{Priced}
 
 -- the worker is on the instance

@@ -1,9 +1,9 @@
 -- What the steps of a run of `roll` are for each other.
 use Rattle.std.specs.Prelude.{◌≡◌, ℕ, true, Option, Some, None}
-use Rattle.outside.specs.Sinks.{SinkState}
+use Rattle.outside.specs.Prelude.{SinkState}
 use Rattle.report.specs.FaultText.{status_of}
 use Rattle.report.specs.RolledReport.{rolled_report}
-use Rattle.command_runs.specs.Writing.{IsTold, FailsToTell, TellsFault}
+use Rattle.command_runs.specs.Prelude.{IsTold, FailsToTell, TellsFault}
 use Rattle.uc_cli.specs.RollRun.{End, Fault, Instance, Rolled, Write}
 
 -- the report is told, and what comes of it is what was rolled

@@ -1,10 +1,9 @@
 -- What writing the certificate and then the report comes to.
 use Rattle.std.specs.Prelude.{◌≡◌, ℕ, true, false}
-use Rattle.outside.specs.Slots.{SlotState}
-use Rattle.outside.specs.Sinks.{SinkState}
+use Rattle.outside.specs.Prelude.{SlotState, SinkState}
 use Rattle.branch_tree.specs.declared.found.Found.{Found}
 use Rattle.report.specs.FoundReport.{found_report}
-use Rattle.command_runs.specs.Writing.{text_of_certificate, IsSaved, FailsToSave, IsTold, FailsToTell}
+use Rattle.command_runs.specs.Prelude.{text_of_certificate, IsSaved, FailsToSave, IsTold, FailsToTell}
 use Rattle.uc_cli.specs.Run.{Fault, Instance, Write}
 
 -- the certificate is saved and the report told, by the certificate's slot and the output before and after

@@ -2,8 +2,7 @@
 -- (Dynamic Programming, 1957), over the graph of A. Frangioni and C. Gentile, "Solving Nonlinear Single-Unit Commitment
 -- Problems with Ramping Constraints" (Operations Research 54, 2006).
 use Rattle.std.specs.Prelude.{◌≡◌, ℕ, suc, ◌-◌, ◌*◌, ◌<◌, ◌≤◌, Bool, true, false, List, ℤ, length, slice_index_or, unsigned_abs, IsTrue, Option, Some, None, IfSome}
-use Rattle.dual_model.specs.Prelude.{Choices, allowed, ends_at, may_be_off, may_be_on, switch_total as total_by_costs}
-use Rattle.dual_model.specs.CostToGo.{lesser_of}
+use Rattle.dual_model.specs.Prelude.{Choices, allowed, ends_at, may_be_off, may_be_on, switch_total as total_by_costs, lesser_of}
 use Rattle.unit_runs.specs.RunsToGo.{Fix, last_cost, may_stay, run_and_start, runs_to_go}
 use Rattle.unit_exact.specs.inside.Choices.{Choice, choice_cost}
 use Rattle.unit_exact.specs.inside.Problems.{Table, Thermal, MAX_SWITCH}

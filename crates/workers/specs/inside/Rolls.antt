@@ -3,8 +3,7 @@ use Rattle.std.specs.Prelude.{◌≡◌, ℕ, ◌<◌, ◌≤◌, ℤ, false, So
 use Rattle.uc_model.specs.Prelude.{IsLawfulInstance}
 use Rattle.schedule_check.specs.Accepted.{IsAccepted, IsAcceptedIfFound}
 use Rattle.branch_tree.specs.declared.found.Found.{Found}
-use Rattle.roll.specs.NextWindow.{IsNextWindow}
-use Rattle.roll.specs.Rolling.{IsRolledSoFar}
+use Rattle.roll.specs.Prelude.{IsNextWindow, IsRolledSoFar}
 use Rattle.roll.specs.declared.places.Place.{Place}
 use Rattle.tree_search.specs.Options.{AreOptions}
 use Rattle.workers.specs.Rolling.{IsRolled}

@@ -1,7 +1,7 @@
 -- Where there is no claim, the search has ended.
 use Rattle.std.proofs.Common.{◌≡◌, ◌∙◌, true, refl, subst, sym}
 use Rattle.branch_tree.specs.Prelude.{tree_bound}
-use Rattle.book.specs.BookView.{BookView}
+use Rattle.book.specs.Prelude.{BookView}
 use Rattle.closing_pass.specs.Closings.{IsEnded, is_finished}
 use Rattle.closing_pass.proofs.Ended.{spent_claims, spent_finished, spent_settled}
 use Rattle.closing_pass.proofs.closing.next.Goals as goal

@@ -3,10 +3,9 @@ use Rattle.std.proofs.Common.{arith}
 use Rattle.std.proofs.lemmas.Grind.{common_steps}
 use Rattle.std.proofs.lemmas.Result.{on_err_weaker}
 use Rattle.outside.specs.declared.slot.Slot.TheVariants.{CertOut}
-use Rattle.outside.specs.Counts.{HasRisen}
-use Rattle.outside.specs.ToldBytes.{Appends}
+use Rattle.outside.specs.Prelude.{HasRisen, Appends}
 use Rattle.outside.proofs.Appending.{all-appended, appended-since-nothing}
-use Rattle.command_runs.specs.Writing.{text_of_certificate}
+use Rattle.command_runs.specs.Prelude.{text_of_certificate}
 use Rattle.command_runs.proofs.output.save.Goals as goal
 
 pub returns-clause-failed : goal.returns-clause-failed

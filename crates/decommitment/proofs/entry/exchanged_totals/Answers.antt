@@ -3,7 +3,7 @@ use Rattle.std.proofs.Common.{◌≡◌, ◌*◌, ◌≤◌, arith, rules, ℤ, 
 use Rattle.std.proofs.lemmas.Int.{to_z-of_z}
 use mir.Val.{SFits}
 use Rattle.uc_model.proofs.Common.{narrow}
-use Rattle.dispatch_repair.specs.Amounts.{IsSizedEnd}
+use Rattle.dispatch_repair.specs.Prelude.{IsSizedEnd}
 use Rattle.dispatch_repair.specs.Totals.{MAX_POWER, MAX_UNITS}
 use Rattle.decommitment.proofs.entry.exchanged_totals.Goals as goal
 

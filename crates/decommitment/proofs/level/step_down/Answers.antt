@@ -1,7 +1,7 @@
 -- The source of the segment at the level, or of the last one, falls.
 use Rattle.std.proofs.Common.{arith, ◌≡◌, ◌∙◌, ◌-◌, ◌<◌, sym, ap, subst, length, slice_set, w64, to_z, of_z, if◌then◌else◌}
 use Rattle.std.proofs.lemmas.Int.{to_z-of_z}
-use Rattle.dispatch_repair.specs.Segments.{segment_at}
+use Rattle.dispatch_repair.specs.Prelude.{segment_at}
 use Rattle.decommitment.specs.inside.Fills.{IsWalked, IsSizedAmount, hour_period}
 use Rattle.decommitment.specs.inside.Levels.{AreAtLevel, IsLeastAt, IsSunk}
 use Rattle.decommitment.proofs.Levels.{lowered}

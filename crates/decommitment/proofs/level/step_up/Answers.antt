@@ -1,7 +1,7 @@
 -- The source of the segment at the level rises.
 use Rattle.std.proofs.Common.{arith, ◌≡◌, ◌∙◌, ◌<◌, sym, ap, subst, length, suc, slice_set, w64, if◌then◌else◌}
 use Rattle.std.proofs.lemmas.Int.{to_z-of_z}
-use Rattle.dispatch_repair.specs.Segments.{segment_at}
+use Rattle.dispatch_repair.specs.Prelude.{segment_at}
 use Rattle.decommitment.specs.inside.Fills.{IsWalked, IsSizedAmount, hour_period}
 use Rattle.decommitment.specs.inside.Levels.{AreAtLevel, IsRisen}
 use Rattle.decommitment.proofs.Steps.{amount_kept, end_size, risen_sized, source_inside, walked_up}

@@ -1,6 +1,6 @@
 -- No places for the sources so far.
 use Rattle.std.proofs.Common.{◌≡◌, ℕ, [], length}
-use Rattle.dispatch_repair.specs.Rooms.{rows_of}
+use Rattle.dispatch_repair.specs.Prelude.{rows_of}
 use Rattle.decommitment.specs.inside.Levels.{places_at}
 use Rattle.decommitment.proofs.merit.no_places.Given as goal
 

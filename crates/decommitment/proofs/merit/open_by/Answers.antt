@@ -1,7 +1,7 @@
 -- A place more, by what its segment says.
 use Rattle.std.proofs.Common.{◌∙◌, ap, arith, subst, nat_lt, if◌then◌else◌}
 use Rattle.std.specs.Int.{int_max, int_min}
-use Rattle.dispatch_repair.specs.Segments.{segment_at}
+use Rattle.dispatch_repair.specs.Prelude.{segment_at}
 use Rattle.decommitment.specs.inside.Levels.{IsLeastOf, place_at}
 use Rattle.decommitment.proofs.Least.{least_more}
 use Rattle.decommitment.proofs.merit.open_by.Goals as goal

@@ -1,7 +1,7 @@
 -- A place more is one of its source's own.
 use Rattle.std.proofs.Common.{arith, subst, ◌∙◌}
 use Rattle.std.proofs.lemmas.List.{length-map}
-use Rattle.dispatch_repair.specs.Rooms.{rows_of}
+use Rattle.dispatch_repair.specs.Prelude.{rows_of}
 use Rattle.decommitment.specs.inside.Levels.{AreOwnPlaces}
 use Rattle.decommitment.proofs.Places.{none, pushed}
 use Rattle.decommitment.proofs.merit.own_places.Goals as goal

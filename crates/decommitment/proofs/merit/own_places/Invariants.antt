@@ -1,5 +1,5 @@
 -- The places of the segments so far.
-use Rattle.dispatch_repair.specs.Rooms.{rows_of}
+use Rattle.dispatch_repair.specs.Prelude.{rows_of}
 use Rattle.decommitment.specs.inside.Levels.{AreOwnPlaces}
 use Rattle.decommitment.proofs.merit.own_places.Given as goal
 

@@ -1,7 +1,7 @@
 -- A schedule of the dispatch of the drop commitment is accepted.
 use Rattle.std.proofs.Common.{arith, refl, subst, sym, ◌∙◌, w64}
 use Rattle.std.proofs.lemmas.Int.{to_z-of_z}
-use Rattle.dispatch_repair.specs.Stuck.{IsDispatchOf}
+use Rattle.dispatch_repair.specs.Prelude.{IsDispatchOf}
 use Rattle.decommitment.proofs.Drops.{accepted}
 use Rattle.decommitment.proofs.RunTurns.{dispatch_there, run_dropped}
 use Rattle.decommitment.proofs.pass.ended.Goals as goal

@@ -1,6 +1,6 @@
 -- A commitment that is dispatched isn't stuck.
 use Rattle.std.proofs.Common.{subst}
-use Rattle.dispatch_repair.specs.Stuck.{IsDispatchFault}
+use Rattle.dispatch_repair.specs.Prelude.{IsDispatchFault}
 use Rattle.dispatch_repair.proofs.OneDispatch.{never_both}
 use Rattle.decommitment.proofs.pass.whole.Goals as goal
 

@@ -1,6 +1,6 @@
 -- A unit without an allowed pattern has none at the root.
 use Rattle.std.proofs.Common.{subst}
-use Rattle.dispatch_repair.specs.MostOn.{IsMostFault, IsFirstWithoutPattern}
+use Rattle.dispatch_repair.specs.Prelude.{IsMostFault, IsFirstWithoutPattern}
 use Rattle.decommitment.proofs.patterns.most_on_patterns.Goals as goal
 
 pub unreachable-requires : goal.unreachable-requires

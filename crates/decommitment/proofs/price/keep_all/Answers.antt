@@ -1,7 +1,8 @@
 -- Marks are kept by the units that give the same in the next period too.
 use Rattle.std.proofs.Common.{◌≡◌, ◌+◌, ◌<◌, ◌∙◌, arith, inl, inr, ap, get_or, length, subst, sym}
 use Rattle.uc_model.proofs.Common.{below_or_last}
-use Rattle.dispatch_repair.specs.Amounts.{amount_at, thermal_amount}
+use Rattle.dispatch_repair.specs.Prelude.{thermal_amount}
+use Rattle.dispatch_repair.specs.Amounts.{amount_at}
 use Rattle.decommitment.specs.inside.Runs.{Fill, outputs_at}
 use Rattle.decommitment.specs.inside.Stretches.{IsSameAt}
 use Rattle.decommitment.proofs.RunCosts.{same_here}

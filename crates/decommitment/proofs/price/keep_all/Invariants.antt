@@ -1,6 +1,6 @@
 -- The units with marks gave the same so far.
 use Rattle.std.proofs.Common.{◌≡◌, ◌<◌, ℕ, length}
-use Rattle.dispatch_repair.specs.Amounts.{thermal_amount}
+use Rattle.dispatch_repair.specs.Prelude.{thermal_amount}
 use Rattle.decommitment.specs.inside.Runs.{outputs_at}
 use Rattle.decommitment.specs.inside.Stretches.{IsMarked}
 use Rattle.decommitment.proofs.price.keep_all.Given as goal

@@ -1,8 +1,7 @@
 -- A period in which the limit binds is filled as it is dispatched, and is no base.
 use Rattle.std.proofs.Common.{◌≡◌, ◌∙◌, arith, ap, length, subst, sym, true≢false}
 use Rattle.std.proofs.lemmas.List.{with_items_is}
-use Rattle.dispatch_repair.specs.Amounts.{AreBeforePeriod, next_period}
-use Rattle.dispatch_repair.specs.Filled.{IsDispatchedFrom}
+use Rattle.dispatch_repair.specs.Prelude.{AreBeforePeriod, next_period, IsDispatchedFrom}
 use Rattle.decommitment.specs.inside.Runs.{instance_of, order_of, outputs_before}
 use Rattle.decommitment.proofs.Runs.{before_period}
 use Rattle.decommitment.proofs.run.fill_bound.Goals as goal

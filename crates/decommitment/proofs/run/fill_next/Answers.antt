@@ -1,6 +1,6 @@
 -- The next period comes after the amounts of the last one, in both runs.
 use Rattle.std.proofs.Common.{arith, length, subst, sym}
-use Rattle.dispatch_repair.specs.Amounts.{AreBeforePeriod}
+use Rattle.dispatch_repair.specs.Prelude.{AreBeforePeriod}
 use Rattle.decommitment.specs.inside.Runs.{instance_of, order_of}
 use Rattle.decommitment.proofs.Runs.{before_period}
 use Rattle.decommitment.proofs.run.fill_next.Goals as goal

@@ -1,6 +1,6 @@
 -- The periods so far are filled.
 use Rattle.std.proofs.Common.{◌≡◌, None, length}
-use Rattle.dispatch_repair.specs.Rooms.{IsRoomOf}
+use Rattle.dispatch_repair.specs.Prelude.{IsRoomOf}
 use Rattle.decommitment.specs.inside.Runs.{AreFills, instance_of, order_of}
 use Rattle.decommitment.proofs.run.fill_periods.Given as goal
 

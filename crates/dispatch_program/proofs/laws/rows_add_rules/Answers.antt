@@ -1,5 +1,5 @@
 -- By values that solve the start and are 1 in one column.
-use Rattle.dispatch_program.specs.Programs.{start_rows}
+use Rattle.dispatch_program.specs.Prelude.{start_rows}
 use Rattle.dispatch_program.proofs.Starts.{start_is}
 use Rattle.dispatch_program.proofs.Combined.{unknown_is, right_is}
 use Rattle.dispatch_program.proofs.laws.rows_add_rules.Goals as goal

@@ -1,8 +1,7 @@
 -- One segment more, by what raising its source does.
 use Rattle.std.proofs.Common.{arith, subst, ap, length}
 use Rattle.std.proofs.lemmas.Int.{ints, to_z-of_z}
-use Rattle.dispatch_repair.specs.Filling.{IsFilledTo, IsRaise}
-use Rattle.dispatch_repair.specs.Segments.{segment_at}
+use Rattle.dispatch_repair.specs.Prelude.{IsFilledTo, IsRaise, segment_at}
 use Rattle.dispatch_repair.proofs.Filling.{filled_early, filled_none, step}
 use Rattle.dispatch_repair.proofs.SourceSlopes.{next_run}
 use Rattle.dispatch_repair.proofs.fill.fill.Goals as goal

@@ -1,5 +1,5 @@
 -- The segments so far were filled.
-use Rattle.dispatch_repair.specs.Filling.{IsFilledTo}
+use Rattle.dispatch_repair.specs.Prelude.{IsFilledTo}
 use Rattle.dispatch_repair.proofs.fill.fill.Given as goal
 
 abbrev pub invariant-loop-segment : goal.invariant-loop-segment

@@ -3,7 +3,7 @@ use Rattle.std.proofs.Common.{◌≡◌, ℕ, ap, subst, ◌∙◌, ℤ, ◌+ℤ
 use Rattle.std.proofs.lemmas.Int.{to_z-of_z}
 use Rattle.std.proofs.lemmas.Bool.{lt-ltb, le-ltb, cond-true, cond-false}
 use Rattle.dispatch_repair.specs.Amounts.{amount_at}
-use Rattle.dispatch_repair.specs.Filling.{end_of}
+use Rattle.dispatch_repair.specs.Prelude.{end_of}
 use Rattle.dispatch_repair.proofs.Raising.{is_raise}
 use Rattle.dispatch_repair.proofs.fill.raise.Goals as goal
 

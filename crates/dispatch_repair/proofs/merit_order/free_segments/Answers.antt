@@ -1,6 +1,6 @@
 -- A renewable unit has one segment.
 use Rattle.std.proofs.Common.{◌≡◌, ◌+◌, ◌<◌, ◌∷◌, [], ◌++◌, length, arith, sym, subst, ap, ◌∙◌}
-use Rattle.dispatch_repair.specs.Segments.{Segment, AreSegmentsOf, free_segment}
+use Rattle.dispatch_repair.specs.Prelude.{Segment, AreSegmentsOf, free_segment}
 use Rattle.dispatch_repair.proofs.CurveSegments.{renewable_more}
 use Rattle.dispatch_repair.proofs.merit_order.free_segments.Goals as goal
 

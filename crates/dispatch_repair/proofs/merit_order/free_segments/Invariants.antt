@@ -1,5 +1,5 @@
 -- The segments of the units so far.
-use Rattle.dispatch_repair.specs.Segments.{AreSegmentsOf}
+use Rattle.dispatch_repair.specs.Prelude.{AreSegmentsOf}
 use Rattle.dispatch_repair.proofs.merit_order.free_segments.Given as goal
 
 abbrev pub invariant-loop-w : goal.invariant-loop-w

@@ -1,7 +1,7 @@
 -- The sort moves the segments, and its order is that of merit.
 use Rattle.std.proofs.Common.{rules}
 use Rattle.std.proofs.lemmas.Fn.{always_returns_same}
-use Rattle.dispatch_repair.specs.Segments.{comes_before}
+use Rattle.dispatch_repair.specs.Prelude.{comes_before}
 use Rattle.dispatch_repair.proofs.MeritSegments.{merit_is_order, in_merit_order}
 use Rattle.dispatch_repair.proofs.merit_order.merit_order.Goals as goal
 

@@ -1,7 +1,7 @@
 -- The segment between two corners covers the watts between them.
 use Rattle.std.proofs.Common.{◌≡◌, suc, ◌+◌, ◌∷◌, [], ◌++◌, arith, sym, subst, ap, ◌∙◌}
 use Rattle.uc_model.specs.Prelude.{renewable_count}
-use Rattle.dispatch_repair.specs.Segments.{Segment, AreSegmentsOf, corner_segment}
+use Rattle.dispatch_repair.specs.Prelude.{Segment, AreSegmentsOf, corner_segment}
 use Rattle.dispatch_repair.proofs.CurveSegments.{ArePushed, pushed_more, pushed_all}
 use Rattle.dispatch_repair.proofs.merit_order.push_curve.Goals as goal
 

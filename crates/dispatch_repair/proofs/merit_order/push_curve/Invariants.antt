@@ -2,7 +2,7 @@
 use Rattle.std.proofs.Common.{◌≡◌, ℕ, ◌+◌, ◌<◌}
 use Rattle.uc_model.specs.Prelude.{renewable_count, thermal_count, thermal_unit}
 use Rattle.cost_curves.specs.LowerHull.{IsLowerHull}
-use Rattle.dispatch_repair.specs.Segments.{Instance, AreSegmentsOf}
+use Rattle.dispatch_repair.specs.Prelude.{Instance, AreSegmentsOf}
 use Rattle.dispatch_repair.proofs.CurveSegments.{ArePushed}
 use Rattle.dispatch_repair.proofs.merit_order.push_curve.Given as goal
 

@@ -4,7 +4,7 @@ use Rattle.std.proofs.lemmas.List.{get_or_read}
 use Rattle.uc_model.specs.Prelude.{thermal_unit, renewable_count, no_unit}
 use Rattle.uc_model.specs.declared.instance.Thermal.{Thermal}
 use Rattle.cost_curves.specs.LowerHull.{IsLowerHull}
-use Rattle.dispatch_repair.specs.Segments.{AreSegmentsOf}
+use Rattle.dispatch_repair.specs.Prelude.{AreSegmentsOf}
 use Rattle.dispatch_repair.proofs.merit_order.segments.Goals as goal
 
 pub loop-g-preserved : goal.loop-g-preserved

@@ -1,6 +1,6 @@
 -- The segments of the sources so far.
 use Rattle.std.proofs.Common.{◌+◌}
-use Rattle.dispatch_repair.specs.Segments.{AreSegmentsOf}
+use Rattle.dispatch_repair.specs.Prelude.{AreSegmentsOf}
 use Rattle.dispatch_repair.proofs.merit_order.segments.Given as goal
 
 abbrev pub invariant-loop-g : goal.invariant-loop-g

@@ -4,7 +4,7 @@ use Rattle.std.proofs.lemmas.Bool.{cases_lt}
 use Rattle.std.proofs.lemmas.List.{get_or_read, get_or_append_left, get_or_at, length-append}
 use Rattle.uc_model.specs.Prelude.{IsLawfulThermal, commitment_of, IsMostOn, HasNoAllowedPattern, thermal_unit}
 use Rattle.uc_model.specs.declared.instance.Thermal.{Thermal}
-use Rattle.dispatch_repair.specs.MostOn.{Instance, Pattern, IsMostOnOf}
+use Rattle.dispatch_repair.specs.Prelude.{Instance, Pattern, IsMostOnOf}
 use Rattle.dispatch_repair.proofs.most_on_commitment.most_on.Goals as goal
 
 -- the unit that was read

@@ -1,6 +1,6 @@
 -- The units before g have their patterns with the most on periods.
 use Rattle.std.proofs.Common.{◌≡◌, ℕ, ◌<◌, length, slice_index_or}
-use Rattle.dispatch_repair.specs.MostOn.{IsMostOnOf}
+use Rattle.dispatch_repair.specs.Prelude.{IsMostOnOf}
 use Rattle.dispatch_repair.proofs.most_on_commitment.most_on.Given as goal
 
 abbrev pub invariant-loop-g : goal.invariant-loop-g

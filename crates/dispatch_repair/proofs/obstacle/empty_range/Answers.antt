@@ -2,9 +2,7 @@
 use Rattle.std.proofs.Common.{◌≡◌, ℕ, ◌+◌, ◌<◌, arith, sym, ◌∙◌, List, length, ◌≤ℤ◌, below_more}
 use Rattle.uc_model.specs.Prelude.{renewable_count, thermal_count}
 use Rattle.uc_model.proofs.Common.{linear, narrow, int_lt-true}
-use Rattle.dispatch_repair.specs.Period.{Period, FromThermal}
-use Rattle.dispatch_repair.specs.Amounts.{Range, AreRangesOf, range_at}
-use Rattle.dispatch_repair.specs.Segments.{source_count}
+use Rattle.dispatch_repair.specs.Prelude.{Period, FromThermal, Range, AreRangesOf, range_at, source_count}
 use Rattle.dispatch_repair.proofs.Numbers.{at_most}
 use Rattle.dispatch_repair.proofs.Places.{HasEnds, thermal_ends}
 use Rattle.dispatch_repair.proofs.obstacle.empty_range.Goals as goal

@@ -1,10 +1,7 @@
 -- The ranges of the units so far aren't empty.
 use Rattle.std.proofs.Common.{◌≡◌, length}
 use Rattle.uc_model.specs.Prelude.{renewable_count}
-use Rattle.dispatch_repair.specs.Period.{Period}
-use Rattle.dispatch_repair.specs.Stuck.{HaveRanges}
-use Rattle.dispatch_repair.specs.Amounts.{AreRangesOf}
-use Rattle.dispatch_repair.specs.Segments.{source_count}
+use Rattle.dispatch_repair.specs.Prelude.{Period, HaveRanges, AreRangesOf, source_count}
 use Rattle.dispatch_repair.proofs.obstacle.empty_range.Given as goal
 
 abbrev pub invariant-loop-unit : goal.invariant-loop-unit

@@ -2,7 +2,7 @@
 use Rattle.std.proofs.Common.{◌≡◌, ◌≤ℤ◌, ℤ, ◌*◌, ◌≤◌, arith, unsigned_abs}
 use Rattle.uc_model.specs.Prelude.{IsPower}
 use Rattle.uc_model.proofs.Common.{linear, narrow}
-use Rattle.dispatch_repair.specs.Totals.{MAX_POWER, MAX_UNITS, IsSizedTotal}
+use Rattle.dispatch_repair.specs.Prelude.{MAX_POWER, MAX_UNITS, IsSizedTotal}
 use Rattle.dispatch_repair.proofs.Numbers.{beyond, kept, kept_at_most, not_beyond}
 use Rattle.dispatch_repair.proofs.obstacle.imbalance.Goals as goal
 

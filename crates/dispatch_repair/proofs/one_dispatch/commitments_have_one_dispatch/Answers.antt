@@ -1,8 +1,7 @@
 -- The laws.
 use Rattle.std.proofs.Common.{List, ◌⊎◌, inl, inr}
-use Rattle.dispatch_repair.specs.Stuck.{IsDispatchOf, IsStuckOf}
+use Rattle.dispatch_repair.specs.Prelude.{IsDispatchOf, IsStuckOf, Instance, Pattern, Printed, Stuck}
 use Rattle.dispatch_repair.proofs.Endings.{IsEnded, dispatched, stuck, ended}
-use Rattle.dispatch_repair.specs.OneDispatch.{Instance, Pattern, Printed, Stuck}
 use Rattle.dispatch_repair.proofs.OneDispatch.{never_both, one_dispatch, one_period_stuck}
 use Rattle.dispatch_repair.proofs.one_dispatch.commitments_have_one_dispatch.Goals as goal
 

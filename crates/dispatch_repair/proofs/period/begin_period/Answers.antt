@@ -1,7 +1,6 @@
 -- Where no range is empty the sums over them tell what the period is filled from.
 use Rattle.std.proofs.Common.{◌∙◌, ap, length, pos, refl, slice_index_or, subst, sym}
-use Rattle.dispatch_repair.specs.Amounts.{AreHeadsOf, AreRangesOf}
-use Rattle.dispatch_repair.specs.Dispatch.{period_after}
+use Rattle.dispatch_repair.specs.Prelude.{AreHeadsOf, AreRangesOf, period_after}
 use Rattle.dispatch_repair.proofs.period.begin_period.Goals as goal
 
 pub returns-in-Some : goal.returns-in-Some

@@ -1,11 +1,7 @@
 -- A period without an obstacle is filled in order of merit.
 use Rattle.std.proofs.Common.{arith, sym, subst}
 use Rattle.std.proofs.lemmas.List.{with_items_is}
-use Rattle.dispatch_repair.specs.Dispatch.{period_after}
-use Rattle.dispatch_repair.specs.Amounts.{AreRangesOf, thermal_amount}
-use Rattle.dispatch_repair.specs.Filled.{IsDispatchedFrom}
-use Rattle.dispatch_repair.specs.Filling.{IsStart}
-use Rattle.dispatch_repair.specs.Segments.{AreInMeritOrder}
+use Rattle.dispatch_repair.specs.Prelude.{period_after, AreRangesOf, thermal_amount, IsDispatchedFrom, IsStart, AreInMeritOrder}
 use Rattle.dispatch_repair.proofs.Merit.{open_ranges}
 use Rattle.dispatch_repair.proofs.Shortages.{dispatched_from}
 use Rattle.dispatch_repair.proofs.period.dispatch_period.Goals as goal

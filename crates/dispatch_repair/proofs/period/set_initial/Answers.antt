@@ -2,7 +2,7 @@
 use Rattle.std.proofs.Common.{◌≡◌, ℕ, ℤ, ◌+◌, ◌<◌, arith, pos, subst, sym, ap, ◌∙◌, length, w64, to_z, of_z, slice_set}
 use Rattle.std.proofs.lemmas.Int.{to_z-of_z}
 use Rattle.uc_model.specs.Prelude.{initial_p, renewable_count, thermal_count, thermal_unit}
-use Rattle.dispatch_repair.specs.Amounts.{thermal_amount}
+use Rattle.dispatch_repair.specs.Prelude.{thermal_amount}
 use Rattle.dispatch_repair.proofs.Listed.{below_set_after}
 use Rattle.dispatch_repair.proofs.period.set_initial.Goals as goal
 

@@ -1,7 +1,7 @@
 -- The units so far give what they gave initially.
 use Rattle.std.proofs.Common.{◌≡◌, ℕ, ◌<◌}
 use Rattle.uc_model.specs.Prelude.{initial_p, thermal_unit}
-use Rattle.dispatch_repair.specs.Amounts.{thermal_amount}
+use Rattle.dispatch_repair.specs.Prelude.{thermal_amount}
 use Rattle.dispatch_repair.proofs.period.set_initial.Given as goal
 
 abbrev pub invariant-loop-g : goal.invariant-loop-g

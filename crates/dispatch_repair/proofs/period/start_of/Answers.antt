@@ -1,8 +1,7 @@
 -- What is left is that of the period as it is served.
 use Rattle.std.proofs.Common.{◌*◌, arith}
 use Rattle.uc_model.proofs.Common.{linear, narrow}
-use Rattle.dispatch_repair.specs.Filled.{served_by}
-use Rattle.dispatch_repair.specs.Totals.{MAX_POWER, MAX_UNITS}
+use Rattle.dispatch_repair.specs.Prelude.{served_by, MAX_POWER, MAX_UNITS}
 use Rattle.dispatch_repair.proofs.Shortages.{totals_served}
 use Rattle.dispatch_repair.proofs.period.start_of.Goals as goal
 

@@ -1,9 +1,8 @@
 -- The unit is the instance's, and what it gave before is its amount.
 use Rattle.std.proofs.Common.{arith, ◌≡◌, ◌+◌, ap, ◌∙◌, length}
 use Rattle.uc_model.specs.Prelude.{renewable_count}
-use Rattle.dispatch_repair.specs.Period.{commitment_at, lowest, highest}
-use Rattle.dispatch_repair.specs.Dispatch.{period_after}
-use Rattle.dispatch_repair.specs.Amounts.{amount_at, thermal_amount}
+use Rattle.dispatch_repair.specs.Prelude.{commitment_at, lowest, highest, period_after, thermal_amount}
+use Rattle.dispatch_repair.specs.Amounts.{amount_at}
 use Rattle.dispatch_repair.proofs.Places.{thermal_range, unit_read}
 use Rattle.dispatch_repair.proofs.ranges.reach_of.Goals as goal
 

@@ -1,7 +1,6 @@
 -- Both kinds together.
 use Rattle.std.proofs.Common.{sym, subst}
-use Rattle.dispatch_repair.specs.Dispatch.{period_after}
-use Rattle.dispatch_repair.specs.Amounts.{IsRangeOf, thermal_amount}
+use Rattle.dispatch_repair.specs.Prelude.{period_after, IsRangeOf, thermal_amount}
 use Rattle.dispatch_repair.proofs.Places.{ranges_from}
 use Rattle.dispatch_repair.proofs.ranges.set_ends.Goals as goal
 

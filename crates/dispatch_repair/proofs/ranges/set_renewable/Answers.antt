@@ -1,8 +1,7 @@
 -- A range more.
 use Rattle.std.proofs.Common.{◌≡◌, ◌<◌, arith, pos, length, subst, ap, ◌∙◌}
 use Rattle.uc_model.specs.Prelude.{renewable_count}
-use Rattle.dispatch_repair.specs.Dispatch.{period_after}
-use Rattle.dispatch_repair.specs.Amounts.{IsRangeOf}
+use Rattle.dispatch_repair.specs.Prelude.{period_after, IsRangeOf}
 use Rattle.dispatch_repair.proofs.Places.{renewable_range}
 use Rattle.dispatch_repair.proofs.Listed.{below_set}
 use Rattle.dispatch_repair.proofs.ranges.set_renewable.Goals as goal

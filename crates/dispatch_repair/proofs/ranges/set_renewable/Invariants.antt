@@ -1,7 +1,6 @@
 -- The ranges of the units so far.
 use Rattle.std.proofs.Common.{ℕ, ℤ, ◌<◌, List}
-use Rattle.dispatch_repair.specs.Dispatch.{Pattern, period_after}
-use Rattle.dispatch_repair.specs.Amounts.{IsRangeOf, range_at}
+use Rattle.dispatch_repair.specs.Prelude.{Pattern, period_after, IsRangeOf, range_at}
 use Rattle.dispatch_repair.proofs.ranges.set_renewable.Given as goal
 
 abbrev pub invariant-loop-w : goal.invariant-loop-w

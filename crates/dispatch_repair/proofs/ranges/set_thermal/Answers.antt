@@ -3,8 +3,8 @@ use Rattle.std.proofs.Common.{◌≡◌, ℕ, ◌+◌, ◌<◌, pos, subst, sym,
 use Rattle.std.proofs.Math.ListN.{set}
 use Rattle.uc_model.specs.Prelude.{renewable_count, thermal_count}
 use Rattle.uc_model.proofs.Common.{narrow}
-use Rattle.dispatch_repair.specs.Dispatch.{period_after}
-use Rattle.dispatch_repair.specs.Amounts.{IsHeadOf, IsRangeOf, amount_at, thermal_amount, range_at}
+use Rattle.dispatch_repair.specs.Prelude.{period_after, IsHeadOf, IsRangeOf, thermal_amount, range_at}
+use Rattle.dispatch_repair.specs.Amounts.{amount_at}
 use Rattle.dispatch_repair.proofs.Listed.{below_set, below_set_after, set_after}
 use Rattle.dispatch_repair.proofs.ranges.set_thermal.Goals as goal
 

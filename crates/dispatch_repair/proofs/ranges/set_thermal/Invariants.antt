@@ -1,8 +1,8 @@
 -- The ranges of the renewable units are as they were, and those of the thermal units so far their own, as their heads are.
 use Rattle.std.proofs.Common.{◌≡◌, ℕ, ◌+◌, ◌<◌}
 use Rattle.uc_model.specs.Prelude.{renewable_count}
-use Rattle.dispatch_repair.specs.Dispatch.{period_after}
-use Rattle.dispatch_repair.specs.Amounts.{IsHeadOf, IsRangeOf, amount_at, range_at, thermal_amount}
+use Rattle.dispatch_repair.specs.Prelude.{period_after, IsHeadOf, IsRangeOf, range_at, thermal_amount}
+use Rattle.dispatch_repair.specs.Amounts.{amount_at}
 use Rattle.dispatch_repair.proofs.ranges.set_thermal.Given as goal
 
 abbrev pub invariant-loop-g : goal.invariant-loop-g

@@ -8,9 +8,8 @@ use Rattle.schedule_check.specs.SizedNumbers.{IsSized, IsSizedCell}
 use Rattle.dual_model.proofs.Locality.{SameBelow}
 use Rattle.schedule_check.specs.CommitmentRules.{IsFirstBrokenRule}
 use Rattle.schedule_check.specs.WholeWatts.{IsSizedRow, commitment, row_of}
-use Rattle.dispatch_repair.specs.Period.{commitment_at}
+use Rattle.dispatch_repair.specs.Prelude.{commitment_at, printed_of}
 use Rattle.dispatch_repair.specs.inside.Broken.{IsFirstOf}
-use Rattle.dispatch_repair.specs.Rooms.{printed_of}
 use Rattle.dispatch_repair.proofs.BrokenRules.{unit_keeps, unit_breaks, more_kept, more_broken}
 use Rattle.dispatch_repair.proofs.regularity.first_broken_rule.Goals as goal
 use Rattle.dispatch_repair.proofs.regularity.first_broken_rule.Goals.{After-deref, in-Some, in_default}

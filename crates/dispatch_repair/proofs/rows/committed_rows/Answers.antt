@@ -1,7 +1,7 @@
 -- The next row is the commitment's.
 use Rattle.std.proofs.Common.{◌+◌, sym, subst, ◌∙◌, ap}
 use Rattle.std.proofs.lemmas.List.{map_push}
-use Rattle.dispatch_repair.specs.Rooms.{rows_of}
+use Rattle.dispatch_repair.specs.Prelude.{rows_of}
 use Rattle.dispatch_repair.specs.inside.Rows.{AreCommittedRows}
 use Rattle.dispatch_repair.proofs.RowsCommitted.{rows_more}
 use Rattle.dispatch_repair.proofs.rows.committed_rows.Goals as goal

@@ -1,5 +1,5 @@
 -- The rows so far are the commitment's.
-use Rattle.dispatch_repair.specs.Rooms.{rows_of}
+use Rattle.dispatch_repair.specs.Prelude.{rows_of}
 use Rattle.dispatch_repair.specs.inside.Rows.{AreCommittedRows}
 use Rattle.dispatch_repair.proofs.rows.committed_rows.Given as goal
 

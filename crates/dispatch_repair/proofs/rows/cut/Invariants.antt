@@ -1,6 +1,6 @@
 -- The rows so far are cut, and the others are as they were.
 use Rattle.std.proofs.Common.{◌≡◌, ◌++◌, take, drop, vec_len, map}
-use Rattle.dispatch_repair.specs.Rooms.{rows_of}
+use Rattle.dispatch_repair.specs.Prelude.{rows_of}
 use Rattle.dispatch_repair.proofs.rows.cut.Given as goal
 
 abbrev pub invariant-loop-i : goal.invariant-loop-i

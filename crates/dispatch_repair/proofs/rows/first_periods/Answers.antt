@@ -1,7 +1,6 @@
 -- Each row is cut to the periods.
 use Rattle.std.proofs.Common.{arith, ◌≡◌, IfOk}
-use Rattle.dispatch_repair.specs.Dispatch.{Printed, HasPeriods}
-use Rattle.dispatch_repair.specs.Rooms.{Rows, AreSameBelow, printed_of}
+use Rattle.dispatch_repair.specs.Prelude.{Printed, HasPeriods, Rows, AreSameBelow, printed_of}
 use Rattle.dispatch_repair.proofs.RowsEdits.{cut_at, cut_same, cut_shape}
 use Rattle.dispatch_repair.proofs.rows.first_periods.Goals as goal
 

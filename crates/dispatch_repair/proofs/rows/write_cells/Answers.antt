@@ -2,8 +2,8 @@
 use Rattle.std.proofs.Common.{[], ◌+◌, ◌*◌, ◌<◌, ◌≡◌, ◌-ℤ◌, length, arith, sym, subst, ◌∙◌, slice_set, w64, to_z, of_z}
 use Rattle.std.proofs.lemmas.List.{length-map}
 use Rattle.uc_model.proofs.Common.{narrow}
-use Rattle.dispatch_repair.specs.Amounts.{MAX_POWER, amount_at}
-use Rattle.dispatch_repair.specs.Rooms.{rows_of}
+use Rattle.dispatch_repair.specs.Prelude.{MAX_POWER, rows_of}
+use Rattle.dispatch_repair.specs.Amounts.{amount_at}
 use Rattle.dispatch_repair.specs.inside.Rows.{cell_of, cells_with, list_of, reserve_of, row_at, with_power}
 use Rattle.dispatch_repair.proofs.Listed.{listed_all}
 use Rattle.dispatch_repair.proofs.RowsWritten.{IsWrittenSoFar, written_more, left_kept}

@@ -1,5 +1,5 @@
 -- The rows so far are written, and what is left is the need without their reserves.
-use Rattle.dispatch_repair.specs.Rooms.{rows_of}
+use Rattle.dispatch_repair.specs.Prelude.{rows_of}
 use Rattle.dispatch_repair.proofs.RowsWritten.{IsWrittenSoFar}
 use Rattle.dispatch_repair.proofs.rows.write_cells.Given as goal
 

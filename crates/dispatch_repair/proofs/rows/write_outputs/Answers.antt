@@ -2,7 +2,7 @@
 use Rattle.std.proofs.Common.{◌≡◌, ◌<◌, ◌+◌, [], arith, length, slice_set, subst, sym, ◌∙◌}
 use Rattle.std.proofs.lemmas.List.{length-map}
 use Rattle.dispatch_repair.specs.Amounts.{amount_at}
-use Rattle.dispatch_repair.specs.Rooms.{rows_of}
+use Rattle.dispatch_repair.specs.Prelude.{rows_of}
 use Rattle.dispatch_repair.specs.inside.Rows.{list_of, outputs_with}
 use Rattle.dispatch_repair.proofs.Listed.{IsListedTo, listed_all, listed_more}
 use Rattle.dispatch_repair.proofs.rows.write_outputs.Goals as goal

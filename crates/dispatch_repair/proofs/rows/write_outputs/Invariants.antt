@@ -1,7 +1,7 @@
 -- The rows so far are written, and the others are as they were.
 use Rattle.std.proofs.Common.{[]}
 use Rattle.dispatch_repair.specs.Amounts.{amount_at}
-use Rattle.dispatch_repair.specs.Rooms.{rows_of}
+use Rattle.dispatch_repair.specs.Prelude.{rows_of}
 use Rattle.dispatch_repair.specs.inside.Rows.{outputs_with}
 use Rattle.dispatch_repair.proofs.Listed.{IsListedTo}
 use Rattle.dispatch_repair.proofs.rows.write_outputs.Given as goal

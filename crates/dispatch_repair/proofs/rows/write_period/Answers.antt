@@ -5,7 +5,7 @@ use Rattle.std.specs.declared.vec.Vec.{Vec}
 use Rattle.std.proofs.lemmas.Int.{to_z-of_z}
 use Rattle.uc_model.specs.Prelude.{IsLawfulInstance, reserve_at}
 use Rattle.uc_model.proofs.Common.{narrow}
-use Rattle.dispatch_repair.specs.Dispatch.{Instance}
+use Rattle.dispatch_repair.specs.Prelude.{Instance}
 use Rattle.dispatch_repair.proofs.rows.write_period.Goals as goal
 
 -- a reserve that is read is the instance's

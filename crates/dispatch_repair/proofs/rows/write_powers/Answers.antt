@@ -4,8 +4,8 @@ use Rattle.std.proofs.lemmas.List.{length-drop, length-map, take_all}
 use Rattle.uc_model.specs.Prelude.{renewable_count, thermal_count}
 use Rattle.uc_model.specs.declared.limits.TheConstants.{MAX_POWER}
 use Rattle.uc_model.proofs.Common.{narrow}
-use Rattle.dispatch_repair.specs.Amounts.{amount_at, thermal_amount}
-use Rattle.dispatch_repair.specs.Rooms.{rows_of}
+use Rattle.dispatch_repair.specs.Prelude.{thermal_amount, rows_of}
+use Rattle.dispatch_repair.specs.Amounts.{amount_at}
 use Rattle.dispatch_repair.specs.inside.Rows.{cells_with, list_of, outputs_with, row_at}
 use Rattle.dispatch_repair.proofs.Listed.{listed_same}
 use Rattle.dispatch_repair.proofs.rows.write_powers.Goals as goal

@@ -3,8 +3,7 @@ use Rattle.std.proofs.Common.{arith}
 use Rattle.std.proofs.lemmas.Result.{IfOk-weaker}
 use Rattle.uc_model.specs.Prelude.{printed_denominator, printed_schedule, Obeys}
 use Rattle.schedule_check.specs.PlainNumbers.{HasPlainNumbers}
-use Rattle.dispatch_repair.specs.Rooms.{printed_of}
-use Rattle.dispatch_repair.specs.Stuck.{IsDispatchOf}
+use Rattle.dispatch_repair.specs.Prelude.{printed_of, IsDispatchOf}
 use Rattle.dispatch_repair.proofs.BrokenRules.{broken_first}
 use Rattle.dispatch_repair.proofs.Obeying.{obeying}
 use Rattle.dispatch_repair.proofs.Periods.{stuck_by_rule}

@@ -1,6 +1,6 @@
 -- A period more is filled, or the dispatch is stuck in it.
 use Rattle.std.proofs.Common.{arith, suc, subst, sym}
-use Rattle.dispatch_repair.specs.Rooms.{printed_of}
+use Rattle.dispatch_repair.specs.Prelude.{printed_of}
 use Rattle.dispatch_repair.proofs.Periods.{AreFilledBelow, begun, next_filled, obstacle_of}
 use Rattle.dispatch_repair.proofs.Writing.{written_is, written_shape}
 use Rattle.dispatch_repair.proofs.schedule.dispatch_rows.Goals as goal

@@ -1,5 +1,5 @@
 -- The periods so far are filled.
-use Rattle.dispatch_repair.specs.Rooms.{printed_of, IsRoomOf}
+use Rattle.dispatch_repair.specs.Prelude.{printed_of, IsRoomOf}
 use Rattle.dispatch_repair.proofs.Periods.{AreFilledBelow}
 use Rattle.dispatch_repair.proofs.schedule.dispatch_rows.Given as goal
 

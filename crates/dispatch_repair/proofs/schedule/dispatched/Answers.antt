@@ -1,6 +1,6 @@
 -- The rows are the schedule, or what is in the way ends it.
 use Rattle.std.proofs.Common.{arith}
-use Rattle.dispatch_repair.specs.Rooms.{printed_of}
+use Rattle.dispatch_repair.specs.Prelude.{printed_of}
 use Rattle.dispatch_repair.proofs.Periods.{stuck_of}
 use Rattle.dispatch_repair.proofs.schedule.dispatched.Goals as goal
 

@@ -3,8 +3,8 @@ use Rattle.std.proofs.Common.{◌≡◌, ◌*◌, ◌==◌, ◌&&◌, ap, sym, �
 use Rattle.std.specs.Int.{int_max}
 use Rattle.uc_model.specs.declared.limits.TheConstants.{MAX_POWER, MAX_UNITS}
 use Rattle.uc_model.proofs.Common.{narrow}
-use Rattle.dispatch_repair.specs.Period.{Instance, demand_of}
-use Rattle.dispatch_repair.specs.Shortage.{lacking, served, unmet as unmet_of}
+use Rattle.dispatch_repair.specs.Prelude.{Instance, demand_of, lacking, served}
+use Rattle.dispatch_repair.specs.Shortage.{unmet as unmet_of}
 use Rattle.dispatch_repair.proofs.Shortages.{totals_served}
 use Rattle.dispatch_repair.proofs.shortage.shortage_of.Goals as goal
 

@@ -1,7 +1,8 @@
 -- The sum over the heads so far, and its size.
 use Rattle.std.proofs.Common.{◌≡◌, ◌*◌, ◌≤◌, unsigned_abs}
 use Rattle.uc_model.specs.Prelude.{sum_below}
-use Rattle.dispatch_repair.specs.Amounts.{MAX_POWER, amount_at}
+use Rattle.dispatch_repair.specs.Prelude.{MAX_POWER}
+use Rattle.dispatch_repair.specs.Amounts.{amount_at}
 use Rattle.dispatch_repair.proofs.totals.sum_of_heads.Given as goal
 
 abbrev pub invariant-loop-g : goal.invariant-loop-g

@@ -2,7 +2,7 @@
 use Rattle.std.proofs.Common.{◌≡◌, ◌*◌, ◌≤◌, ◌*ℤ◌, unsigned_abs}
 use Rattle.uc_model.specs.Prelude.{thermal_unit, bit, sum_below}
 use Rattle.uc_model.specs.declared.limits.TheConstants.{MAX_POWER}
-use Rattle.dispatch_repair.specs.Period.{commitment_at}
+use Rattle.dispatch_repair.specs.Prelude.{commitment_at}
 use Rattle.dispatch_repair.proofs.totals.sum_of_minimums.Given as goal
 
 abbrev pub invariant-loop-g : goal.invariant-loop-g

@@ -1,7 +1,7 @@
 -- The sums over the ranges so far, and their sizes.
 use Rattle.std.proofs.Common.{◌≡◌, ◌*◌, ◌≤◌, unsigned_abs}
 use Rattle.uc_model.specs.Prelude.{sum_below}
-use Rattle.dispatch_repair.specs.Amounts.{MAX_POWER, range_at}
+use Rattle.dispatch_repair.specs.Prelude.{MAX_POWER, range_at}
 use Rattle.dispatch_repair.proofs.totals.sum_of_ranges.Given as goal
 
 abbrev pub invariant-loop-n : goal.invariant-loop-n

@@ -1,8 +1,7 @@
 -- Each sum is that of its part of the ranges.
 use Rattle.std.proofs.Common.{◌≡◌, ap, ◌∙◌, length}
 use Rattle.uc_model.specs.Prelude.{renewable_count}
-use Rattle.dispatch_repair.specs.Dispatch.{period_after}
-use Rattle.dispatch_repair.specs.Period.{low_of, high_of}
+use Rattle.dispatch_repair.specs.Prelude.{period_after, low_of, high_of}
 use Rattle.dispatch_repair.specs.declared.range.Range.{Range}
 use Rattle.dispatch_repair.proofs.TotalSums.{heads_sum, renewable_part, summed, thermal_part}
 use Rattle.dispatch_repair.proofs.totals.totals.Goals as goal

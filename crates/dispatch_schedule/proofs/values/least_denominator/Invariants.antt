@@ -1,6 +1,6 @@
 -- The least common multiple so far, above 0, by small products.
 use Rattle.std.proofs.Common.{◌≡◌, pos, ◌<ℤ◌}
-use Rattle.pivot_run.specs.Pivots.{IsNarrow}
+use Rattle.pivot_run.specs.Prelude.{IsNarrow}
 use Rattle.dispatch_schedule.specs.inside.Values.{JoiningForms, joined_to}
 use Rattle.dispatch_schedule.proofs.values.least_denominator.Given as goal
 

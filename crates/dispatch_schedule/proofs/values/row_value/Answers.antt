@@ -1,7 +1,7 @@
 -- The value is the quotient.
 use Rattle.std.proofs.Common.{ap, ◌∙◌}
 use Rattle.fractions.specs.Fractions.{lowest}
-use Rattle.pivot_run.specs.Tables.{number}
+use Rattle.pivot_run.specs.Prelude.{number}
 use Rattle.dispatch_schedule.specs.ColumnValues.{row_value as value_of_row}
 use Rattle.dispatch_schedule.proofs.values.row_value.Goals as goal
 

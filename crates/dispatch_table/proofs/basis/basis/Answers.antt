@@ -2,7 +2,7 @@
 use Rattle.std.proofs.Common.{◌+◌, arith, ap, length}
 use Rattle.std.proofs.lemmas.List.{length-map}
 use Rattle.dispatch_rules.specs.Prelude.{limit_of}
-use Rattle.dispatch_program.specs.Programs.{has_artificial, is_limit, slacks}
+use Rattle.dispatch_program.specs.Prelude.{has_artificial, is_limit, slacks}
 use Rattle.dispatch_table.specs.Numbers.{program_of}
 use Rattle.dispatch_table.proofs.ColumnLists.{basis_is, basis_more, place_more}
 use Rattle.dispatch_table.proofs.basis.basis.Goals as goal

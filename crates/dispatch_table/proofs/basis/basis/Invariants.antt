@@ -1,6 +1,6 @@
 -- The basic columns of the rules so far, and the next slack and artificial columns.
 use Rattle.std.proofs.Common.{◌≡◌, ◌+◌, ◌≤◌, length, map}
-use Rattle.dispatch_program.specs.Programs.{RuleLine, all, basic_column, counted, has_artificial, is_limit, picked, place, slacks}
+use Rattle.dispatch_program.specs.Prelude.{RuleLine, all, basic_column, counted, has_artificial, is_limit, picked, place, slacks}
 use Rattle.dispatch_table.specs.Numbers.{program_of}
 use Rattle.dispatch_table.proofs.basis.basis.Given as goal
 

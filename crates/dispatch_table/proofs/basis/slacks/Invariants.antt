@@ -1,6 +1,6 @@
 -- The slack columns of the rules so far.
 use Rattle.std.proofs.Common.{◌≡◌, ◌≤◌}
-use Rattle.dispatch_program.specs.Programs.{counted, is_limit}
+use Rattle.dispatch_program.specs.Prelude.{counted, is_limit}
 use Rattle.dispatch_table.specs.Numbers.{program_of}
 use Rattle.dispatch_table.proofs.basis.slacks.Given as goal
 

@@ -1,6 +1,6 @@
 -- A column more, where the rule has one.
 use Rattle.std.proofs.Common.{map}
-use Rattle.dispatch_program.specs.Programs.{Artificial, has_artificial}
+use Rattle.dispatch_program.specs.Prelude.{Artificial, has_artificial}
 use Rattle.dispatch_table.specs.Numbers.{column_of, program_of}
 use Rattle.dispatch_table.proofs.Pushed.{push_picked}
 use Rattle.dispatch_table.proofs.columns.push_artificials.Goals as goal

@@ -1,6 +1,6 @@
 -- The columns so far.
 use Rattle.std.proofs.Common.{◌≡◌, ◌++◌, map}
-use Rattle.dispatch_program.specs.Programs.{Slack, is_limit, picked}
+use Rattle.dispatch_program.specs.Prelude.{Slack, is_limit, picked}
 use Rattle.dispatch_table.specs.Numbers.{column_of, program_of}
 use Rattle.dispatch_table.proofs.columns.push_slacks.Given as goal
 

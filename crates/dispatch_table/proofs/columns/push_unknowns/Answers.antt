@@ -1,6 +1,6 @@
 -- A column more.
 use Rattle.std.proofs.Common.{map, refl, true}
-use Rattle.dispatch_program.specs.Programs.{Unknown, all}
+use Rattle.dispatch_program.specs.Prelude.{Unknown, all}
 use Rattle.dispatch_table.specs.Numbers.{column_of}
 use Rattle.dispatch_table.proofs.Pushed.{map_push, push_picked}
 use Rattle.dispatch_table.proofs.columns.push_unknowns.Goals as goal

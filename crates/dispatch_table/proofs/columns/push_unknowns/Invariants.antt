@@ -1,6 +1,6 @@
 -- The columns so far.
 use Rattle.std.proofs.Common.{◌≡◌, ◌++◌, map}
-use Rattle.dispatch_program.specs.Programs.{Unknown, all, picked}
+use Rattle.dispatch_program.specs.Prelude.{Unknown, all, picked}
 use Rattle.dispatch_table.specs.Numbers.{column_of}
 use Rattle.dispatch_table.proofs.columns.push_unknowns.Given as goal
 

@@ -3,8 +3,8 @@ use Rattle.std.proofs.Common.{arith, map, ap, sym, subst, ◌∙◌, ◌^◌, �
 use Rattle.std.proofs.lemmas.List.{take_all}
 use Rattle.std.proofs.lemmas.Simd.{map-map}
 use Rattle.uc_model.proofs.Sizes.{wide}
-use Rattle.pivot_run.specs.Rows.{IsSmall}
-use Rattle.dispatch_program.specs.Programs.{line_number}
+use Rattle.pivot_run.specs.Prelude.{IsSmall}
+use Rattle.dispatch_program.specs.Prelude.{line_number}
 use Rattle.dispatch_table.specs.Numbers.{column_of, line_of, program_of}
 use Rattle.dispatch_table.specs.declared.column.Column.{Column}
 use Rattle.dispatch_table.proofs.ColumnLists.{push_small, push_taken, read_column}

@@ -1,7 +1,7 @@
 -- The numbers in the columns so far, and that each is small.
 use Rattle.std.proofs.Common.{◌≡◌, ℕ, ◌^◌, ◌<◌, map, take, unsigned_abs}
-use Rattle.pivot_run.specs.Rows.{entry}
-use Rattle.dispatch_program.specs.Programs.{line_number}
+use Rattle.pivot_run.specs.Prelude.{entry}
+use Rattle.dispatch_program.specs.Prelude.{line_number}
 use Rattle.dispatch_table.specs.Numbers.{column_of, line_of, program_of}
 use Rattle.dispatch_table.specs.declared.column.Column.{Column}
 use Rattle.dispatch_table.proofs.rows.line_numbers.Given as goal

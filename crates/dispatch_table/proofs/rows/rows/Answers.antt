@@ -1,7 +1,7 @@
 -- The row of one rule more, and the last two.
 use Rattle.std.proofs.Common.{◌≡◌, ℕ, suc, ◌+◌, ◌++◌, arith, ap, sym, subst, ◌∙◌, List, [], ◌∷◌, map, length, ℤ, append_assoc}
 use Rattle.std.proofs.lemmas.List.{length-map, map-append}
-use Rattle.dispatch_program.specs.Programs.{Line, RuleLine, SumLine, CostLine, all, columns_of, line_number, picked}
+use Rattle.dispatch_program.specs.Prelude.{Line, RuleLine, SumLine, CostLine, all, columns_of, line_number, picked}
 use Rattle.dispatch_rules.specs.Prelude.{limit_of}
 use Rattle.dispatch_table.specs.Numbers.{program_of}
 use Rattle.dispatch_table.proofs.rows.rows.Goals as goal

@@ -1,6 +1,6 @@
 -- The rows of the rules so far.
 use Rattle.std.proofs.Common.{◌≡◌, map}
-use Rattle.dispatch_program.specs.Programs.{RuleLine, all, columns_of, line_number, picked}
+use Rattle.dispatch_program.specs.Prelude.{RuleLine, all, columns_of, line_number, picked}
 use Rattle.dispatch_table.specs.Numbers.{program_of}
 use Rattle.dispatch_table.proofs.rows.rows.Given as goal
 

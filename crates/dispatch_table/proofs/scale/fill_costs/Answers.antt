@@ -1,6 +1,6 @@
 -- Each amount is the task's.
 use Rattle.std.proofs.Common.{◌≡◌, ◌^◌, ◌<◌, arith, sym, subst, ap, ◌∙◌, unsigned_abs, below_more}
-use Rattle.pivot_run.specs.Pivots.{IsNarrow}
+use Rattle.pivot_run.specs.Prelude.{IsNarrow}
 use Rattle.dispatch_rules.specs.declared.amount.Amount.{Amount}
 use Rattle.dispatch_rules.specs.Prelude.{amount_at}
 use Rattle.dispatch_table.specs.Tasks.{AmountForms, scaled_cost, task_of}

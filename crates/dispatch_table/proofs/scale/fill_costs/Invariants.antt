@@ -1,6 +1,6 @@
 -- The costs so far, which small products made.
 use Rattle.std.proofs.Common.{◌≡◌, ℕ, ℤ, ◌*◌, ◌^◌, ◌<◌, unsigned_abs}
-use Rattle.pivot_run.specs.Rows.{entry}
+use Rattle.pivot_run.specs.Prelude.{entry}
 use Rattle.dispatch_rules.specs.Prelude.{amount_at}
 use Rattle.dispatch_table.specs.Tasks.{AmountForms, scaled_cost, task_of}
 use Rattle.dispatch_table.proofs.scale.fill_costs.Given as goal

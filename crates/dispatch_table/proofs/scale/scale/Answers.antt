@@ -2,7 +2,7 @@
 use Rattle.std.proofs.Common.{◌^◌, ◌<◌, ◌≤◌, refl, length, arith, sym, subst, ap, ◌∙◌, pos, ◌<ℤ◌, to_z, unsigned_abs, below_more, add-one}
 use Rattle.std.specs.Int.{w128}
 use Rattle.std.proofs.lemmas.Int.{unsigned_abs-mul}
-use Rattle.pivot_run.specs.Pivots.{IsNarrow}
+use Rattle.pivot_run.specs.Prelude.{IsNarrow}
 use Rattle.fractions.specs.Fractions.{JoinForms, joined, missing_factor}
 use Rattle.dispatch_rules.specs.declared.amount.Amount.{Amount}
 use Rattle.dispatch_rules.specs.Prelude.{cost_fraction, scale_to, amount_at}

@@ -1,8 +1,8 @@
 -- The parts make up the table of the program.
 use Rattle.std.proofs.Common.{◌≡◌, ℕ, ◌+◌, arith, ap, sym, subst, ◌∙◌, List, length, map, ℤ}
 use Rattle.std.proofs.lemmas.List.{length-map}
-use Rattle.pivot_run.specs.Tables.{IsTable}
-use Rattle.dispatch_program.specs.Programs.{Program, CostLine, RightSide, basic_column, columns_of, line_number, lines_of, place, start_rows, start_table}
+use Rattle.pivot_run.specs.Prelude.{IsTable}
+use Rattle.dispatch_program.specs.Prelude.{Program, CostLine, RightSide, basic_column, columns_of, line_number, lines_of, place, start_rows, start_table}
 use Rattle.dispatch_program.proofs.StartTables.{starts_are_tables}
 use Rattle.dispatch_program.proofs.Starts.{columns_long}
 use Rattle.dispatch_rules.specs.Prelude.{limit_of}

@@ -5,7 +5,7 @@ use Rattle.dual_model.proofs.NodeValues.{node_value_of, units_value_of}
 use Rattle.dual_model.proofs.UnitValues.{unit_value_of, value_of, term_of}
 use Rattle.dual_model.proofs.Patterns.{best_pattern, better}
 use Rattle.dual_model.proofs.Terms.{least_reduced_cost, greatest_bound, corner_least, pair_least}
-use Rattle.dual_model.specs.Examples.{alone, stuck_unit, zero_prices}
+use Rattle.dual_model.specs.Prelude.{alone, stuck_unit, zero_prices}
 use Rattle.dual_model.proofs.examples.decided_nodes_are_computed.Goals as goal
 
 pub returns : goal.returns

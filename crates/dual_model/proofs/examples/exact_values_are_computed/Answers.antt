@@ -1,10 +1,8 @@
 -- Each example is computed, but for the exact values of the unit of 40 MW, in watts.
 use Rattle.std.proofs.Common.{◌≡◌, ℕ, ◌<◌, refl, subst, arith, pos, neg_ℤ}
-use Rattle.uc_model.specs.Examples.{mw}
-use Rattle.dual_model.specs.UnitValue.{IsUnitValue}
-use Rattle.dual_model.specs.ExactValue.{floored_cost, IsExactUnitValue}
-use Rattle.dual_model.specs.Tree.{root}
-use Rattle.dual_model.specs.Examples.{alone, sinking_unit, ray}
+use Rattle.uc_model.specs.Prelude.{mw}
+use Rattle.dual_model.specs.Prelude.{IsUnitValue, IsExactUnitValue, root, alone, sinking_unit, ray}
+use Rattle.dual_model.specs.ExactValue.{floored_cost}
 use Rattle.dual_model.proofs.Computed.{computed_value, computed_unit_value}
 use Rattle.dual_model.proofs.NodeValues.{node_value_of, units_value_of}
 use Rattle.dual_model.proofs.UnitValues.{unit_value_of, value_of, term_of}

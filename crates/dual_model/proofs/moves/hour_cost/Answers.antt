@@ -3,7 +3,7 @@ use Rattle.std.proofs.Common.{◌*◌, ◌≤◌, ap, ◌∙◌, lit<, arith, �
 use Rattle.uc_model.specs.declared.limits.TheConstants.{MAX_POWER, MAX_TERM}
 use Rattle.uc_model.proofs.Common.{difference-is, difference-size, from-size, narrow, product-fits, product-is, product-size, sum-fits, wide-size}
 use Rattle.uc_model.proofs.Sizes.{wide}
-use Rattle.dual_model.specs.CostToGo.{MAX_MOVE}
+use Rattle.dual_model.specs.Prelude.{MAX_MOVE}
 use Rattle.dual_model.specs.declared.limits.TheConstants.{MAX_UNIT_PRICE}
 use Rattle.dual_model.proofs.moves.hour_cost.Goals as goal
 

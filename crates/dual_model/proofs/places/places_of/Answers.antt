@@ -1,7 +1,7 @@
 -- A row's unit, and those before it that have no place yet, begin at the row.
 use Rattle.std.proofs.Common.{◌≡◌, suc, ◌+◌, ◌-◌, ◌<◌, ◌++◌, length, take, replicate, slice_index_or, pos, sym, subst, ◌∙◌, add-one, arith}
 use Rattle.std.proofs.lemmas.List.{take_all}
-use Rattle.dual_model.specs.Prices.{RampRow}
+use Rattle.dual_model.specs.Prelude.{RampRow}
 use Rattle.dual_model.proofs.UnitRows.{ArePlacesSoFar, all_places, more_places}
 use Rattle.dual_model.proofs.places.places_of.Goals as goal
 

@@ -1,6 +1,6 @@
 use Rattle.std.proofs.Common.{◌∙◌, ap}
 use Rattle.outside.specs.declared.slot.Slot.TheVariants.{Instance, CertOut}
-use Rattle.outside.specs.Slots.{SlotState}
+use Rattle.outside.specs.Prelude.{SlotState}
 use Rattle.format_tests.proofs.system_files.is_refused.Goals as goal
 
 pub slurp-read-requires : goal.slurp-read-requires

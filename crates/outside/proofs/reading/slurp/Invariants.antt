@@ -1,6 +1,5 @@
 use Rattle.std.proofs.Common.{◌+◌, ◌-◌, ◌≤◌, vec_len}
-use Rattle.outside.specs.Slots.{SameBut}
-use Rattle.outside.specs.Reading.{Reads}
+use Rattle.outside.specs.Prelude.{SameBut, Reads}
 use Rattle.outside.proofs.reading.slurp.Given as goal
 
 abbrev pub invariant-chunks : goal.invariant-chunks

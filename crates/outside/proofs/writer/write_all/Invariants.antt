@@ -1,5 +1,5 @@
 use Rattle.std.proofs.Common.{length, ◌-◌, ◌≤◌, take}
-use Rattle.outside.specs.Sinks.{WriterWrites}
+use Rattle.outside.specs.Prelude.{WriterWrites}
 use Rattle.outside.proofs.writer.write_all.Given as goal
 
 abbrev pub invariant-loop-done : goal.invariant-loop-done

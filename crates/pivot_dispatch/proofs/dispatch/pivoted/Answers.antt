@@ -1,7 +1,6 @@
 -- The run.
 use Rattle.std.proofs.Common.{subst}
-use Rattle.pivot_run.specs.Halts.{IfMet}
-use Rattle.pivot_run.specs.Stages.{StopsAt, state_of}
+use Rattle.pivot_run.specs.Prelude.{IfMet, StopsAt, state_of}
 use Rattle.dispatch_table.proofs.StartSizes.{rows_follow}
 use Rattle.pivot_dispatch.proofs.Stopping.{stopped_is}
 use Rattle.pivot_dispatch.proofs.dispatch.pivoted.Goals as goal

@@ -1,6 +1,6 @@
 -- The numbers before c are small.
 use Rattle.std.proofs.Common.{ℕ, ◌^◌, ◌<◌, unsigned_abs}
-use Rattle.pivot_run.specs.Rows.{entry}
+use Rattle.pivot_run.specs.Prelude.{entry}
 use Rattle.pivot_run.proofs.numbers.are_small.Given as goal
 
 abbrev pub invariant-loop-c : goal.invariant-loop-c

@@ -1,6 +1,6 @@
 -- None of the numbers before c is larger than the one found.
 use Rattle.std.proofs.Common.{ℕ, ◌<◌, ◌≤◌, length, unsigned_abs}
-use Rattle.pivot_run.specs.Rows.{entry}
+use Rattle.pivot_run.specs.Prelude.{entry}
 use Rattle.pivot_run.proofs.numbers.largest.Given as goal
 
 abbrev pub invariant-loop-c : goal.invariant-loop-c

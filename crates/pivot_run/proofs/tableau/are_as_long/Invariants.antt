@@ -1,6 +1,6 @@
 -- The rows before k have so many.
 use Rattle.std.proofs.Common.{◌≡◌, ℕ, ◌<◌, length}
-use Rattle.pivot_run.specs.Pivots.{row_at}
+use Rattle.pivot_run.specs.Prelude.{row_at}
 use Rattle.pivot_run.proofs.tableau.are_as_long.Given as goal
 
 abbrev pub invariant-loop-k : goal.invariant-loop-k

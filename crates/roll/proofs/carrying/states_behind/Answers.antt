@@ -2,7 +2,7 @@
 use Rattle.std.proofs.Common.{List, ◌≡◌, ◌+◌, [], sym, subst, ◌∙◌, arith}
 use Rattle.std.proofs.lemmas.List.{get_or_read}
 use Rattle.uc_model.specs.Prelude.{no_unit, IsLawfulThermal}
-use Rattle.roll.specs.Left.{CarriedUnit, IsLeftBy}
+use Rattle.roll.specs.Prelude.{CarriedUnit, IsLeftBy}
 use Rattle.roll.specs.inside.Rows.{AreStatesBehind, row_at, unit_at}
 use Rattle.roll.proofs.CarriedRows.{states_more}
 use Rattle.roll.proofs.carrying.states_behind.Goals as goal

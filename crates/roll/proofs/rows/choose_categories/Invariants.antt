@@ -2,7 +2,7 @@
 use Rattle.std.proofs.Common.{ℕ, ◌<◌}
 use Rattle.uc_model.specs.Prelude.{commitment_of}
 use Rattle.schedule_check.specs.WholeWatts.{category, cell}
-use Rattle.roll.specs.Stitched.{SameDispatch}
+use Rattle.roll.specs.Prelude.{SameDispatch}
 use Rattle.start_costs.specs.Cheapest.{HasLeastCategory}
 use Rattle.roll.proofs.rows.choose_categories.Given as goal
 

@@ -1,6 +1,6 @@
 -- Nothing is kept yet.
 use Rattle.std.proofs.Common.{length, sym, subst, refl, ◌∙◌}
-use Rattle.roll.specs.Left.{Printed}
+use Rattle.roll.specs.Prelude.{Printed}
 use Rattle.roll.specs.inside.Joined.{AreEmpty}
 use Rattle.roll.proofs.StitchedParts.{nothing_kept}
 use Rattle.roll.proofs.stitching.begin.Goals as goal

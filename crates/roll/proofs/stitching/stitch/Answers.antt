@@ -1,7 +1,6 @@
 -- The rows are those of the schedules, and so is what they make.
 use Rattle.std.proofs.Common.{arith, length, refl}
-use Rattle.roll.specs.Left.{Printed}
-use Rattle.roll.specs.Stitched.{IsStitched}
+use Rattle.roll.specs.Prelude.{Printed, IsStitched}
 use Rattle.roll.proofs.StitchedParts.{HasParts, numbers_as, outputs_as, stitched_is, stitched_kept, thermal_as}
 use Rattle.roll.proofs.stitching.stitch.Goals as goal
 

@@ -2,7 +2,7 @@
 use Rattle.std.proofs.Common.{List, ◌≡◌, ◌+◌, [], sym, subst, ◌∙◌, arith}
 use Rattle.std.proofs.lemmas.List.{get_or_read}
 use Rattle.uc_model.specs.Prelude.{no_unit}
-use Rattle.roll.specs.Left.{Cell}
+use Rattle.roll.specs.Prelude.{Cell}
 use Rattle.roll.specs.inside.Joined.{AreStitchedRows, IsStitchedRow}
 use Rattle.roll.specs.inside.Rows.{row_at, unit_at}
 use Rattle.roll.proofs.StitchedParts.{rows_more}

@@ -1,7 +1,6 @@
 -- The window is one of a lawful instance, from lawful states.
 use Rattle.std.proofs.Common.{rules, ◌-◌}
-use Rattle.roll.specs.Left.{Instance}
-use Rattle.roll.specs.NextWindow.{IsWindow}
+use Rattle.roll.specs.Prelude.{Instance, IsWindow}
 use Rattle.roll.proofs.LawfulWindows.{window_lawful}
 use Rattle.roll.proofs.windows.window.Goals as goal
 

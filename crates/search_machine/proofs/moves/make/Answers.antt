@@ -1,6 +1,6 @@
 -- The leaf is what the move makes of it.
 use Rattle.std.proofs.Common.{ap, sym, ◌∙◌}
-use Rattle.search_machine.specs.Moves.{closed, empty_leaf, tree_after}
+use Rattle.search_machine.specs.Prelude.{closed, empty_leaf, tree_after}
 use Rattle.search_machine.proofs.moves.make.Goals as goal
 
 pub returns-in-Again : goal.returns-in-Again

@@ -2,7 +2,7 @@
 use Rattle.std.proofs.Common.{◌≡◌, ◌+◌, ◌≤◌, ap, sym, ◌∙◌, subst, arith}
 use Rattle.branch_tree.specs.Prelude.{node_count, replaced, split_leaf, TreeView, IsOpenAt, IsFreeAt}
 use Rattle.branch_tree.proofs.Grown.{closed_count}
-use Rattle.search_machine.specs.Moves.{closed, split}
+use Rattle.search_machine.specs.Prelude.{closed, split}
 use Rattle.search_machine.proofs.Growth.{open_again, free_again}
 use Rattle.search_machine.proofs.moves.split.Goals as goal
 

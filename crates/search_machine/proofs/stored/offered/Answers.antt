@@ -4,7 +4,7 @@ use Rattle.std.specs.Int.{w64, w128}
 use Rattle.std.proofs.lemmas.Int.{to_z-of_z}
 use Rattle.uc_model.specs.Prelude.{IsFloor}
 use Rattle.uc_model.proofs.Common.{IsFloor_unique, IsFloor-int_div_euclid}
-use Rattle.search_machine.specs.Moves.{bound_of}
+use Rattle.search_machine.specs.Prelude.{bound_of}
 use Rattle.search_machine.specs.declared.stored.Stored.{Stored}
 use Rattle.search_machine.proofs.stored.offered.Goals as goal
 

@@ -1,7 +1,6 @@
 -- One step of the recursion, whose costs fit.
 use Rattle.std.proofs.Common.{◌≡◌, ℕ, suc, ◌-◌, true, false, sym, ap, subst, ◌∙◌, arith, ℤ, Option, None, if◌then◌else◌}
-use Rattle.dual_model.specs.Prelude.{IsWithin, MAX_COST_TO_GO}
-use Rattle.dual_model.specs.CostToGo.{total_of, lesser_of}
+use Rattle.dual_model.specs.Prelude.{IsWithin, MAX_COST_TO_GO, total_of, lesser_of}
 use Rattle.unit_runs.specs.RunsToGo.{may_stay, runs_to_go, switch_cost}
 use Rattle.unit_runs.proofs.Changes.{by_change}
 use Rattle.state_walk.specs.inside.ExactTable.{Fix, exact_entry}

@@ -1,8 +1,7 @@
 -- One step of the recursion, whose costs fit.
 use Rattle.std.proofs.Common.{◌≡◌, ℕ, suc, ◌-◌, true, false, sym, ap, subst, ◌∙◌, arith, ℤ, Option}
 use Rattle.uc_model.specs.Prelude.{period_count}
-use Rattle.dual_model.specs.Prelude.{move, cost_to_go, IsWithin, MAX_COST_TO_GO}
-use Rattle.dual_model.specs.CostToGo.{total_of, lesser_of}
+use Rattle.dual_model.specs.Prelude.{move, cost_to_go, IsWithin, MAX_COST_TO_GO, total_of, lesser_of}
 use Rattle.state_walk.specs.inside.WalkTable.{CostToGo, Fix, Terms, Thermal, entry}
 use Rattle.dual_model.proofs.CostSizes.{move-fits, cost_to_go-fits}
 use Rattle.state_walk.proofs.walk.entry_before.Goals as goal

@@ -5,7 +5,7 @@ use Rattle.branch_tree.specs.Prelude.{is_schedule_within}
 use Rattle.found_schedule.specs.Found.{IsFoundIfAny}
 use Rattle.found_schedule.proofs.Whole.{found_if_accepted}
 use Rattle.search_machine.specs.Prelude.{bound_of}
-use Rattle.book.specs.Opening.{Opening}
+use Rattle.book.specs.Prelude.{Opening}
 use Rattle.search_desk.specs.Best.{IsNoWorse, cost_of}
 use Rattle.search_desk.specs.Dispatches.{IsPivotedBook}
 use Rattle.search_desk.specs.Grown.{IsGrown, IsPivotedGrown}

@@ -1,6 +1,6 @@
 -- Each end from the steps before it.
 use Rattle.std.specs.Prelude.{None, refl}
-use Rattle.command_runs.specs.Writing.{IsTold, FailsToTell}
+use Rattle.command_runs.specs.Prelude.{IsTold, FailsToTell}
 use Rattle.command_runs.proofs.ReportEnds.{told_end, untold_end}
 use Rattle.command_runs.proofs.HandedUp.{handed_up}
 use Rattle.uc_check.proofs.Verdicts.{stopped_failure, of_claims}

@@ -1,6 +1,6 @@
 -- Each end from the steps before it.
 use Rattle.std.specs.Prelude.{None, refl}
-use Rattle.command_runs.specs.Outside.{outside_of}
+use Rattle.command_runs.specs.Prelude.{outside_of}
 use Rattle.uc_check.specs.Upgrading.{IsUpgradeFailure}
 use Rattle.command_runs.proofs.ReportEnds.{told_end, untold_end}
 use Rattle.command_runs.proofs.HandedUp.{handed_up}

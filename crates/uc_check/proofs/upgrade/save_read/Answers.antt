@@ -3,8 +3,7 @@ use Rattle.std.proofs.Common.{arith}
 use Rattle.std.proofs.lemmas.Grind.{common_steps}
 use Rattle.std.proofs.lemmas.Result.{on_err_weaker}
 use Rattle.outside.specs.declared.slot.Slot.TheVariants.{CertOut}
-use Rattle.outside.specs.Counts.{HasRisen}
-use Rattle.outside.specs.ToldBytes.{Appends}
+use Rattle.outside.specs.Prelude.{HasRisen, Appends}
 use Rattle.outside.proofs.Appending.{all-appended, appended-since-nothing}
 use Rattle.cert_text.specs.CertificateText.{written_text}
 use Rattle.uc_check.proofs.upgrade.save_read.Goals as goal

@@ -1,7 +1,7 @@
 -- The run ended with an answer, or with a fault that it told.
 use Rattle.std.proofs.Common.{inl, inr, refl, subst, sym}
 use Rattle.command_line.specs.Asked.{roll_asked}
-use Rattle.command_runs.specs.Outside.{outside_of}
+use Rattle.command_runs.specs.Prelude.{outside_of}
 use Rattle.uc_cli.specs.RollRun.{IsRollFailure}
 use Rattle.uc_cli.proofs.rolling.roll_windows.Goals as goal
 

@@ -2,7 +2,7 @@
 use Rattle.std.proofs.Common.{refl, None}
 use Rattle.command_line.specs.Asked.{solve_asked}
 use Rattle.command_runs.proofs.HandedUp.{handed_up}
-use Rattle.command_runs.specs.Outside.{outside_of}
+use Rattle.command_runs.specs.Prelude.{outside_of}
 use Rattle.command_runs.specs.declared.ending.Failure.{Failure}
 use Rattle.uc_cli.specs.Run.{IsFailure}
 use Rattle.uc_cli.proofs.Endings.{stopped, unwritten, done}

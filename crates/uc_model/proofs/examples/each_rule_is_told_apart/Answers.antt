@@ -1,7 +1,6 @@
 -- Each example is computed.
 use Rattle.std.proofs.Common.{◌≡◌, [], ◌∷◌, refl}
-use Rattle.uc_model.specs.Rules.{Rule, MustRun}
-use Rattle.uc_model.specs.Examples.{breaking, broken_rules}
+use Rattle.uc_model.specs.Prelude.{Rule, MustRun, breaking, broken_rules}
 use Rattle.uc_model.proofs.examples.each_rule_is_told_apart.Goals as goal
 
 broken_rules-breaking : (rule : Rule) → broken_rules (breaking rule) ≡ rule ∷ []

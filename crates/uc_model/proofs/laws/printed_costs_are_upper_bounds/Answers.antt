@@ -1,4 +1,4 @@
-use Rattle.uc_model.specs.PrintedSchedule.{printed_denominator}
+use Rattle.uc_model.specs.Prelude.{printed_denominator}
 use Rattle.uc_model.proofs.PrintedCosts.{cost-le-printed, printed_cost-fits, watts-factor}
 use Rattle.uc_model.proofs.laws.printed_costs_are_upper_bounds.Goals as goal
 

@@ -1,7 +1,7 @@
 -- The tolerance grows at most as fast as the cost's size.
 use Rattle.std.proofs.Common.{◌≡◌, ℕ, suc, ◌+◌, ◌-◌, ◌*◌, ◌/◌, ◌≤◌, ap, ℤ, pos, negsuc, ◌-ℤ◌, ◌≤ℤ◌, arith}
 use Rattle.std.proofs.Math.Nat.{mul-le-mul_left, mul-le-mul_right}
-use Rattle.uc_model.specs.Tolerance.{tolerance_of}
+use Rattle.uc_model.specs.Prelude.{tolerance_of}
 use Rattle.uc_model.proofs.Ring.{linear}
 use Rattle.uc_model.proofs.tolerance.cost_less_tolerance_never_decreases.Goals as goal
 

@@ -2,7 +2,7 @@
 use Rattle.std.proofs.Common.{◌≡◌, ◌≤◌, ap, subst, arith, ℤ, ◌-ℤ◌, unsigned_abs, Option, Some, IfSome}
 use Rattle.std.proofs.lemmas.Int.{ints}
 use Rattle.uc_model.proofs.Common.{linear}
-use Rattle.dual_model.specs.CostToGo.{total_of}
+use Rattle.dual_model.specs.Prelude.{total_of}
 use Rattle.dual_model.proofs.Optimum.{total_of-parts}
 use Rattle.unit_exact.specs.inside.Choices.{Choice, choice_cost, IsReached}
 use Rattle.unit_exact.specs.inside.Problems.{MAX_WAY}

@@ -3,8 +3,7 @@ use Rattle.std.proofs.Common.{lit<, true, false, sym, ap, ◌∙◌, arith, Some
 use Rattle.std.proofs.lemmas.Bool.{cond-true}
 use Rattle.uc_model.proofs.Common.{abs_wide}
 use Rattle.uc_model.proofs.Sizes.{wide}
-use Rattle.dual_model.specs.Prelude.{may_move}
-use Rattle.dual_model.specs.CostToGo.{total_of}
+use Rattle.dual_model.specs.Prelude.{may_move, total_of}
 use Rattle.dual_model.proofs.Following.{may-turn_on}
 use Rattle.unit_exact.specs.inside.Choices.{choice_cost}
 use Rattle.unit_exact.specs.inside.Problems.{MAX_SWITCH}

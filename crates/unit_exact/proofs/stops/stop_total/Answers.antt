@@ -2,7 +2,7 @@
 use Rattle.std.proofs.Common.{◌≡◌, lit<, inl, refl, suc, ◌-◌, ◌≤◌, true, false, sym, ap, subst, ◌∙◌, arith, Some, None, IfSome, unsigned_abs}
 use Rattle.uc_model.proofs.Common.{abs_wide}
 use Rattle.uc_model.proofs.Sizes.{wide}
-use Rattle.dual_model.specs.CostToGo.{total_of}
+use Rattle.dual_model.specs.Prelude.{total_of}
 use Rattle.dual_model.proofs.Following.{may-turn_off}
 use Rattle.unit_runs.specs.CostThrough.{run_cost}
 use Rattle.unit_exact.specs.inside.Choices.{choice_cost, IsCostBelow}

@@ -5,8 +5,7 @@ use Rattle.uc_model.specs.Prelude.{sigma, period_count}
 use Rattle.uc_model.specs.declared.limits.TheConstants.{MAX_COST}
 use Rattle.uc_model.proofs.Common.{from-size, narrow, wide-size, sigma-size}
 use Rattle.uc_model.proofs.Sizes.{wide}
-use Rattle.dual_model.specs.Prelude.{may_be_off, may_be_on, MAX_MOVE}
-use Rattle.dual_model.specs.CostToGo.{total_of}
+use Rattle.dual_model.specs.Prelude.{may_be_off, may_be_on, MAX_MOVE, total_of}
 use Rattle.unit_path.specs.inside.Choices.{choice_cost}
 use Rattle.unit_path.specs.inside.Hours.{hour_in}
 use Rattle.unit_path.proofs.Entries.{cold_start-entry, off_until-entry, on_until-entry, onward-entry}

@@ -3,8 +3,7 @@ use Rattle.std.proofs.Common.{arith, ◌≡◌, ◌<◌, ℕ, true, sym, ap, ◌
 use Rattle.std.proofs.lemmas.Bool.{eq-eqb, le-leb, lt-leb}
 use Rattle.uc_model.proofs.Sizes.{wide}
 use Rattle.uc_model.specs.Prelude.{period_count, may_stop}
-use Rattle.dual_model.specs.Prelude.{MAX_MOVE}
-use Rattle.dual_model.specs.CostToGo.{total_of}
+use Rattle.dual_model.specs.Prelude.{MAX_MOVE, total_of}
 use Rattle.unit_path.specs.inside.Choices.{Fix, Terms, Thermal, Choice, choice_cost, stop_cost}
 use Rattle.unit_path.specs.inside.Hours.{leave_cost, IsStopIn}
 use Rattle.unit_path.proofs.Going.{stop_cost-at, to_go}

@@ -2,8 +2,7 @@
 use Rattle.std.proofs.Common.{◌≡◌, ◌+◌, ◌-◌, ◌⊎◌, true, ap, subst, ◌∙◌, arith, lit<, None}
 use Rattle.std.proofs.lemmas.Bool.{le-leb, lt-leb}
 use Rattle.uc_model.proofs.Sizes.{wide}
-use Rattle.dual_model.specs.Prelude.{MAX_COST_TO_GO}
-use Rattle.dual_model.specs.CostToGo.{lesser_of, total_of}
+use Rattle.dual_model.specs.Prelude.{MAX_COST_TO_GO, lesser_of, total_of}
 use Rattle.unit_path.specs.inside.Choices.{choice_cost, longer_of, stays, stop_cost}
 use Rattle.unit_path.specs.inside.Hours.{hour_in}
 use Rattle.dual_model.proofs.Costs.{lesser-none}

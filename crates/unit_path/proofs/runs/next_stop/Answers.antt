@@ -1,8 +1,7 @@
 -- A stop at once, or a run that goes on; at the end of the horizon the last hour.
 use Rattle.std.proofs.Common.{◌≡◌, suc, true, refl, sym, ap, ◌∙◌, arith, None, eq-eqb}
 use Rattle.uc_model.proofs.Sizes.{wide}
-use Rattle.dual_model.specs.Prelude.{move}
-use Rattle.dual_model.specs.CostToGo.{lesser_of, total_of}
+use Rattle.dual_model.specs.Prelude.{move, lesser_of, total_of}
 use Rattle.unit_path.specs.inside.Choices.{stop_cost}
 use Rattle.unit_path.specs.inside.Hours.{stay_cost}
 use Rattle.unit_path.proofs.Going.{on-step, to_go}

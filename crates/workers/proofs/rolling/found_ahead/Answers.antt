@@ -1,7 +1,6 @@
 -- The window is the one behind what is kept.
 use Rattle.std.proofs.Common.{◌≡◌, ◌-◌, arith, subst}
-use Rattle.roll.specs.Left.{IsCarried}
-use Rattle.roll.specs.NextWindow.{IsWindow}
+use Rattle.roll.specs.Prelude.{IsCarried, IsWindow}
 use Rattle.workers.proofs.Rolls.{found_ahead}
 use Rattle.workers.proofs.rolling.found_ahead.Goals as goal
 

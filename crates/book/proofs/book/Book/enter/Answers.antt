@@ -6,8 +6,7 @@ use Rattle.std.specs.Vec.{vec_capacity}
 use Rattle.branch_tree.specs.Prelude.{node_count}
 use Rattle.search_machine.specs.Prelude.{IsHolding, kept, tree_after, tickets_of}
 use Rattle.search_machine.proofs.OrderlySteps.{same_count}
-use Rattle.book.specs.BookView.{BookView, state_of}
-use Rattle.book.specs.Calls.{MayBe, committed}
+use Rattle.book.specs.Prelude.{BookView, state_of, MayBe, committed}
 use Rattle.book.specs.inside.Chains.{LogView, raised}
 use Rattle.book.specs.inside.Kept.{IsKept, view_of, rooms_of}
 use Rattle.book.proofs.Books.{room_of, run_holds, few_children, kept_committed}

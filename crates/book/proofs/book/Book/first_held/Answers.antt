@@ -3,8 +3,7 @@ use Rattle.std.proofs.Common.{◌≡◌, ◌+◌, suc, ap, sym, ◌∙◌, subst
 use Rattle.std.proofs.lemmas.List.{length-map}
 use Rattle.std.proofs.lemmas.Option.{slice_get_within, get_or_from_slice_get}
 use Rattle.search_machine.specs.Prelude.{IsHeldIn, holder_in}
-use Rattle.book.specs.BookView.{BookView}
-use Rattle.book.specs.Claims.{holder_of, holders}
+use Rattle.book.specs.Prelude.{BookView, holder_of, holders}
 use Rattle.book.proofs.book.Book.first_held.Goals as goal
 
 pub returns-clause-none : goal.returns-clause-none

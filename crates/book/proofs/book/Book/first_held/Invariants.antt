@@ -1,6 +1,6 @@
 -- No unit so far is held.
 use Rattle.std.proofs.Common.{ℕ, ◌<◌, ◌+◌}
-use Rattle.book.specs.Claims.{IsHeldBy}
+use Rattle.book.specs.Prelude.{IsHeldBy}
 use Rattle.book.proofs.book.Book.first_held.Given as goal
 
 abbrev pub invariant-loop-place : goal.invariant-loop-place

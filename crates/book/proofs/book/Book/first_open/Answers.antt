@@ -2,7 +2,7 @@
 use Rattle.std.proofs.Common.{sym, subst, arith}
 use Rattle.branch_tree.proofs.Grown.{open_below}
 use Rattle.search_machine.specs.Prelude.{IsOpen}
-use Rattle.book.specs.BookView.{BookView, state_of}
+use Rattle.book.specs.Prelude.{BookView, state_of}
 use Rattle.book.proofs.book.Book.first_open.Goals as goal
 
 pub returns-clause-none : goal.returns-clause-none

@@ -2,7 +2,7 @@
 use Rattle.std.proofs.Common.{arith, ◌↔◌, All, IsTrue, subst}
 use Rattle.std.proofs.lemmas.Int.{to_z-of_z}
 use Rattle.search_machine.specs.Prelude.{entries_of}
-use Rattle.book.specs.BookView.{BookView}
+use Rattle.book.specs.Prelude.{BookView}
 use Rattle.book.specs.inside.Chains.{IsElsewhere}
 use Rattle.book.proofs.Scales.{above_all}
 use Rattle.book.proofs.book.Book.fresh.Goals as goal

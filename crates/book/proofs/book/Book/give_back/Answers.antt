@@ -2,7 +2,7 @@
 use Rattle.std.proofs.Common.{sym, subst}
 use Rattle.std.specs.Vec.{vec_capacity}
 use Rattle.search_machine.specs.Prelude.{IsHolding}
-use Rattle.book.specs.BookView.{BookView, state_of}
+use Rattle.book.specs.Prelude.{BookView, state_of}
 use Rattle.book.specs.inside.Kept.{ClaimsView, view_of, rooms_of, IsKept}
 use Rattle.book.proofs.Books.{room_of, kept_given_back}
 use Rattle.book.proofs.book.Book.give_back.Goals as goal

@@ -1,11 +1,10 @@
 -- What is held is a node.
 use Rattle.std.proofs.Common.{◌<◌, subst}
 use Rattle.std.specs.Vec.{vec_capacity}
-use Rattle.book.specs.BookView.{BookView}
+use Rattle.book.specs.Prelude.{BookView, IsHeldBy}
 use Rattle.book.specs.inside.Kept.{view_of, rooms_of}
 use Rattle.branch_tree.specs.Prelude.{node_count}
 use Rattle.std.specs.Option.{IfSome}
-use Rattle.book.specs.Claims.{IsHeldBy}
 use Rattle.book.proofs.Books.{has_room, some_too}
 use Rattle.book.proofs.book.Book.held_by.Goals as goal
 

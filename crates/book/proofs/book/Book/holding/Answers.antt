@@ -6,8 +6,7 @@ use Rattle.std.proofs.lemmas.Option.{slice_get-get_or}
 use Rattle.dual_model.specs.declared.table.Table.{Table}
 use Rattle.search_machine.specs.Prelude.{stored_at}
 use Rattle.search_machine.specs.declared.stored.Stored.{Stored}
-use Rattle.book.specs.BookView.{BookView}
-use Rattle.book.specs.Calls.{IsStoredAt}
+use Rattle.book.specs.Prelude.{BookView, IsStoredAt}
 use Rattle.book.specs.inside.Kept.{Rooms, view_of, rooms_of}
 use Rattle.book.proofs.Books.{HasRoom, has_room, stored_within}
 use Rattle.book.proofs.book.Book.holding.Given.{Over}

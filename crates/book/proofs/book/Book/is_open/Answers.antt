@@ -3,7 +3,7 @@ use Rattle.std.proofs.Common.{sym, subst, arith}
 use Rattle.std.proofs.lemmas.Bool.{cases_Bool}
 use Rattle.branch_tree.proofs.Grown.{open_below}
 use Rattle.search_machine.specs.Prelude.{IsOpen}
-use Rattle.book.specs.BookView.{BookView, state_of}
+use Rattle.book.specs.Prelude.{BookView, state_of}
 use Rattle.book.proofs.Books.{live_open}
 use Rattle.book.proofs.book.Book.is_open.Goals as goal
 

@@ -1,7 +1,7 @@
 -- The law of runs, of this one.
 use Rattle.std.proofs.Common.{subst}
 use Rattle.std.specs.Vec.{vec_capacity}
-use Rattle.book.specs.Running.{IsRunning}
+use Rattle.book.specs.Prelude.{IsRunning}
 use Rattle.book.specs.inside.Kept.{view_of, rooms_of}
 use Rattle.book.proofs.Books.{kept_runs}
 use Rattle.book.proofs.book.Book.keeps_run.Goals as goal

@@ -1,6 +1,6 @@
 -- What is open, and what is held.
 use Rattle.std.proofs.Common.{refl}
-use Rattle.book.specs.BookView.{state_of}
+use Rattle.book.specs.Prelude.{state_of}
 use Rattle.book.proofs.Books.{held_is}
 use Rattle.book.proofs.book.Book.settled.Goals as goal
 

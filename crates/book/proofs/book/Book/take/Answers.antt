@@ -2,11 +2,10 @@
 use Rattle.std.proofs.Common.{ℕ, ap, sym, subst, arith}
 use Rattle.std.specs.Vec.{vec_capacity}
 use Rattle.search_machine.specs.Prelude.{IsOpen}
-use Rattle.book.specs.BookView.{BookView, state_of}
+use Rattle.book.specs.Prelude.{BookView, state_of, Held}
 use Rattle.book.specs.inside.Kept.{ClaimsView, view_of, rooms_of, IsKept}
 use Rattle.std.proofs.Common.{◌≢◌, ◌∙◌, length, ◌∷◌, ◌++◌, []}
 use Rattle.branch_tree.proofs.Grown.{open_numbered}
-use Rattle.book.specs.Claims.{Held}
 use Rattle.book.proofs.Books.{run_holds, kept_claimed}
 use Rattle.book.proofs.book.Book.take.Goals as goal
 

@@ -1,7 +1,7 @@
 -- One claim more, which is noted at its node.
 use Rattle.std.proofs.Common.{◌<◌, true, length, set, refl, sym, subst, arith}
 use Rattle.search_machine.specs.Prelude.{IsHeldIn}
-use Rattle.book.specs.Claims.{Claim, Held, holders}
+use Rattle.book.specs.Prelude.{Claim, Held, holders}
 use Rattle.book.specs.inside.Kept.{ClaimsView, AreNoted}
 use Rattle.book.proofs.Noted.{noted_push}
 use Rattle.book.proofs.claims.Claims.add.Goals as goal

@@ -4,7 +4,7 @@ use Rattle.std.proofs.lemmas.List.{get_or_read, length-map}
 use Rattle.std.proofs.lemmas.Option.{slice_get_within}
 use Rattle.search_machine.specs.declared.holder.Holder.{Holder}
 use Rattle.search_machine.proofs.Claims.{holder_place}
-use Rattle.book.specs.Claims.{Claim, IsHeldBy, holder_of, holders, no_claim, claim_of, ended}
+use Rattle.book.specs.Prelude.{Claim, IsHeldBy, holder_of, holders, no_claim, claim_of, ended}
 use Rattle.book.specs.inside.Kept.{ClaimsView, AreNoted}
 use Rattle.book.proofs.Noted.{noted_ended}
 use Rattle.book.proofs.Units.{holders_after}

@@ -4,7 +4,7 @@ use Rattle.std.specs.Int.{w128}
 use Rattle.std.proofs.lemmas.Int.{to_z-of_z}
 use Rattle.search_machine.specs.Prelude.{IsMoveLegal}
 use Rattle.search_machine.specs.declared.event.Move.{Move}
-use Rattle.book.specs.BookView.{state_of}
+use Rattle.book.specs.Prelude.{state_of}
 use Rattle.search_desk.specs.Commits.{move_of}
 use Rattle.closing_pass.proofs.Moves.{move_legal}
 use Rattle.closing_pass.proofs.settling.Settling.action.Goals as goal

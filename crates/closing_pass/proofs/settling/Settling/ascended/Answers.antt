@@ -4,7 +4,7 @@ use Rattle.dual_model.specs.Prelude.{IsLawfulTable}
 use Rattle.uc_model.proofs.Common.{linear}
 use Rattle.branch_tree.specs.declared.found.Entry.{Entry}
 use Rattle.search_machine.specs.Prelude.{entries_of}
-use Rattle.book.specs.BookView.{state_of}
+use Rattle.book.specs.Prelude.{state_of}
 use Rattle.uc_model.specs.declared.instance.Instance.{Instance}
 use Rattle.closing_pass.proofs.Settled.{fresh_second}
 use Rattle.closing_pass.proofs.settling.Settling.ascended.Goals as goal

@@ -4,8 +4,7 @@ use Rattle.std.specs.Int.{w128}
 use Rattle.std.proofs.lemmas.Int.{to_z-of_z}
 use Rattle.dual_model.specs.Prelude.{IsNodeOf}
 use Rattle.branch_tree.specs.Prelude.{node_count, IsNodeAt, HasFreeCell, IsOutcome}
-use Rattle.book.specs.BookView.{BookView}
-use Rattle.book.specs.Calls.{IsCommitted, IsStoredAt, MayCommit}
+use Rattle.book.specs.Prelude.{BookView, IsCommitted, IsStoredAt, MayCommit}
 use Rattle.uc_model.specs.declared.instance.Instance.{Instance}
 use Rattle.search_desk.specs.Best.{cost_of}
 use Rattle.search_desk.specs.Commits.{move_for}

@@ -1,7 +1,7 @@
 -- An equality has an artificial column, before that of the sum.
 use Rattle.std.proofs.Common.{arith}
 use Rattle.std.proofs.lemmas.Bool.{or_left}
-use Rattle.dispatch_program.specs.Programs.{is_negated}
+use Rattle.dispatch_program.specs.Prelude.{is_negated}
 use Rattle.dispatch_prices.specs.Readings.{rules_at}
 use Rattle.dispatch_prices.proofs.Places.{artificial_within}
 use Rattle.dispatch_prices.proofs.multipliers.FinalTableau.demand_multiplier.Goals as goal

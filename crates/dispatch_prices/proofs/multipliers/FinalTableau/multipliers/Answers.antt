@@ -2,7 +2,7 @@
 use Rattle.std.proofs.Common.{◌+◌, [], ◌∷◌, ◌++◌, below_more, sym, subst, arith}
 use Rattle.std.specs.Int.{w64}
 use Rattle.std.proofs.lemmas.Int.{to_z-of_z, fits_signed_from_abs}
-use Rattle.pivot_run.specs.Pivots.{IsNarrow, row_at}
+use Rattle.pivot_run.specs.Prelude.{IsNarrow, row_at}
 use Rattle.dispatch_prices.specs.ReadOff.{AreMultipliers, RuleForms}
 use Rattle.dispatch_prices.specs.Readings.{rules_at}
 use Rattle.dispatch_prices.proofs.MultiplierList.{multipliers_more}

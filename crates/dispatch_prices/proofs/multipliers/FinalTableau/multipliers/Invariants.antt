@@ -1,6 +1,6 @@
 -- The rules before have their multipliers.
 use Rattle.std.proofs.Common.{ℕ, ◌<◌}
-use Rattle.pivot_run.specs.Pivots.{IsNarrow, row_at}
+use Rattle.pivot_run.specs.Prelude.{IsNarrow, row_at}
 use Rattle.dispatch_prices.specs.ReadOff.{AreMultipliers, RuleForms}
 use Rattle.dispatch_prices.specs.Readings.{ArePlaces, rules_at}
 use Rattle.dispatch_prices.proofs.multipliers.FinalTableau.multipliers.Given as goal

@@ -1,6 +1,6 @@
 -- The columns of the next rule lie within the table.
 use Rattle.std.proofs.Common.{ap, not, arith}
-use Rattle.dispatch_program.specs.Programs.{bump, is_limit, has_artificial}
+use Rattle.dispatch_program.specs.Prelude.{bump, is_limit, has_artificial}
 use Rattle.dispatch_prices.specs.Readings.{rules_at}
 use Rattle.dispatch_prices.proofs.Places.{counted_next}
 use Rattle.dispatch_prices.proofs.multipliers.FinalTableau.next_places.Goals as goal

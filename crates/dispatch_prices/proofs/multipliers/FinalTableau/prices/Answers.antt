@@ -2,7 +2,7 @@
 use Rattle.std.proofs.Common.{◌<◌, ◌≤◌, ◌∙◌, sym, ap, subst, length, unsigned_abs, pos, slice_index_or}
 use Rattle.std.specs.Int.{w64}
 use Rattle.std.proofs.lemmas.Int.{to_z-of_z}
-use Rattle.pivot_run.specs.Pivots.{row_at}
+use Rattle.pivot_run.specs.Prelude.{row_at}
 use Rattle.uc_model.specs.declared.instance.Instance.{Instance}
 use Rattle.dispatch_prices.specs.ReadOff.{AreMultipliers}
 use Rattle.dispatch_prices.specs.Readings.{rules_at}

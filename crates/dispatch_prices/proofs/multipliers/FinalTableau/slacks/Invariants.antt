@@ -1,6 +1,6 @@
 -- The rules before that are no equality.
 use Rattle.std.proofs.Common.{◌≡◌, ◌≤◌}
-use Rattle.dispatch_program.specs.Programs.{counted, is_limit}
+use Rattle.dispatch_program.specs.Prelude.{counted, is_limit}
 use Rattle.dispatch_prices.specs.Readings.{rules_at}
 use Rattle.dispatch_prices.proofs.multipliers.FinalTableau.slacks.Given as goal
 

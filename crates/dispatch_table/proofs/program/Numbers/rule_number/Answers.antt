@@ -4,7 +4,7 @@ use Rattle.std.proofs.lemmas.List.{get_or-map, get_or_default}
 use Rattle.std.specs.Int.{w128}
 use Rattle.uc_model.specs.Prelude.{Demand}
 use Rattle.uc_model.proofs.Sizes.{wide}
-use Rattle.dispatch_program.specs.Programs.{HasColumn, rule_number}
+use Rattle.dispatch_program.specs.Prelude.{HasColumn, rule_number}
 use Rattle.dispatch_rules.specs.declared.amount.Amount.TheVariants.{Shed}
 use Rattle.dispatch_rules.specs.Prelude.{limit_of, limit, parts, times_in}
 use Rattle.dispatch_table.specs.declared.column.Column.{Column}

@@ -1,6 +1,6 @@
 -- A rule more.
 use Rattle.std.proofs.Common.{if◌then◌else◌, pos, length}
-use Rattle.dispatch_program.specs.Programs.{has_artificial, rule_number}
+use Rattle.dispatch_program.specs.Prelude.{has_artificial, rule_number}
 use Rattle.dispatch_table.specs.Numbers.{column_of, program_of}
 use Rattle.dispatch_table.proofs.ColumnLists.{off_more}
 use Rattle.dispatch_table.proofs.program.Numbers.rules_off.Goals as goal

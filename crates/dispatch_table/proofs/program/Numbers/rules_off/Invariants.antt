@@ -1,7 +1,7 @@
 -- The rules so far, and how large they are together.
 use Rattle.std.proofs.Common.{◌≡◌, ◌*◌, ◌^◌, ◌≤◌, if◌then◌else◌, pos, unsigned_abs}
 use Rattle.uc_model.specs.Prelude.{sum_below}
-use Rattle.dispatch_program.specs.Programs.{has_artificial, rule_number}
+use Rattle.dispatch_program.specs.Prelude.{has_artificial, rule_number}
 use Rattle.dispatch_table.specs.Numbers.{column_of, program_of}
 use Rattle.dispatch_table.proofs.program.Numbers.rules_off.Given as goal
 

@@ -1,7 +1,6 @@
 -- The part between two units' places is the unit's rows.
 use Rattle.std.proofs.Common.{◌≡◌, ℕ, ◌+◌, ◌-◌, ◌≤◌, List, take, drop, sym, ap, subst, ◌∙◌, add-one, arith}
-use Rattle.dual_model.specs.PriceTable.{PriceTable}
-use Rattle.dual_model.specs.Prices.{RampRow, AreRising, row_of, rows_before}
+use Rattle.dual_model.specs.Prelude.{PriceTable, RampRow, AreRising, row_of, rows_before}
 use Rattle.dual_model.specs.Prices.{unit_rows as rows_of}
 use Rattle.dual_model.proofs.UnitRows.{before-next, look_up, rising-part}
 use Rattle.dual_model.proofs.table.Table.unit_rows.Goals as goal

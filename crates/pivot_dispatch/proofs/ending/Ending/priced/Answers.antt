@@ -4,8 +4,8 @@ use Rattle.std.specs.Int.{w64, w128}
 use Rattle.std.proofs.lemmas.Int.{to_z-of_z}
 use Rattle.std.proofs.lemmas.Result.{IfOk-weaker}
 use Rattle.uc_model.proofs.Common.{linear}
-use Rattle.pivot_run.specs.Pivots.{row_at, IsNarrow}
-use Rattle.dispatch_program.specs.Programs.{multiplier}
+use Rattle.pivot_run.specs.Prelude.{row_at, IsNarrow}
+use Rattle.dispatch_program.specs.Prelude.{multiplier}
 use Rattle.dispatch_rules.specs.Prelude.{limit_of, program}
 use Rattle.dispatch_prices.proofs.TimesBy.{limit_is}
 use Rattle.dispatch_prices.specs.ReadOff.{ReadingForms, is_priced, limit_in}

@@ -1,7 +1,7 @@
 -- The ray.
 use Rattle.std.proofs.Common.{◌≡◌, subst, arith}
 use Rattle.std.proofs.lemmas.Result.{IfOk-weaker}
-use Rattle.pivot_run.specs.Pivots.{row_at}
+use Rattle.pivot_run.specs.Prelude.{row_at}
 use Rattle.dispatch_rules.specs.Prelude.{program}
 use Rattle.dispatch_prices.specs.ReadOff.{HasSmallMultipliers}
 use Rattle.dispatch_prices.specs.Readings.{IsUnfit}

@@ -2,8 +2,7 @@
 use Rattle.std.proofs.Common.{ap, sym, subst, ◌∙◌, length}
 use Rattle.std.proofs.lemmas.List.{length-map}
 use Rattle.std.proofs.lemmas.Result.{err_from_is_err_and}
-use Rattle.pivot_run.specs.Rows.{IsSmall, reduced}
-use Rattle.pivot_run.specs.Pivots.{ClearingForms, IsWide}
+use Rattle.pivot_run.specs.Prelude.{IsSmall, reduced, ClearingForms, IsWide}
 use Rattle.pivot_run.specs.inside.Entries.{CombiningForms, number_at}
 use Rattle.pivot_run.proofs.EntryLists.{length_spread}
 use Rattle.pivot_run.proofs.Halting.{met_weaker}

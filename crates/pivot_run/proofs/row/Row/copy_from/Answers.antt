@@ -1,6 +1,6 @@
 -- The entries of the one are those of the other.
 use Rattle.std.proofs.Common.{arith, ap, sym, subst, ◌∙◌, length}
-use Rattle.pivot_run.specs.Rows.{IsLargest}
+use Rattle.pivot_run.specs.Prelude.{IsLargest}
 use Rattle.pivot_run.proofs.EntryLists.{length_spread}
 use Rattle.pivot_run.proofs.SpreadRows.{copied, moved, view_of}
 use Rattle.pivot_run.proofs.row.Row.copy_from.Goals as goal

@@ -1,9 +1,7 @@
 -- The rows form the product.
 use Rattle.std.proofs.Common.{subst}
 use Rattle.std.proofs.lemmas.Result.{err_from_is_err_and}
-use Rattle.pivot_run.specs.Halts.{IfMet}
-use Rattle.pivot_run.specs.Pivots.{IsWide, PivotForms}
-use Rattle.pivot_run.specs.Tables.{Table}
+use Rattle.pivot_run.specs.Prelude.{IfMet, IsWide, PivotForms, Table}
 use Rattle.pivot_run.proofs.tableau.Tableau.pivot.Goals as goal
 
 pub returns-in_err-pivot-clause-wide : goal.returns-in_err-pivot-clause-wide

@@ -1,6 +1,6 @@
 -- Whether or not the book takes the commit, it is kept.
 use Rattle.std.proofs.Common.{◌≡◌, subst, sym}
-use Rattle.book.specs.Calls.{IsCommitAnswer}
+use Rattle.book.specs.Prelude.{IsCommitAnswer}
 use Rattle.search_desk.specs.Commits.{Stands, move_for}
 use Rattle.search_desk.specs.Desks.{DeskView, IsPrunedBy}
 use Rattle.search_desk.specs.Dispatches.{IsFirstByDispatch}

@@ -1,9 +1,7 @@
 -- The lesser of both caps, which is as small as both.
 use Rattle.std.proofs.Common.{◌≡◌, ◌≤◌, ◌∙◌, ap, arith, ℤ, ◌-ℤ◌, ◌*ℤ◌, to_z, of_z, unsigned_abs}
 use Rattle.std.specs.Int.{w64, int_min}
-use Rattle.uc_model.specs.Commitment.{start_reduction, stop_reduction}
-use Rattle.uc_model.specs.Limits.{MAX_POWER}
-use Rattle.uc_model.specs.Sums.{bit}
+use Rattle.uc_model.specs.Prelude.{start_reduction, stop_reduction, MAX_POWER, bit}
 use Rattle.uc_model.proofs.Ring.{mul-one}
 use Rattle.uc_model.proofs.Sizes.{abs_narrow}
 use Rattle.uc_model.proofs.instance.Thermal.cell_cap.Goals as goal

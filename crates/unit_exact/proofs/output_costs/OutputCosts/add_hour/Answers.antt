@@ -1,6 +1,6 @@
 -- The steps of an hour one behind the other where there are costs, and none where there are none.
 use Rattle.std.proofs.Common.{◌+◌, true, subst, arith, ℤ, ◌+ℤ◌, ◌-ℤ◌, Option, Some}
-use Rattle.dual_model.specs.CostToGo.{total_of}
+use Rattle.dual_model.specs.Prelude.{total_of}
 use Rattle.hull_function.specs.Hours.{IsCostsOf, MAX_HOUR, MAX_OUTPUT_COST, MAX_RESERVE, MAX_RUN}
 use Rattle.hull_function.proofs.HourSums.{limit-bits, limit-is}
 use Rattle.unit_runs.specs.CostThrough.{least_between, reserve_cost}
