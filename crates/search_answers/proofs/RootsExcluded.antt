@@ -14,9 +14,9 @@ use Rattle.decommitment.specs.MostOnStuck.{TellsMostOn}
 use Rattle.decommitment.specs.declared.pass.Standing.{Standing}
 use Rattle.decommitment.specs.declared.pass.Standing.TheVariants as standing
 use Rattle.opening.specs.Blocked.{HasNoBlockedUnit}
-use Rattle.opening.specs.Rays.{IsFirstRay}
+use Rattle.opening.specs.Rays.{IsFirstRay, IsRayPositive}
 use Rattle.opening.proofs.Blocked.{not_blocked}
-use Rattle.opening.proofs.OpeningRays.{first_is_one as first_ray_is_one, no_ray, one_first}
+use Rattle.opening.proofs.OpeningRays.{no_ray, one_first}
 use Rattle.opening_tables.proofs.RayTables.{ray_lawful}
 use Rattle.pivot_closing.proofs.Closing.{closed_statuses}
 use Rattle.pivot_closing.proofs.PivotedSteps.{none_pivoted}
@@ -184,7 +184,7 @@ ray_lone exact exact_dispatch instance n budget gap stands layout lawful each un
     (λ other again. record {
       number = 0;
       tree = refl;
-      table = ap (λ k. Some (ray_table instance k)) (first_ray_is_one exact instance n other first again);
+      table = ap (λ k. Some (ray_table instance k)) (one_first (IsRayPositive exact instance) n other first.positive again.positive first.first again.first);
       log = refl;
     })
     (λ patterns unblocked. record {
