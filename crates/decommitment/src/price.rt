@@ -149,31 +149,22 @@ fn missing_cost(alloc: Global, changed: &Changed) -> Result<i128, NoMemory>
         → cost ≡ sum_below changed.now.instance.now.periods (printed_shortage_cost changed.now.instance.now printed)) }
     ensures size { IfOk result (λ cost. unsigned_abs cost ≤ 168 * 2 ^ 96) }
 {
-    let shed = sheds(alloc, changed.fills)?;
-    let short = shorts(alloc, changed.fills)?;
+    let (shed, short) = lacks(alloc, changed.fills)?;
     Ok(shortages_cost(1, changed.instance, &shed, &short))
 }
 
-// The demand that is unserved in each period, in watts.
-fn sheds(alloc: Global, fills: &[Fill]) -> Result<Vec<i64>, NoMemory>
-    ensures count { IfOk result (λ shed. length shed.items ≡ length fills.now) }
-    ensures each { IfOk result (λ shed. (t : ℕ) → t < length fills.now → slice_index_or shed.items t (pos 0) ≡ (lack_at fills.now t).shed) }
+// The demand that is unserved and the reserve that is missing in each period, in watts.
+fn lacks(alloc: Global, fills: &[Fill]) -> Result<(Vec<i64>, Vec<i64>), NoMemory>
+    ensures shed_count { IfOk result (λ lacks. length lacks.0.items ≡ length fills.now) }
+    ensures short_count { IfOk result (λ lacks. length lacks.1.items ≡ length fills.now) }
+    ensures shed { IfOk result (λ lacks. (t : ℕ) → t < length fills.now → slice_index_or lacks.0.items t (pos 0) ≡ (lack_at fills.now t).shed) }
+    ensures short { IfOk result (λ lacks. (t : ℕ) → t < length fills.now → slice_index_or lacks.1.items t (pos 0) ≡ (lack_at fills.now t).short) }
 {
     let mut shed = Vec::new(alloc);
-    for t in 0..fills.len() {
-        shed.push(fills[t].shortage.shed)?;
-    }
-    Ok(shed)
-}
-
-// The reserve that is missing in each period, in watts.
-fn shorts(alloc: Global, fills: &[Fill]) -> Result<Vec<i64>, NoMemory>
-    ensures count { IfOk result (λ short. length short.items ≡ length fills.now) }
-    ensures each { IfOk result (λ short. (t : ℕ) → t < length fills.now → slice_index_or short.items t (pos 0) ≡ (lack_at fills.now t).short) }
-{
     let mut short = Vec::new(alloc);
     for t in 0..fills.len() {
+        shed.push(fills[t].shortage.shed)?;
         short.push(fills[t].shortage.short)?;
     }
-    Ok(short)
+    Ok((shed, short))
 }

@@ -20,13 +20,23 @@ fn put_line(case: &Case, text: &mut String, line: &str) -> Result<(), AllocError
     })
 }
 
+// A device with its name, and what was written to it.
+#[derive(Clone, Copy)]
+struct Device<'a> {
+    place: Place,
+    name: &'a str,
+    bytes: Option<&'a [u8]>,
+}
+
+impl<'a> Device<'a> {
+    fn new(place: Place, name: &'a str, bytes: Option<&'a [u8]>) -> Self {
+        Device { place, name, bytes }
+    }
+}
+
 // The lines written to a device. Behind a last line without an end stands a stroke.
-fn put_lines(
-    case: &Case,
-    text: &mut String,
-    (place, name): (Place, &str),
-    bytes: Option<&[u8]>,
-) -> Result<(), AllocError> {
+fn put_lines(case: &Case, text: &mut String, device: Device) -> Result<(), AllocError> {
+    let Device { place, name, bytes } = device;
     let Some(lines) = bytes.and_then(|bytes| std::str::from_utf8(bytes).ok()) else {
         return writeln!(text, "{name}: no text");
     };
@@ -43,21 +53,17 @@ fn put_lines(
 }
 
 // What was written to a device. Where it is compared to what the last run wrote there, it is told whether it is the same, or a front of it.
-fn put_written(
-    case: &Case,
-    text: &mut String,
-    (place, name): (Place, &str),
-    bytes: Option<&[u8]>,
-) -> Result<(), AllocError> {
+fn put_written(case: &Case, text: &mut String, device: Device) -> Result<(), AllocError> {
+    let Device { place, name, bytes } = device;
     let (written, last) = (bytes.unwrap_or_default(), case.last.to(place));
     if !case.is_compared || written.is_empty() {
-        put_lines(case, text, (place, name), bytes)
+        put_lines(case, text, device)
     } else if written == last {
         writeln!(text, "{name}: the same")
     } else if last.starts_with(written) {
         writeln!(text, "{name}: a front")
     } else {
-        put_lines(case, text, (place, name), bytes)
+        put_lines(case, text, device)
     }
 }
 
@@ -119,13 +125,16 @@ pub(crate) fn text_of(alloc: Global, case: &Case, ended: &Ended) -> Result<Strin
     put_state(alloc, case, &mut text, ended)?;
     let certificate = ended.files.cert_out.memory.written();
     put_sought(case, &mut text, certificate)?;
-    put_written(case, &mut text, (Place::CertOut, "new.cert"), certificate)?;
+    let device = Device::new(Place::CertOut, "new.cert", certificate);
+    put_written(case, &mut text, device)?;
     let report = ended.out.memory.written();
-    put_written(case, &mut text, (Place::Output, "output"), report)?;
+    let device = Device::new(Place::Output, "output", report);
+    put_written(case, &mut text, device)?;
     if ended.out.memory.flushed() != report {
         text.push_str("output not flushed\n")?;
     }
     let fault = ended.err.memory.written();
-    put_written(case, &mut text, (Place::Fault, "error"), fault)?;
+    let device = Device::new(Place::Fault, "error", fault);
+    put_written(case, &mut text, device)?;
     Ok(text)
 }

@@ -24,14 +24,5 @@ machine_parts_code =
 abbrev pub machine_code : Coded Machine
 machine_code = code_by MachineParts machine_parts_code
     (λ m. (m.budget, (m.gap, (m.tree, (m.tables, (m.claims, (m.log, (m.best, m.desks))))))))
-    (λ p. record {
-      budget = p.0;
-      gap = p.1.0;
-      tree = p.1.1.0;
-      tables = p.1.1.1.0;
-      claims = p.1.1.1.1.0;
-      log = p.1.1.1.1.1.0;
-      best = p.1.1.1.1.1.1.0;
-      desks = p.1.1.1.1.1.1.1;
-    })
+    (λ p. record { budget = p.0; gap = p.1.0; tree = p.1.1.0; tables = p.1.1.1.0; claims = p.1.1.1.1.0; log = p.1.1.1.1.1.0; best = p.1.1.1.1.1.1.0; desks = p.1.1.1.1.1.1.1 })
     (λ _. refl)

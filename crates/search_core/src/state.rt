@@ -174,15 +174,10 @@ impl State {
         ensures log { result.2 ≡ self.log }
     {
         let State {
-            budget: _,
-            gap: _,
-            count: _,
             tree,
             tables,
             log,
-            claims: _,
-            best: _,
-            desks: _,
+            ..
         } = self;
         (tree, tables, log)
     }

@@ -422,48 +422,7 @@ fn children_come_and_go(rt: HostRuntime) -> Result<(), Fail> {
 // More turns than a worker needs until the other one has spent the budget.
 const TURNS: u32 = 1_000_000;
 
-// Commits the claim of the root at a table of its own.
-fn evaluate<C: Case>(
-    rt: &impl Wait,
-    alloc: Global,
-    desk: &Mutex<Book<C>>,
-    instance: &Instance,
-    worker: u8,
-    unit: u32,
-) -> Result<(), NoMemory>
-    requires lawful { IsLawfulInstance instance.now }
-    requires same { instance.now ≡ C.opening.instance }
-{
-    let root = Node::root(alloc);
-    let table = table(alloc, instance, u16::try_from(unit).unwrap_or(0))?;
-    let outcome = outcome(alloc, instance, &root, &table)?;
-    desk.lock(rt)
-        .commit(worker, unit, &root, table, false, outcome, Move::Again);
-    Ok(())
-}
-
-// Claims the root, where it is open.
-fn take_turn<C: Case>(
-    rt: &impl Wait,
-    alloc: Global,
-    desk: &Mutex<Book<C>>,
-    instance: &Instance,
-    worker: u8,
-) -> Result<(), NoMemory>
-    requires lawful { IsLawfulInstance instance.now }
-    requires same { instance.now ≡ C.opening.instance }
-{
-    let claimed = desk.lock(rt).claim(worker, 0);
-    match claimed {
-        Claimed::Mine { unit, .. } => evaluate(rt, alloc, desk, instance, worker, unit),
-        Claimed::NotOpen | Claimed::Spent => {
-            yield_now();
-            Ok(())
-        }
-    }
-}
-
-// A worker that claims the root in turn with another one.
+// A worker that claims the root in turn with another one, and commits each claim at a table of its own.
 fn work<C: Case>(
     rt: &impl Wait,
     alloc: Global,
@@ -475,7 +434,17 @@ fn work<C: Case>(
     requires same { instance.now ≡ C.opening.instance }
 {
     for _ in 0..TURNS {
-        take_turn(rt, alloc, desk, instance, worker)?;
+        let claimed = desk.lock(rt).claim(worker, 0);
+        match claimed {
+            Claimed::Mine { unit, .. } => {
+                let root = Node::root(alloc);
+                let table = table(alloc, instance, u16::try_from(unit).unwrap_or(0))?;
+                let outcome = outcome(alloc, instance, &root, &table)?;
+                desk.lock(rt)
+                    .commit(worker, unit, &root, table, false, outcome, Move::Again);
+            }
+            Claimed::NotOpen | Claimed::Spent => yield_now(),
+        }
     }
     Ok(())
 }

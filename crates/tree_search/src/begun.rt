@@ -82,19 +82,8 @@ impl<'a> Begun<'a> {
     pub(crate) fn into_schedule(self) -> Option<(Printed, i64)>
         ensures { result ≡ self.entry.start.best }
     {
-        let Begun {
-            worker,
-            start,
-            best,
-            pass,
-        } = self;
-        drop((worker, best, pass));
-        let SearchStart {
-            opening,
-            best: schedule,
-            next,
-        } = start;
-        drop((opening, next));
+        let Begun { start, .. } = self;
+        let SearchStart { best: schedule, .. } = start;
         schedule
     }
 

@@ -1,19 +1,15 @@
 -- The unit is the instance's, and its cells have prices.
-use Rattle.std.proofs.Common.{◌*◌, ◌^◌, ◌<◌, ◌∙◌, arith, ap, length, subst, sym}
-use Rattle.uc_model.specs.Prelude.{IsLawfulThermal, printed_cell_cost, sum_below}
+use Rattle.std.proofs.Common.{◌<◌, arith, ap, length, subst, sym}
 use Rattle.uc_model.specs.declared.instance.Thermal.{Thermal}
 use Rattle.uc_model.proofs.Sizes.{wide}
 use Rattle.schedule_check.specs.WholeWatts.{HasPrice, cell}
 use Rattle.dispatch_repair.proofs.Places.{unit_read}
-use Rattle.decommitment.specs.inside.Runs.{IsCellOf, IsUnitCost}
+use Rattle.decommitment.specs.inside.Runs.{IsCellOf}
 use Rattle.decommitment.proofs.RunCosts.{has_price, row_total}
 use Rattle.decommitment.proofs.price.price_row.Goals as goal
 
 pub row_cost-requires-clause-unit : goal.row_cost-requires-clause-unit
-row_cost-requires-clause-unit c =
-    let instance = c.args.changed.now.instance.now in
-    subst IsLawfulThermal (sym (unit_read instance c.as_slice.result.now c.args.g c.index-as_slice-g.result c.as_slice.ensures c.requires.unit c.index-as_slice-g.is))
-    (c.requires.changed.lawful.thermal c.args.g c.requires.unit)
+row_cost-requires-clause-unit c = grind (arith, unit_read, c)
 
 pub row_cost-requires-clause-prices : goal.row_cost-requires-clause-prices
 row_cost-requires-clause-prices c =
@@ -29,11 +25,4 @@ row_cost-requires-clause-prices c =
     (subst (λ xs. IsCellOf instance changed.patterns.now changed.fills.now c.args.g t (cell xs t)) (sym row) (c.in_ok-row.ensures.cells t ht)))
 
 pub returns : goal.returns
-returns c =
-    let changed = c.args.changed.now in
-    let instance = changed.instance.now in
-    let unit = unit_read instance c.as_slice.result.now c.args.g c.index-as_slice-g.result c.as_slice.ensures c.requires.unit c.index-as_slice-g.is in
-    let row = c.deref.ensures.value in
-    subst (IsUnitCost instance changed.patterns.now changed.fills.now c.args.g) (sym (wide c.row_cost.result (168 * 2 ^ 64) c.row_cost.ensures.size (omega arith)))
-    (row_total instance changed.patterns.now changed.fills.now c.args.g c.in_ok-row.row.items c.row_cost.result c.requires.changed.dispatched.all c.in_ok-row.ensures
-    (c.row_cost.ensures.value ∙ (λ i. sum_below (length (row i)) (λ t. printed_cell_cost (unit i) 1 (cell (row i) t)))) c.row_cost.ensures.size)
+returns c = grind (arith, unit_read, wide, row_total, c)

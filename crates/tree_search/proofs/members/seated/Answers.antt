@@ -19,26 +19,17 @@ loop-seat-init g c =
       c.requires.of,
     )
 
-pub new-tickets-requires-clause-mine : goal.new-tickets-requires-clause-mine
-new-tickets-requires-clause-mine g c =
+pub new-tickets-requires : goal.new-tickets-requires
+new-tickets-requires g c =
     let before = c.loop-seat.invariant in
     let next = seat_next c.args.options.now.workers (c.args.options.now.budget + 2) (vec_len c.loop-seat.members) c.into_iter-seat-iterator.result.rest.items
     c.loop-seat.seat-iterator.rest.items c.next.new.self.rest.items c.in-Some.seat before.1 before.0 c.in-Some.ensures.steps.0 in
-    next.me ∙ sym c.len-me.ensures
-
-pub new-tickets-requires-clause-others : goal.new-tickets-requires-clause-others
-new-tickets-requires-clause-others g c =
-    let before = c.loop-seat.invariant in
-    let next = seat_next c.args.options.now.workers (c.args.options.now.budget + 2) (vec_len c.loop-seat.members) c.into_iter-seat-iterator.result.rest.items
-    c.loop-seat.seat-iterator.rest.items c.next.new.self.rest.items c.in-Some.seat before.1 before.0 c.in-Some.ensures.steps.0 in
-    next.others
-
-pub new-tickets-requires-clause-room : goal.new-tickets-requires-clause-room
-new-tickets-requires-clause-room g c =
-    let before = c.loop-seat.invariant in
-    let next = seat_next c.args.options.now.workers (c.args.options.now.budget + 2) (vec_len c.loop-seat.members) c.into_iter-seat-iterator.result.rest.items
-    c.loop-seat.seat-iterator.rest.items c.next.new.self.rest.items c.in-Some.seat before.1 before.0 c.in-Some.ensures.steps.0 in
-    next.space
+    record {
+      mine = next.me ∙ sym c.len-me.ensures;
+      within = omega (arith, next.within, c.len-me.ensures);
+      others = next.others;
+      room = next.space;
+    }
 
 pub new-requires-clause-of : goal.new-requires-clause-of
 new-requires-clause-of g c =
