@@ -1,6 +1,6 @@
 -- The turns of the drop pass.
-use Rattle.std.proofs.Common.{◌≡◌, ◌⊎◌, ◌∙◌, ⊎_elim, ℕ, ◌<◌, zero, suc, false, true, List, get_or, get_or-set_other, get_or-set_same, set, length, inl, inr, refl, sym, subst, ap, arith, ℤ, IsTrue, int_lt, nat_lt, ◌≤◌, unsigned_abs}
-use Rattle.std.proofs.lemmas.Bool.{cases_Bool, cases_eq, ltb-true}
+use Rattle.std.proofs.Common.{◌≡◌, ◌⊎◌, ◌∙◌, ⊎_elim, ℕ, ◌<◌, zero, suc, false, true, List, get_or, get_or-set_other, get_or-set_same, set, length, inl, inr, refl, sym, subst, ap, arith, ℤ, IsTrue, int_lt, ◌≤◌, unsigned_abs}
+use Rattle.std.proofs.lemmas.Bool.{cases_Bool, cases_eq}
 use Rattle.std.proofs.lemmas.List.{set-get_or}
 use Rattle.uc_model.proofs.Common.{printed_cost-fits, watts-factor, linear, int_lt-true}
 use Rattle.uc_model.specs.Prelude.{is_allowed, IsLawfulInstance, commitment_of, cell_at, printed_cost, printed_denominator, thermal_count, thermal_unit}
@@ -81,23 +81,13 @@ int_not_below z = ⊎_elim (λ (e : int_lt z z ≡ true). absurd (omega (arith, 
 -- no ending is better than itself
 not_better : (ending : Ending) → is_better ending ending ≡ false
 not_better (Dispatched printed cost) = int_not_below cost
-not_better (StuckIn t) = ⊎_elim (λ (e : nat_lt t t ≡ true). absurd (nat_not_below t e)) (λ (e : nat_lt t t ≡ false). e) (cases_Bool (nat_lt t t))
-  where
-    nat_not_below : (n : ℕ) → nat_lt n n ≡ true → ⊥
-    nat_not_below n e = omega (arith, ltb-true n n e)
+not_better (StuckIn t) = grind (arith, linear, t)
 
 -- an ending of each commitment that a pass has come to
 pub ending_is : (instance : Instance) (n : ℕ) (patterns : List Pattern) (ending : Ending) → IsDropPass instance n patterns ending
     → IsEndingOf instance patterns ending
 ending_is instance zero patterns ending passed = passed.1
-ending_is instance (suc n) patterns ending passed = ⊎_elim
-    (λ better.
-    subst (λ p. IsEndingOf instance p ending) (sym better.1.commitment)
-    (subst (IsEndingOf instance (set passed.former n passed.turn.fewest)) (sym better.1.end) passed.turn.is_tried))
-    (λ worse.
-    subst (λ p. IsEndingOf instance p ending) (sym worse.1.commitment)
-    (subst (IsEndingOf instance passed.former) (sym worse.1.end) (ending_is instance n passed.former passed.stood passed.before)))
-    passed.turn.taken
+ending_is instance (suc n) patterns ending passed = grind (arith, linear, passed, (ending_is instance n passed.former passed.stood passed.before))
 
 -- a turn more
 pub passed_turn : (instance : Instance) (g : ℕ) (former patterns : List Pattern) (stood ending tried : Ending) (fewest : Pattern)
@@ -105,12 +95,7 @@ pub passed_turn : (instance : Instance) (g : ℕ) (former patterns : List Patter
     → (IsTrue (is_better tried stood) × IsTaken (set former g fewest) patterns tried ending)
     ⊎ ((is_better tried stood ≡ false) × IsTaken former patterns stood ending)
     → IsDropPass instance (suc g) patterns ending
-passed_turn instance g former patterns stood ending tried fewest before few is taken = record {
-  former = former;
-  stood = stood;
-  before = before;
-  turn = record { fewest = fewest; is_fewest = few; tried = tried; is_tried = is; taken = taken };
-}
+passed_turn instance g former patterns stood ending tried fewest before few is taken = grind (arith, linear, before, few, is, taken)
 
 -- the unit has its pattern with the fewest on periods already, so that it is tried with no change
 pub passed_spared : (instance : Instance) (g : ℕ) (patterns : List Pattern) (ending : Ending) (fewest : Pattern)

@@ -1,15 +1,14 @@
 -- What the units of a run cost is what their cells in the commitment's dispatch do.
-use Rattle.std.proofs.Common.{◌≡◌, ◌≢◌, ℕ, ◌+◌, ◌*◌, ◌^◌, ◌<◌, ◌≤◌, inl, inr, false, sym, ap, subst, ◌∙◌, arith, List, [], ◌∷◌, ◌++◌, get_or, get_or-set_other, get_or-set_same, set, length, ℤ, pos, ◌+ℤ◌, ◌*ℤ◌, of_z, to_z, unsigned_abs, if◌then◌else◌}
+use Rattle.std.proofs.Common.{◌≡◌, ◌≢◌, ℕ, ◌+◌, ◌*◌, ◌^◌, ◌<◌, ◌≤◌, inl, inr, false, sym, ap, subst, ◌∙◌, arith, List, [], ◌∷◌, ◌++◌, get_or, get_or-set_other, get_or-set_same, set, length, ℤ, pos, ◌+ℤ◌, of_z, to_z, unsigned_abs, if◌then◌else◌}
 use Rattle.std.specs.Int.{w128}
 use Rattle.std.proofs.lemmas.List.{get_or_read, length_push, set-get_or, set-set}
-use Rattle.uc_model.specs.Prelude.{quotient_up, hull_cost, IsLawfulInstance, cell_at, printed_cell_cost, printed_cost, printed_shortage_cost, watt_denominator, renewable_count, thermal_count, thermal_unit, category_cost, sum_below}
+use Rattle.uc_model.specs.Prelude.{hull_cost, IsLawfulInstance, cell_at, printed_cell_cost, printed_cost, printed_shortage_cost, watt_denominator, renewable_count, thermal_count, thermal_unit, category_cost, sum_below}
 use Rattle.uc_model.specs.declared.instance.Thermal.{Thermal}
 use Rattle.uc_model.specs.declared.schedule.Cell.{Cell}
 use Rattle.uc_model.proofs.Common.{below_or_last, sum_below-same}
 use Rattle.schedule_check.proofs.AddedSums.{added}
 use Rattle.schedule_check.specs.WholeWatts.{HasPrice, cell, lacking_alone}
 use Rattle.dispatch_repair.specs.Prelude.{thermal_amount, IsCommittedCell}
-use Rattle.dispatch_repair.specs.Amounts.{amount_at}
 use Rattle.dispatch_repair.proofs.RowsCommitted.{other_cell, push_each}
 use Rattle.decommitment.specs.DropCommitment.{Instance, Pattern, Printed}
 use Rattle.decommitment.specs.inside.Runs.{Fill, AreDispatched, AreSized, AreUnitCosts, GivesSame, IsCellOf, IsRowOf, IsUnitCost, LacksSo, cost_at, lack_at, outputs_at}
@@ -87,16 +86,14 @@ pub amount_read : (instance : Instance) (fills : List Fill) (t g place : ℕ) (f
     → fill ≡ get_or fills t fill → g < thermal_count instance → place ≡ renewable_count instance + g → value ≡ get_or fill.amounts.items place value
     → value ≡ thermal_amount instance (outputs_at fills t) g
 amount_read instance fills t g place fill value sized h is hg place_is read =
-    get_or_read fill.amounts.items place value (omega (arith, place_is, hg, sized t fill h is)) read (pos 0)
-    ∙ (λ i. get_or (sym (outputs_here fills t fill h is) i) (place_is i) (pos 0))
+    grind (arith, get_or_read, outputs_here, sized, h, is, hg, place_is, read)
 
 -- what a unit gives in a period is the same where its amounts in two rows are
 pub same_here : (instance : Instance) (old new : List Fill) (t g renewables : ℕ) (a b : Fill) → renewables ≡ renewable_count instance
     → t < length old → a ≡ get_or old t a → t < length new → b ≡ get_or new t b → IsSameAt renewables a.amounts.items b.amounts.items g
     → thermal_amount instance (outputs_at old t) g ≡ thermal_amount instance (outputs_at new t) g
 same_here instance old new t g renewables a b count inside_old is_a inside_new is_b same =
-    (λ i. amount_at (outputs_here old t a inside_old is_a i) (sym count i + g))
-    ∙ (same ∙ (λ i. amount_at (sym (outputs_here new t b inside_new is_b) i) (count i + g)))
+    grind (arith, outputs_here, count, inside_old, is_a, inside_new, is_b, same)
 
 -- one more cell
 pub row_longer : (instance : Instance) (patterns : List Pattern) (fills : List Fill) (g n : ℕ) (row : List Cell) (one : Cell) → IsRowOf instance patterns fills g n row
@@ -145,8 +142,4 @@ costs_more instance patterns fills n costs cost total result within few each is 
 pub missing_total : (instance : Instance) (fills : List Fill) (printed : Printed) (shed short : List ℤ) → length fills ≡ instance.periods → LacksSo instance fills printed
     → ((t : ℕ) → t < length fills → get_or shed t (pos 0) ≡ (lack_at fills t).shed) → ((t : ℕ) → t < length fills → get_or short t (pos 0) ≡ (lack_at fills t).short)
     → sum_below instance.periods (printed_shortage_cost instance (lacking_alone 1 shed short)) ≡ sum_below instance.periods (printed_shortage_cost instance printed)
-missing_total instance fills printed shed short all lacks sheds shorts =
-    sum_below-same instance.periods (printed_shortage_cost instance (lacking_alone 1 shed short)) (printed_shortage_cost instance printed) (λ t ht.
-    let e = sheds t (omega (arith, all, ht)) ∙ sym (lacks.shed t ht) in
-    let f = shorts t (omega (arith, all, ht)) ∙ sym (lacks.short t ht) in
-    λ i. quotient_up (pos instance.a *ℤ e i) (pos (sym lacks.whole i)) +ℤ quotient_up (pos instance.b *ℤ f i) (pos (sym lacks.whole i)))
+missing_total instance fills printed shed short all lacks sheds shorts = grind (arith, sum_below-same, all, lacks, sheds, shorts)

@@ -1,5 +1,5 @@
 -- The turns of the drop pass over runs, and its end.
-use Rattle.std.proofs.Common.{Option, Some, None, ◌≡◌, ◌∙◌, ⊎_elim, ℕ, zero, suc, List, set, length, length-set, inl, inr, refl, sym, subst, ap, arith, ℤ, pos, ◌+ℤ◌, ◌*ℤ◌, IsTrue, false, [], of_z, to_z}
+use Rattle.std.proofs.Common.{Option, Some, None, ◌≡◌, ◌∙◌, ⊎_elim, ℕ, zero, suc, List, set, length, length-set, inl, inr, refl, sym, subst, ap, arith, ℤ, pos, ◌+ℤ◌, ◌*ℤ◌, IsTrue, false, of_z, to_z}
 use Rattle.std.specs.Int.{w128}
 use Rattle.std.proofs.lemmas.List.{set-get_or, set-set}
 use Rattle.std.specs.declared.alloc.Global.{Global}
@@ -9,7 +9,6 @@ use Rattle.uc_model.specs.declared.limits.TheConstants.{COST_MAX}
 use Rattle.uc_model.proofs.Sizes.{wide}
 use Rattle.dispatch_repair.specs.declared.segment.Segment.{Segment}
 use Rattle.dispatch_repair.specs.Prelude.{IsRoomOf, IsDispatchOf, AreSame}
-use Rattle.dispatch_repair.specs.Stuck.{Stuck}
 use Rattle.decommitment.specs.DropCommitment.{Instance, Pattern, Printed, Ending, Dispatched, StuckIn, IsDropPass, IsEndingOf, IsStuckIn, is_better}
 use Rattle.decommitment.specs.Standings.{IsDropped}
 use Rattle.decommitment.specs.declared.pass.Standing.TheVariants as standing

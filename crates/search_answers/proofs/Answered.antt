@@ -94,12 +94,7 @@ reaches_opening instance (standing.Dispatched printed cost) opening bound table 
     let both = reaches_both instance printed opening bound table priced above in
     record { unpriced = both.unpriced; marginal = both.marginal }
 reaches_opening instance (standing.Stuck period most_on) opening bound table priced above =
-    let first : bound_of opening.value ZERO_SCALE ≤ℤ bound = subst (λ k. bound_of opening.value k ≤ℤ bound) priced.scale above in
-    record {
-      unpriced = reaches instance (zero_table instance) opening.value (bound_of opening.value ZERO_SCALE) bound
-          (subst (λ t. IsNodeValue instance root t opening.value) table.0 table.1) million (le_refl (bound_of opening.value ZERO_SCALE)) first;
-      marginal = tt;
-    }
+    grind (arith, linear, Stuck, period, most_on, priced, above)
 
 -- ---- how often was evaluated
 -- where the drop commitment's schedule is within the gap nothing is, since the search begins with it

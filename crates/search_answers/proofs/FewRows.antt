@@ -1,5 +1,5 @@
 -- A lawful table has at most a row for each cell, since its rows rise by unit and period.
-use Rattle.std.proofs.Common.{◌≡◌, ⊎_elim, ℕ, zero, suc, ◌+◌, ◌*◌, ◌<◌, ◌≤◌, List, All, get_or, length, refl, arith, pos}
+use Rattle.std.proofs.Common.{◌≡◌, ℕ, zero, suc, ◌+◌, ◌*◌, ◌<◌, ◌≤◌, List, All, get_or, length, refl, arith, pos}
 use Rattle.uc_model.specs.Prelude.{IsLawfulInstance}
 use Rattle.dual_model.specs.Prelude.{IsLawfulTable, IsRowBefore, IsRowWithin}
 use Rattle.dual_model.specs.declared.table.RampRow.{RampRow}
@@ -12,22 +12,13 @@ use Rattle.search_answers.specs.Writable.{HasFewRows}
 abbrev place : RampRow → ℕ
 place row = row.g * MAX_PERIODS + row.t
 
--- a row that comes before another has an earlier place
-place_before : (first second : RampRow) → first.t < MAX_PERIODS → IsRowBefore first second → place first < place second
-place_before first second within h = ⊎_elim
-    (λ (l : first.g < second.g). omega arith)
-    (λ (same : (first.g ≡ second.g) × (first.t < second.t)). omega (arith, same.0, same.1))
-    h.before
-
 -- row i is at place i or later
 place_reaches : (units periods : ℕ) (rows : List RampRow) (d : RampRow) → periods ≤ MAX_PERIODS → All (IsRowWithin units periods) rows
     → ((i : ℕ) (e : RampRow) → suc i < length rows → IsRowBefore (get_or rows i e) (get_or rows (suc i) e))
     → (i : ℕ) → i < length rows → i ≤ place (get_or rows i d)
 place_reaches units periods rows d few within rising zero inside = omega arith
 place_reaches units periods rows d few within rising (suc i) inside =
-    let earlier = place_reaches units periods rows d few within rising i (omega arith) in
-    let cell = within i d (omega arith) in
-    omega (arith, earlier, place_before (get_or rows i d) (get_or rows (suc i) d) (omega (arith, cell.period)) (rising i d inside))
+    grind (arith, few, within, rising, inside, (place_reaches units periods rows d few within rising i (omega arith)))
 
 no_row : RampRow
 no_row = record { g = 0; t = 0; up = pos 0; down = pos 0 }

@@ -1,16 +1,15 @@
 -- What is answered where the opening excludes the root: by a blocked unit, or by a ray.
-use Rattle.std.proofs.Common.{◌≡◌, ◌∙◌, inl, ℕ, ◌<◌, Bool, true, false, List, [], ◌∷◌, length, map, All, refl, ap, sym, subst, arith, Some, None}
+use Rattle.std.proofs.Common.{◌≡◌, ◌∙◌, ℕ, ◌<◌, Bool, true, false, List, [], ◌∷◌, length, map, All, refl, ap, sym, subst, arith, Some, None}
 use Rattle.std.proofs.lemmas.Bool.{false≢true}
 use Rattle.std.proofs.lemmas.List.Elements.{All-nil, All-cons}
 use Rattle.uc_model.specs.Prelude.{IsLawfulInstance}
-use Rattle.dual_model.specs.Prelude.{ClaimHolds, AllExcluded, HasNoUnitSchedule, IsFirstUnscheduled, IsFirstEmpty, ray_table, IsLawfulTable, Ends, HasEachPattern, map_leaves, root, IsFirstBlocked}
+use Rattle.dual_model.specs.Prelude.{AllExcluded, HasNoUnitSchedule, IsFirstUnscheduled, IsFirstEmpty, ray_table, IsLawfulTable, Ends, HasEachPattern, map_leaves, root, IsFirstBlocked}
 use Rattle.dual_model.specs.Fixings.{HasNoPattern}
-use Rattle.branch_tree.specs.Prelude.{IsLayoutOf, certificate_of, leaf_claim, table_at, written_tables, IsPlainTree, tree_bound, IsWhole, IsTrueEntry, IsTrueFound, used_tables}
+use Rattle.branch_tree.specs.Prelude.{IsLayoutOf, leaf_claim, table_at, written_tables, IsPlainTree, tree_bound, IsWhole, IsTrueFound, used_tables}
 use Rattle.branch_tree.specs.declared.layout.Layout.{Layout}
 use Rattle.branch_tree.specs.declared.tree.Leaf.{Leaf}
 use Rattle.branch_tree.specs.declared.tree.Tree.{Tree}
 use Rattle.decommitment.specs.Standings.{IsDropped, ending_of}
-use Rattle.decommitment.specs.MostOnStuck.{TellsMostOn}
 use Rattle.decommitment.specs.declared.pass.Standing.{Standing}
 use Rattle.decommitment.specs.declared.pass.Standing.TheVariants as standing
 use Rattle.opening.specs.Blocked.{HasNoBlockedUnit}
@@ -18,11 +17,8 @@ use Rattle.opening.specs.Rays.{IsFirstRay, IsRayPositive}
 use Rattle.opening.proofs.Blocked.{not_blocked}
 use Rattle.opening.proofs.OpeningRays.{no_ray, one_first}
 use Rattle.opening_tables.proofs.RayTables.{ray_lawful}
-use Rattle.pivot_closing.proofs.Closing.{closed_statuses}
-use Rattle.pivot_closing.proofs.PivotedSteps.{none_pivoted}
 use Rattle.search_machine.specs.Prelude.{empty_leaf, ray_leaf}
 use Rattle.search_answers.specs.SearchResult.{FollowsOpening, IsExcludedByFirst, IsExcludedByUnit, IsNoDearer}
-use Rattle.search_desk.specs.Kinds.{IsOfKind}
 use Rattle.branch_tree.specs.declared.found.Found.{Found}
 use Rattle.uc_model.specs.declared.instance.Instance.{Instance}
 use Rattle.dual_model.specs.declared.table.Table.{Table}
@@ -41,22 +37,7 @@ lone_truth : (instance : Instance) (l : Leaf) (tables : List Table) (used : List
     → AllExcluded instance (map (table_at tables) (used_tables (Ends l))) (map_leaves (leaf_claim (used_tables (Ends l))) (Ends l))
     → IsTrueFound instance (lone_found (lone_root instance l) tables layout)
 lone_truth instance l tables used layout of_tree is_used within lawful unbounded excluded =
-    let tree = lone_root instance l in
-    let found = lone_found tree tables layout in
-    record {
-      layout = record { layout = of_tree; within = subst (λ numbers. All (λ i. i < length tables) numbers) (sym is_used) within };
-      certificate = record {
-        periods = refl;
-        thermal = refl;
-        renewable = refl;
-        penalty = (refl, refl);
-        tables = subst (λ numbers. All (IsLawfulTable instance) (map (table_at tables) numbers)) (sym is_used) lawful;
-        tree = tt;
-        schedule = λ written e. absurd (cc);
-        claim = subst (λ bound. ClaimHolds instance (certificate_of instance found) bound) (sym unbounded) (refl, excluded);
-      };
-      log = record { entries = All-nil (IsTrueEntry instance tree tables); apart = λ i j d h k. absurd (omega arith) };
-    }
+    grind (arith, of_tree, is_used, within, lawful, unbounded, excluded)
 
 -- what is told of it
 lone_answer : (asked exact_dispatch : Bool) (instance : Instance) (budget gap : ℕ) (l : Leaf) (tables : List Table) (layout : Layout)
@@ -67,35 +48,14 @@ lone_answer : (asked exact_dispatch : Bool) (instance : Instance) (budget gap : 
     → ((n : ℕ) → IsFirstRay asked instance n → IsExcludedByFirst asked instance n found)
     → (HasEachPattern instance → HasNoBlockedUnit asked instance → FollowsOpening asked instance gap found)
     → IsWhole (lone_root instance l) → All HasFewRows (written_tables found) → IsAnswerOf asked exact_dispatch instance budget gap found)
-lone_answer asked exact_dispatch instance budget gap l tables layout truth unbounded plain empty unscheduled ray opened whole few = record {
-  result = record {
-    truth = truth;
-    plain = plain;
-    of_kind = All-nil (IsOfKind asked);
-    within = omega arith;
-    spent = λ some. absurd (some unbounded);
-    nodes = omega arith;
-    most_on = subst (λ bound. TellsMostOn instance None bound None) (sym unbounded) refl;
-    empty = empty;
-    unscheduled = unscheduled;
-    ray = ray;
-    opened = opened;
-    few = λ number free. omega arith;
-  };
-  writable = record { tree = whole; schedule = tt; bound = rw unbounded tt; tables = few };
-  pivoted = record {
-    told = λ used. none_pivoted instance budget gap (lone_root instance l) tables [] refl;
-    closes = λ used reach. closed_statuses None (tree_bound (lone_root instance l)) gap (inl unbounded);
-  };
-}
+lone_answer asked exact_dispatch instance budget gap l tables layout truth unbounded plain empty unscheduled ray opened whole few =
+    grind (arith, truth, unbounded, plain, empty, unscheduled, ray, opened, whole, few)
 
 -- ---- a blocked unit
 blocked_truth : (exact : Bool) (instance : Instance) (g : ℕ) (layout : Layout) → IsLayoutOf (lone_root instance (empty_leaf exact g)) layout
     → IsFirstBlocked exact instance root g → IsTrueFound instance (lone_found (lone_root instance (empty_leaf exact g)) [] layout)
-blocked_truth false instance g layout of_tree first =
-    lone_truth instance (empty_leaf false g) [] [] layout of_tree refl (All-nil (λ i. i < 0)) (All-nil (IsLawfulTable instance)) refl (first.within, first.empty)
-blocked_truth true instance g layout of_tree first =
-    lone_truth instance (empty_leaf true g) [] [] layout of_tree refl (All-nil (λ i. i < 0)) (All-nil (IsLawfulTable instance)) refl (first.within, first.none)
+blocked_truth false instance g layout of_tree first = grind (arith, of_tree, first)
+blocked_truth true instance g layout of_tree first = grind (arith, of_tree, first)
 
 blocked_lone : (exact asked exact_dispatch : Bool) (instance : Instance) (g budget gap : ℕ) (layout : Layout) → (exact ≡ true → asked ≡ true)
     → (exact ≡ true → HasEachPattern instance) → IsWhole (lone_root instance (empty_leaf exact g)) → IsLayoutOf (lone_root instance (empty_leaf exact g)) layout
@@ -147,16 +107,8 @@ no_dearer exact instance n (standing.Stuck period most_on) lawful first dropped 
 ray_truth : (exact : Bool) (instance : Instance) (n : ℕ) (layout : Layout) → IsLawfulInstance instance
     → IsLayoutOf (lone_root instance (ray_leaf exact 0)) layout → IsFirstRay exact instance n
     → IsTrueFound instance (lone_found (lone_root instance (ray_leaf exact 0)) (ray_table instance n ∷ []) layout)
-ray_truth false instance n layout lawful of_tree first =
-    let table = ray_table instance n in
-    lone_truth instance (ray_leaf false 0) (table ∷ []) (0 ∷ []) layout of_tree refl (All-cons (λ i. i < 1) 0 [] (omega arith) (All-nil (λ i. i < 1)))
-    (All-cons (IsLawfulTable instance) table [] (ray_lawful instance n lawful first.within) (All-nil (IsLawfulTable instance))) refl
-    (record { table = table; is_table = refl; scale = refl; excludes = inl first.positive })
-ray_truth true instance n layout lawful of_tree first =
-    let table = ray_table instance n in
-    lone_truth instance (ray_leaf true 0) (table ∷ []) (0 ∷ []) layout of_tree refl (All-cons (λ i. i < 1) 0 [] (omega arith) (All-nil (λ i. i < 1)))
-    (All-cons (IsLawfulTable instance) table [] (ray_lawful instance n lawful first.within) (All-nil (IsLawfulTable instance))) refl
-    (record { table = table; is_table = refl; scale = refl; excludes = inl first.positive })
+ray_truth false instance n layout lawful of_tree first = grind (arith, lone_truth, All-cons, All-nil, ray_lawful, lawful, of_tree, first)
+ray_truth true instance n layout lawful of_tree first = grind (arith, lone_truth, All-cons, All-nil, ray_lawful, lawful, of_tree, first)
 
 ray_unbounded : (exact : Bool) (instance : Instance) → tree_bound (lone_root instance (ray_leaf exact 0)) ≡ None
 ray_unbounded false instance = refl

@@ -1,11 +1,10 @@
 -- The certificate of a tree has the tables that the leaves use, in order of first use. What a leaf stores by the number of its table holds by
 -- the table's place among them.
-use Rattle.std.proofs.Common.{◌≡◌, ◌∙◌, ◌⊎◌, ⊎_elim, inl, inr, ℕ, suc, ◌<◌, Bool, true, false, not, ◌||◌, cond, All, List, [], ◌∷◌, ◌++◌, get_or, length, refl, ap, sym, subst, ℤ, ◌≤ℤ◌, Option, Some, None, filter, map, slice_get}
-use Rattle.std.specs.Option.{option_map}
+use Rattle.std.proofs.Common.{arith, ◌≡◌, ◌∙◌, ◌⊎◌, ⊎_elim, inl, inr, ℕ, suc, ◌<◌, Bool, true, false, not, ◌||◌, cond, All, List, [], ◌∷◌, ◌++◌, get_or, length, refl, ap, sym, subst, ℤ, ◌≤ℤ◌, Option, Some, None, filter, map, slice_get}
 use Rattle.std.proofs.lemmas.Bool.{cases_Bool, cases_eq, eq-eqb, ne_eqb}
 use Rattle.std.proofs.lemmas.List.Concat.{flat_map-append}
 use Rattle.std.proofs.lemmas.List.Elements.{All-append, All-cons, All-map, All-nil}
-use Rattle.std.proofs.lemmas.Option.{get_or_from_slice_get, same_Some, slice_get-map, slice_get_within}
+use Rattle.std.proofs.lemmas.Option.{get_or_from_slice_get, slice_get-map, slice_get_within}
 use Rattle.uc_model.specs.declared.instance.Instance.{Instance}
 use Rattle.uc_model.specs.declared.schedule.Printed.{Printed}
 use Rattle.uc_model.proofs.Common.{le_trans}
@@ -72,10 +71,7 @@ at_place (first ∷ used) number h = ⊎_elim
 -- and among the written tables the table
 written_at : (tables : List Table) (used : List ℕ) (number : ℕ) (table : Table) → IsAmong used number → slice_get tables number ≡ Some table
     → slice_get (map (table_at tables) used) (place_of used number) ≡ Some table
-written_at tables used number table among is =
-    slice_get-map (table_at tables) used (place_of used number)
-    ∙ (ap (λ (o : Option ℕ). option_map (table_at tables) o) (at_place used number among)
-    ∙ ap (λ (t : Table). Some t) (get_or_from_slice_get tables number table no_table is))
+written_at tables used number table among is = grind (arith, slice_get-map, at_place, get_or_from_slice_get, among, is)
 
 -- ---- the leaves' tables
 -- the leaf's table is one of these
@@ -122,8 +118,7 @@ bounded_there exact instance tables used node number value b among below h = rec
 
 excluded_there : (exact : Bool) (instance : Instance) (tables : List Table) (used : List ℕ) (node : Node) (number : ℕ) → IsAmong used number
     → IsExcludedByRay exact instance tables node number → IsExcludedByRay exact instance (map (table_at tables) used) node (place_of used number)
-excluded_there exact instance tables used node number among h =
-    record { table = h.table; is_table = written_at tables used number h.table among h.is_table; scale = h.scale; excludes = h.excludes }
+excluded_there exact instance tables used node number among h = grind (arith, written_at, among, h)
 
 leaf_holds : (instance : Instance) (tables : List Table) (used : List ℕ) (node : Node) (b : ℤ) (l : Leaf) → IsNamed used l → AtMost (Some b) (leaf_bound l)
     → StoredHolds instance tables node l → LeafHolds instance (map (table_at tables) used) b node (leaf_claim used l)
@@ -203,9 +198,7 @@ covered instance used here (Splits g t off on) h = (h.0, h.1, covered instance u
 schedule_holds : (exact_dispatch : Bool) (instance : Instance) (schedule : Option (Printed × ℤ)) → IsFoundIfAny exact_dispatch instance schedule
     → (written : WrittenSchedule) → written_of schedule ≡ Some written → ScheduleHolds instance written
 schedule_holds exact_dispatch instance None found written e = absurd (cc)
-schedule_holds exact_dispatch instance (Some pair) found written e =
-    subst (ScheduleHolds instance) (same_Some _ written e)
-    (record { shape = found.shape; obeys = found.obeys; cost = found.cost_is })
+schedule_holds exact_dispatch instance (Some pair) found written e = grind (arith, pair, found, e)
 
 -- there is none where none obeys
 no_schedule : (exact_dispatch : Bool) (instance : Instance) (schedule : Option (Printed × ℤ)) → IsFoundIfAny exact_dispatch instance schedule

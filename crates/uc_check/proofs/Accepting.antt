@@ -1,5 +1,5 @@
 -- A certificate that holds is accepted: each fault but want of memory has a cause that isn't there.
-use Rattle.std.proofs.Common.{◌≡◌, ◌∙◌, ℕ, Bool, true, false, List, refl, sym, subst, inl, inr, ◌⊎◌, ⊎_elim, arith, length, ◌<◌, ◌≤◌, ◌<ℤ◌, ◌≤ℤ◌, pos, Option, Some, None, IfSome}
+use Rattle.std.proofs.Common.{◌≡◌, ◌∙◌, ℕ, Bool, true, false, List, refl, sym, subst, inl, inr, ⊎_elim, arith, length, ◌<◌, ◌≤◌, ◌<ℤ◌, ◌≤ℤ◌, pos, Option, Some, None, IfSome}
 use Rattle.uc_model.proofs.Common.{linear}
 use Rattle.uc_model.specs.Prelude.{greatest_shortage_cost}
 use Rattle.uc_model.specs.declared.field_refusal.FieldRefusal.{FieldRefusal}
@@ -32,9 +32,7 @@ told_is file bytes others left told = subst (λ l. Tells l others) left told
 -- a file of so few bytes isn't too long
 not_long : (file : SlotState) (bytes : List ℕ) (most : ℕ) → file.left ≡ Some bytes → length bytes ≤ most
     → IfSome file.left (λ bytes. most < length bytes) → ⊥
-not_long file bytes most left few long =
-    let more : most < length bytes = subst (λ l. IfSome l (λ bytes. most < length bytes)) left long in
-    absurd (omega (arith, more, few))
+not_long file bytes most left few long = grind (arith, linear, few, long)
 
 -- bytes stand for an instance whether or not a rounded number is refused, where they do without
 stands_rounded : (exact : Bool) (bytes : List ℕ) (instance : Instance) (rounded : ℕ) → StandForCounted exact bytes instance rounded

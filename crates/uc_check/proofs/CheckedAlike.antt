@@ -1,5 +1,5 @@
 -- What a run of `check` says of a certificate's file hangs on the certificate alone, and not on which text of it stands in the file.
-use Rattle.std.proofs.Common.{◌≡◌, ℕ, ◌<◌, ◌≤◌, true, List, [], length, refl, sym, ap, subst, inl, inr, ⊎_elim, arith, Option, Some, None, IfSome}
+use Rattle.std.proofs.Common.{◌≡◌, ℕ, ◌<◌, ◌≤◌, true, List, length, ap, subst, inl, inr, ⊎_elim, arith, Option, Some, None, IfSome}
 use Rattle.uc_model.specs.declared.instance.Instance.{Instance}
 use Rattle.dual_model.specs.Prelude.{Certificate}
 use Rattle.outside.specs.declared.slot.Slot.TheVariants as slot
@@ -8,7 +8,7 @@ use Rattle.outside.specs.declared.slot.Slot.{Slot}
 use Rattle.branch_tree.specs.declared.found.Found.{Found}
 use Rattle.report.specs.declared.fault.Fault.TheVariants.{Line, Long, Memory, Read}
 use Rattle.command_line.specs.Command.{Check}
-use Rattle.command_runs.specs.Prelude.{Outside, most_certificate_bytes, IsCertificateText, HasCertificate, IsAnswered, IsFaulty}
+use Rattle.command_runs.specs.Prelude.{Outside, most_certificate_bytes, IsCertificateText, IsAnswered, IsFaulty}
 use Rattle.command_runs.specs.declared.ending.End.{End}
 use Rattle.uc_check.specs.Checking.{Code, Fault, Write, IsVerified, HasCertificateCause, IsInstanceFault, IsCertificateFault, IsCheckStopped, IsCheckFailure, KeepsToInput, IsAccepting}
 use Rattle.uc_check.specs.Upgrading.{TellTheSame, with_left, leaving, IsCheckedAs}
@@ -28,27 +28,10 @@ record AreTextsOf (certificate : Certificate) (one other : List ℕ) : Type 0 wh
 told_is : (file : SlotState) (one bytes : List ℕ) → file.left ≡ Some one → Tells file.left bytes → one ≡ bytes
 told_is file one bytes left told = subst (λ l. Tells l bytes) left told
 
-has_other : (c : Certificate) (one other : List ℕ) → AreTextsOf c one other → (file : SlotState) → file.left ≡ Some one → (certificate : Certificate)
-    → HasCertificate file certificate → HasCertificate (with_bytes other file) certificate
-has_other c one other texts file left certificate has = record {
-  bytes = other;
-  told = refl;
-  few = texts.other_few;
-  is = (texts.same certificate).0 (subst (λ b. IsCertificateText b certificate) (sym (told_is file one has.bytes left has.told)) has.is);
-}
-
 verified_other : (c : Certificate) (one other : List ℕ) → AreTextsOf c one other → (asked : Check) (files : Slot → SlotState)
     → (files slot.CertIn).left ≡ Some one → (certificate : Certificate) → IsVerified asked files certificate
     → IsVerified asked (with_left other files) certificate
-verified_other c one other texts asked files left certificate verified = record {
-  instance = verified.instance;
-  rounded = verified.rounded;
-  read = verified.read;
-  is = has_other c one other texts (files slot.CertIn) left certificate verified.is;
-  holds = verified.holds;
-  claim = verified.claim;
-  schedule = verified.schedule;
-}
+verified_other c one other texts asked files left certificate verified = grind (arith, texts, verified)
 
 -- the one text is at fault in no line, and not too long
 cause_other : (c : Certificate) (one other : List ℕ) → AreTextsOf c one other → (instance : Instance) (old new : SlotState) → old.left ≡ Some one
@@ -62,13 +45,7 @@ cause_other c one other texts instance old new left (Long slot.CertIn) cause =
     absurd (omega (arith, long, few))
 cause_other c one other texts instance old new left (Line line kind) cause =
     absurd (cause.faulty.none c (subst (λ b. IsCertificateText b c) (told_is old one cause.bytes left cause.told) texts.is))
-cause_other c one other texts instance old new left (Code code) cause = record {
-  certificate = cause.certificate;
-  is = has_other c one other texts old left cause.certificate cause.is;
-  refused = cause.refused;
-  fails = cause.fails;
-  calm = cause.calm;
-}
+cause_other c one other texts instance old new left (Code code) cause = grind (arith, texts, code, cause)
 cause_other c one other texts instance old new left _ cause = absurd cause
 
 stopped_other : (c : Certificate) (one other : List ℕ) → AreTextsOf c one other → (asked : Check) (before after : Outside)
@@ -125,19 +102,7 @@ accepting_other c one other texts asked before after left end accepting = record
 
 keeps_other : (other : List ℕ) (asked : Check) (before after : Outside) → KeepsToInput asked before after
     → KeepsToInput asked (leaving other before) (leaving other after)
-keeps_other other asked before after keeps = record {
-  instance = keeps.instance;
-  instance_read = keeps.instance_read;
-  certificate = keeps.certificate;
-  certificate_read = record {
-    unwritten = keeps.certificate_read.unwritten;
-    unfinished = keeps.certificate_read.unfinished;
-    taken = [];
-    left = refl;
-    few = omega arith;
-  };
-  other = keeps.other;
-}
+keeps_other other asked before after keeps = grind (arith, keeps)
 
 pub checked_as : (c : Certificate) (one other : List ℕ) → IsCertificateText one c → TellTheSame one other → length one ≤ most_certificate_bytes
     → length other ≤ most_certificate_bytes → IsCheckedAs one other

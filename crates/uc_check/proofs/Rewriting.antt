@@ -1,6 +1,6 @@
 -- How the ends of a run of `upgrade` follow from its steps: reading the certificate (from the files f to g), writing it anew (from g to
 -- h), and the report.
-use Rattle.std.proofs.Common.{◌≡◌, ◌∙◌, refl, sym, ap, subst, None}
+use Rattle.std.proofs.Common.{arith, ◌≡◌, ◌∙◌, refl, ap, subst, None}
 use Rattle.outside.specs.declared.slot.Slot.TheVariants as slot
 use Rattle.outside.specs.Prelude.{SlotState, SameBut, SinkState}
 use Rattle.outside.specs.declared.slot.Slot.{Slot}
@@ -52,29 +52,16 @@ rewritten f g h cert text first second calm saved =
 pub unsaved : (f g h : Slot → SlotState) (out err_old err_new : SinkState) (cert : Cert) → (text : HasCertificateText (f slot.CertIn) cert)
     → SameBut slot.CertIn f g → FailsToSave (written_text text.text.certificate) (g slot.CertOut) (h slot.CertOut)
     → IsUpgradeUnsaved (outside_of f out err_old) (outside_of h out err_new)
-unsaved f g h out err_old err_new cert text first fails = record {
-  certificate = text.text.certificate;
-  is = in_file (f slot.CertIn) cert text;
-  text = subst (λ s. FailsToSave (written_text text.text.certificate) s (h slot.CertOut)) (output_same f g first) fails;
-  out = refl;
-}
+unsaved f g h out err_old err_new cert text first fails = grind (arith, first, fails)
 
 -- a fault before anything was written
 pub unread : (f g : Slot → SlotState) (out err_old err_new : SinkState) (fault : Fault) → HasReadCause (f slot.CertIn) (g slot.CertIn) fault
     → SameBut slot.CertIn f g → IsUpgradeFailure (outside_of f out err_old) (outside_of g out err_new) fault None
 unread f g out err_old err_new (Write _) cause first = absurd cause
-unread f g out err_old err_new fault cause first =
-    record { cause = cause; certificate = output_same f g first; out = refl }
+unread f g out err_old err_new fault cause first = grind (arith, cause, first)
 
 pub keeps : (asked : Upgrade) (f g h : Slot → SlotState) (out_old out_new err_old err_new : SinkState)
     → IsOpenedByNoOther asked.certificate (f slot.CertIn) (g slot.CertIn) → IsOnlyRead most_certificate_bytes (f slot.CertIn) (g slot.CertIn)
     → SameBut slot.CertIn f g → IsOpenedByNoOther asked.to (g slot.CertOut) (h slot.CertOut) → SameBut slot.CertOut g h
     → KeepsToCertificates asked (outside_of f out_old err_old) (outside_of h out_new err_new)
-keeps asked f g h out_old out_new err_old err_new named read first to second =
-    let in_same : h slot.CertIn ≡ g slot.CertIn = second slot.CertIn (λ e. cc) in
-    record {
-      certificate = subst (λ s. IsOpenedByNoOther asked.certificate (f slot.CertIn) s) (sym in_same) named;
-      read = subst (λ s. IsOnlyRead most_certificate_bytes (f slot.CertIn) s) (sym in_same) read;
-      to = subst (λ s. IsOpenedByNoOther asked.to s (h slot.CertOut)) (output_same f g first) to;
-      other = instance_same f g h first second;
-    }
+keeps asked f g h out_old out_new err_old err_new named read first to second = grind (arith, named, read, first, second)

@@ -1,24 +1,16 @@
 -- A certificate is told by its listing, and so bytes are the text of one certificate at most, in whichever version.
-use Rattle.std.proofs.Common.{◌≡◌, ◌∙◌, sym, ap, subst, List, [], ◌∷◌, ◌++◌, ℕ, append-nil, append_assoc}
+use Rattle.std.proofs.Common.{arith, ◌≡◌, ◌∙◌, sym, ap, List, [], ◌∷◌, ◌++◌, ℕ, append-nil, append_assoc}
 use Rattle.dual_model.specs.Prelude.{Tree, Ends, Splits, Leaf, Certificate}
-use Rattle.cert_text.specs.CertificateText.{Listing, TreeNode, LeafNode, SplitNode, preorder, listing_of, certificate_text}
+use Rattle.cert_text.specs.CertificateText.{Listing, TreeNode, SplitNode, preorder, listing_of, certificate_text}
 use Rattle.cert_text.proofs.GrammarLaws.{texts_apart}
 use Rattle.command_runs.specs.Prelude.{IsCertificateText}
 use Rattle.uc_check.specs.Upgrading.{TellTheSame}
 
 -- nodes in preorder tell their tree, and where they end
 tree_in_front : (tree other : Tree Leaf) (more rest : List TreeNode) → preorder tree ++ more ≡ preorder other ++ rest → (tree ≡ other) × (more ≡ rest)
-tree_in_front (Ends leaf) (Ends other) more rest e =
-    let nodes : LeafNode leaf ∷ more ≡ LeafNode other ∷ rest = e in
-    let same : leaf ≡ other = cc in
-    let behind : more ≡ rest = cc in
-    (ap Ends same, behind)
-tree_in_front (Ends leaf) (Splits g t off on) more rest e =
-    let nodes : LeafNode leaf ∷ more ≡ SplitNode g t ∷ ((preorder off ++ preorder on) ++ rest) = e in
-    absurd (cc)
-tree_in_front (Splits g t off on) (Ends leaf) more rest e =
-    let nodes : SplitNode g t ∷ ((preorder off ++ preorder on) ++ more) ≡ LeafNode leaf ∷ rest = e in
-    absurd (cc)
+tree_in_front (Ends leaf) (Ends other) more rest e = grind (arith, leaf, e)
+tree_in_front (Ends leaf) (Splits g t off on) more rest e = grind (arith, leaf, g, t, off, on, e)
+tree_in_front (Splits g t off on) (Ends leaf) more rest e = grind (arith, g, t, off, on, leaf, e)
 tree_in_front (Splits g t off on) (Splits h u low high) more rest e =
     let nodes : SplitNode g t ∷ ((preorder off ++ preorder on) ++ more) ≡ SplitNode h u ∷ ((preorder low ++ preorder high) ++ rest) = e in
     let unit : g ≡ h = cc in
@@ -54,7 +46,4 @@ same_certificate bytes one other first second =
 -- where bytes are the text of a certificate, and other bytes are so too, no other certificate has either text
 pub tell_the_same : (one other : List ℕ) (certificate : Certificate) → IsCertificateText one certificate → IsCertificateText other certificate
     → TellTheSame one other
-tell_the_same one other certificate first second = λ c. (
-  (λ text. subst (λ c. IsCertificateText other c) (same_certificate one certificate c first text) second),
-  (λ text. subst (λ c. IsCertificateText one c) (same_certificate other certificate c second text) first),
-)
+tell_the_same one other certificate first second = grind (arith, same_certificate, first, second)

@@ -1,10 +1,10 @@
 -- How long the text of a certificate is at most, by how many tables and nodes it has. Each table but the first may be told by its difference
 -- to the one before it, which names a row of either at most once.
-use Rattle.std.proofs.Common.{◌≡◌, ◌∙◌, ℕ, suc, ◌+◌, ◌*◌, ◌/◌, ◌^◌, ◌<◌, ◌≤◌, Bool, true, false, All, List, [], ◌∷◌, ◌++◌, codes, get_or, length, map, refl, ap, subst, arith, ℤ, pos, negsuc, unsigned_abs, Option, Some, None, IfSome, cond}
+use Rattle.std.proofs.Common.{◌≡◌, ◌∙◌, ℕ, suc, ◌+◌, ◌*◌, ◌/◌, ◌^◌, ◌<◌, ◌≤◌, Bool, true, false, All, List, [], ◌∷◌, ◌++◌, codes, length, map, refl, ap, arith, ℤ, pos, negsuc, unsigned_abs, Option, Some, None, IfSome, cond}
 use Rattle.std.specs.Prelude.{sum_by}
 use Rattle.std.proofs.Math.Nat.{suc-mul}
 use Rattle.std.proofs.lemmas.List.{length-append}
-use Rattle.std.proofs.lemmas.List.Elements.{All-nil, All-cons, All-head, All-tail}
+use Rattle.std.proofs.lemmas.List.Elements.{All-nil, All-head, All-tail}
 use Rattle.std.proofs.lemmas.List.Sums.{sum_by-cons}
 use Rattle.uc_model.specs.Decimal.{minus_text, signed_text, whole_text}
 use Rattle.uc_model.specs.Money.{money_text}
@@ -92,15 +92,7 @@ two_words : (first word next : List ℕ) → length (line first (word ∷ next �
 two_words first word next = omega (arith, length-line first (word ∷ next ∷ []), size-cons word (next ∷ []), size-cons next [])
 
 four_words : (first a b c d : List ℕ) → length (line first (a ∷ b ∷ c ∷ d ∷ [])) ≡ length first + length a + length b + length c + length d + 5
-four_words first a b c d =
-    omega (
-      arith,
-      length-line first (a ∷ b ∷ c ∷ d ∷ []),
-      size-cons a (b ∷ c ∷ d ∷ []),
-      size-cons b (c ∷ d ∷ []),
-      size-cons c (d ∷ []),
-      size-cons d [],
-    )
+four_words first a b c d = grind (arith, length-line, size-cons)
 
 -- ---- numbers
 length-minus_text : (z : ℤ) → length (minus_text z) ≤ 1
@@ -272,14 +264,7 @@ record IsFew (periods thermal : ℕ) (table : Table) : Type 0 where
   rows : length table.ramps ≤ most_rows
 
 each_sized : (periods thermal : ℕ) (table : Table) → IsTableText periods thermal table → All (IsSized thermal periods) table.ramps
-each_sized periods thermal table is k d within = record {
-  within = same (get_or table.ramps k d) (is.form.rows k d within);
-  text = is.ramps k d within;
-}
-  where
-    same : (row : RampRow) → IsRowWithin table.units (length table.pi) row → IsRowWithin thermal periods row
-    same row inside =
-        subst (λ units. IsRowWithin units periods row) is.units (subst (λ count. IsRowWithin table.units count row) is.periods_priced inside)
+each_sized periods thermal table is k d within = grind (arith, is, k, d, within)
 
 -- the most bytes of a table, however it is told
 abbrev most_of_table : ℕ
@@ -321,28 +306,22 @@ IsSmall thermal periods (OfDemand t price) = (t < periods) × HasDigits 18 price
 IsSmall thermal periods (OfReserve t price) = (t < periods) × HasDigits 18 price
 IsSmall thermal periods (OfRamps row) = (row.g < thermal) × (row.t < periods) × IsRampText row
 
+length-price_line : (letter : List ℕ) (periods t : ℕ) (price : ℤ) → length letter ≡ 1 → periods ≤ 168 → (t < periods) × HasDigits 18 price
+    → length (line letter (whole_text (suc t) ∷ signed_text price ∷ [])) ≤ 51
+length-price_line letter periods t price one few small =
+    omega (
+      arith,
+      one,
+      two_words letter (whole_text (suc t)) (signed_text price),
+      length-whole_text-le 3 (suc t) (omega arith) (omega (arith, few, small.0)),
+      length-signed_text 18 price (omega arith) small.1,
+    )
+
 length-change_line : (thermal periods : ℕ) → thermal ≤ 4096 → periods ≤ 168 → (change : Change) → IsSmall thermal periods change
     → length (change_line change) ≤ 51
-length-change_line thermal periods few_thermal few (OfDemand t price) small =
-    omega (
-      arith,
-      two_words (codes "p") (whole_text (suc t)) (signed_text price),
-      length-whole_text-le 3 (suc t) (omega arith) (omega (arith, few, small.0)),
-      length-signed_text 18 price (omega arith) small.1,
-    )
-length-change_line thermal periods few_thermal few (OfReserve t price) small =
-    omega (
-      arith,
-      two_words (codes "m") (whole_text (suc t)) (signed_text price),
-      length-whole_text-le 3 (suc t) (omega arith) (omega (arith, few, small.0)),
-      length-signed_text 18 price (omega arith) small.1,
-    )
-length-change_line thermal periods few_thermal few (OfRamps row) small =
-    omega (
-      arith,
-      four_words (codes "r") (whole_text (suc row.g)) (whole_text (suc row.t)) (signed_text row.up) (signed_text row.down),
-      row_words thermal periods few_thermal few row small.0 small.1 small.2,
-    )
+length-change_line thermal periods few_thermal few (OfDemand t price) small = length-price_line (codes "p") periods t price (omega arith) few small
+length-change_line thermal periods few_thermal few (OfReserve t price) small = length-price_line (codes "m") periods t price (omega arith) few small
+length-change_line thermal periods few_thermal few (OfRamps row) small = grind (arith, four_words, row_words, few_thermal, few, row, small)
 
 -- at most so many changes, each a small one
 record AreSmall (thermal periods most : ℕ) (changes : List Change) : Type 0 where
@@ -354,8 +333,7 @@ small_none thermal periods most = record { few = omega arith; each = All-nil (Is
 
 small_more : (thermal periods most : ℕ) (change : Change) (changes : List Change) → IsSmall thermal periods change
     → AreSmall thermal periods most changes → AreSmall thermal periods (suc most) (change ∷ changes)
-small_more thermal periods most change changes small are =
-    record { few = omega (arith, are.few); each = All-cons (IsSmall thermal periods) change changes small are.each }
+small_more thermal periods most change changes small are = grind (arith, small, are)
 
 small_within : (thermal periods most more : ℕ) (changes : List Change) → most ≤ more → AreSmall thermal periods most changes
     → AreSmall thermal periods more changes
@@ -396,9 +374,7 @@ small_no_row thermal periods row sized = (sized.within.unit, sized.within.period
 small_rows_from : (thermal periods count : ℕ) (old : RampRow) (behind : List RampRow → List RampRow) → IsSized thermal periods old
     → ((news : List RampRow) → All (IsSized thermal periods) news → AreSmallRows thermal periods (count + length news) (behind news))
     → (news : List RampRow) → All (IsSized thermal periods) news → AreSmallRows thermal periods (suc count + length news) (rows_from old behind news)
-small_rows_from thermal periods count old behind sized each [] all =
-    small_within thermal periods (suc (count + 0)) (suc count + 0) _ (omega arith)
-    (small_more thermal periods (count + 0) (OfRamps (no_row old)) (map OfRamps (behind [])) (small_no_row thermal periods old sized) (each [] all))
+small_rows_from thermal periods count old behind sized each [] all = grind (arith, sized, each, all)
 small_rows_from thermal periods count old behind sized each (new ∷ news) all =
     let here = All-head (IsSized thermal periods) new news all in
     let others = All-tail (IsSized thermal periods) new news all in

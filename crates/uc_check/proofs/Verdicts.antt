@@ -1,6 +1,6 @@
 -- How the ends of a run of `check` follow from its steps: reading the instance (from the files f to g), reading the
 -- certificate (from g to h), checking it, and the report.
-use Rattle.std.proofs.Common.{◌≡◌, ℕ, true, subst, ap, ◌∙◌, refl, ⊎_elim, Some, None, List}
+use Rattle.std.proofs.Common.{arith, ◌≡◌, ℕ, true, subst, ap, ◌∙◌, refl, Some, None, List}
 use Rattle.uc_model.specs.Prelude.{IsLawfulInstance}
 use Rattle.uc_model.proofs.Common.{cost-le-printed}
 use Rattle.uc_model.specs.declared.instance.Instance.{Instance}
@@ -17,7 +17,7 @@ use Rattle.report.specs.declared.fault.Fault.{Fault}
 use Rattle.report.specs.declared.fault.Fault.TheVariants.{Memory}
 use Rattle.command_line.specs.Command.{Check}
 use Rattle.command_runs.specs.Prelude.{Outside, outside_of, HasInstance, HasCertificate, HasCertificateText, HasReadCause}
-use Rattle.uc_check.specs.Checking.{Code, Write, check_options, HasCertificateCause, IsCertificateFault, IsCheckFailure, IsCheckStopped, IsInstanceFault, IsScheduleTrue, text_of_claims}
+use Rattle.uc_check.specs.Checking.{Code, Write, check_options, HasCertificateCause, IsCertificateFault, IsCheckFailure, IsCheckStopped, IsScheduleTrue, text_of_claims}
 use Rattle.uc_check.specs.Checks.{IsChecked}
 use Rattle.uc_check.specs.inside.Refusals.{IsRefusedCert}
 
@@ -26,22 +26,12 @@ pub is_read : (bytes : List ℕ) (cert : Cert) → IsTextOf bytes cert → IsRea
 is_read bytes cert text = record { version = text.version; certificate = text.certificate; listed = text.listed; conditions = text.conditions }
 
 pub in_file : (file : SlotState) (cert : Cert) → (text : HasCertificateText file cert) → HasCertificate file text.text.certificate
-in_file file cert text = record {
-  bytes = text.bytes;
-  told = text.told;
-  few = text.few;
-  is = record { version = text.text.version; conditions = text.text.conditions; text = text.text.text };
-}
+in_file file cert text = grind arith
 
 -- a schedule of a certificate that holds is one, and costs no more than is written
 pub schedule_true : (instance : Instance) (certificate : Certificate) → IsLawfulInstance instance → CertificateHolds instance certificate
     → (written : WrittenSchedule) → certificate.schedule ≡ Some written → IsScheduleTrue instance written
-schedule_true instance certificate lawful holds written is =
-    let scheduled = holds.schedule written is in
-    record {
-      obeys = scheduled.obeys;
-      costs = rw scheduled.cost (cost-le-printed instance written.printed lawful scheduled.obeys);
-    }
+schedule_true instance certificate lawful holds written is = grind (arith, cost-le-printed, lawful, holds, is)
 
 -- the certificate's slot is as it was before the instance was read
 input_same : (f g : Slot → SlotState) → SameBut slot.Instance f g → g slot.CertIn ≡ f slot.CertIn
@@ -51,10 +41,8 @@ calm_each : (f g h : Slot → SlotState) → SameBut slot.Instance f g → SameB
     → (g slot.Instance).faults ≡ (f slot.Instance).faults → (h slot.CertIn).faults ≡ (g slot.CertIn).faults
     → (s : Slot) → (h s).faults ≡ (f s).faults
 calm_each f g h first second read checked slot.Instance = ap (λ (s : SlotState). s.faults) (second slot.Instance (λ e. cc)) ∙ read
-calm_each f g h first second read checked slot.CertIn =
-    checked ∙ ap (λ (s : SlotState). s.faults) (first slot.CertIn (λ e. cc))
-calm_each f g h first second read checked slot.CertOut =
-    ap (λ (s : SlotState). s.faults) (second slot.CertOut (λ e. cc) ∙ first slot.CertOut (λ e. cc))
+calm_each f g h first second read checked slot.CertIn = grind (arith, first, second, read, checked)
+calm_each f g h first second read checked slot.CertOut = grind (arith, first, second, read, checked)
 
 pub verified : (asked : Check) (f g h : Slot → SlotState) (instance : Instance) (rounded : ℕ) (cert : Cert) (claims : Claims)
     → HasInstance (check_options asked) (f slot.Instance) instance rounded → SameBut slot.Instance f g → SameBut slot.CertIn g h
@@ -87,10 +75,7 @@ verified asked f g h instance rounded cert claims read first second calm checked
 pub refused_cause : (f g h : Slot → SlotState) (instance : Instance) (cert : Cert) (fault : Fault)
     → (h slot.CertIn).faults ≡ (g slot.CertIn).faults → HasCertificateText (g slot.CertIn) cert → IsRefusedCert instance cert fault
     → HasCertificateCause instance (g slot.CertIn) (h slot.CertIn) fault
-refused_cause f g h instance cert (Code code) checked text refused =
-    let c = text.text.certificate in
-    let why = refused c text.text.listed in
-    record { certificate = c; is = in_file (g slot.CertIn) cert text; refused = why.0; fails = why.1; calm = checked }
+refused_cause f g h instance cert (Code code) checked text refused = grind (arith, code, checked, text, refused)
 refused_cause f g h instance cert Memory checked text refused = tt
 refused_cause f g h instance cert _ checked text refused = absurd refused
 
@@ -105,25 +90,16 @@ pub certificate_fault : (asked : Check) (f g h : Slot → SlotState) (out err_ol
     → (g slot.Instance).faults ≡ (f slot.Instance).faults
     → HasCertificateCause instance (g slot.CertIn) (h slot.CertIn) fault
     → IsCertificateFault asked (outside_of f out err_old) (outside_of h out err_new) fault
-certificate_fault asked f g h out err_old err_new instance rounded fault read first second calm cause = record {
-  instance = instance;
-  rounded = rounded;
-  read = read;
-  calm = ap (λ (s : SlotState). s.faults) (second slot.Instance (λ e. cc)) ∙ calm;
-  cause = subst (λ file. HasCertificateCause instance file (h slot.CertIn) fault) (input_same f g first) cause;
-}
+certificate_fault asked f g h out err_old err_new instance rounded fault read first second calm cause =
+    grind (arith, read, first, second, calm, cause)
 
 -- a run that stopped before anything was written failed
 pub stopped_failure : (asked : Check) (before after : Outside) (fault : Fault) → IsCheckStopped asked before after fault
     → IsCheckFailure asked before after fault None
-stopped_failure asked before after (Write true) stopped = absurd (⊎_elim
-    (λ (early : IsInstanceFault asked before after (Write true)). early.cause)
-    (λ (late : IsCertificateFault asked before after (Write true)). late.cause) stopped.cause)
+stopped_failure asked before after (Write true) stopped = grind (arith, stopped)
 stopped_failure asked before after _ stopped = stopped
 
 -- what holds of the report of the claims, holds of that of the certificate
 pub of_claims : (P : List ℕ → Type 0) (c : Certificate) (claims : Claims) → AreClaimsOf c claims
     → P (claims_report claims.cost claims.bound claims.infeasible) → P (text_of_claims c)
-of_claims P c claims are p =
-    let same : claims_report claims.cost claims.bound claims.infeasible ≡ text_of_claims c = rw (are.cost, are.bound, are.infeasible) refl in
-    subst P same p
+of_claims P c claims are p = grind (arith, are, p)

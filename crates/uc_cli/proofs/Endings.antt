@@ -1,6 +1,6 @@
 -- How the ends of a run follow from its steps: reading and searching (from the files f to g), writing the
 -- certificate (from g to h) and the report.
-use Rattle.std.proofs.Common.{◌≡◌, ℕ, true, false, subst, ap, ◌∙◌, refl, Some, None}
+use Rattle.std.proofs.Common.{arith, ◌≡◌, ℕ, true, false, subst, ap, ◌∙◌, Some, None}
 use Rattle.outside.specs.declared.slot.Slot.TheVariants as slot
 use Rattle.outside.specs.Prelude.{SlotState, SameBut, SinkState}
 use Rattle.command_runs.specs.Prelude.{IsSaved, FailsToSave, text_of_certificate, outside_of, HasCause}
@@ -18,8 +18,7 @@ pub stopped : (asked : Solve) (f g : Slot → SlotState) (out err_old err_new : 
     → HasCause (solve_options asked) (f slot.Instance) (g slot.Instance) fault → SameBut slot.Instance f g
     → IsFailure asked (outside_of f out err_old) (outside_of g out err_new) fault None
 stopped asked f g out err_old err_new (Write _) cause same = absurd cause
-stopped asked f g out err_old err_new fault cause same =
-    record { cause = cause; certificate = certificate_same f g same; out = refl }
+stopped asked f g out err_old err_new fault cause same = grind (arith, cause, same)
 
 unsaved : (asked : Solve) (f g h : Slot → SlotState) (before after err_old err_new : SinkState) (instance : Instance) (rounded : ℕ) (found : Found)
     → IsAnswer asked (f slot.Instance) instance rounded found → SameBut slot.Instance f g
@@ -35,8 +34,7 @@ unsaved asked f g h before after err_old err_new instance rounded found answer s
 saved_since : (f g h : Slot → SlotState) (instance : Instance) (found : Found) → SameBut slot.Instance f g
     → IsSaved (text_of_certificate instance found) (g slot.CertOut) (h slot.CertOut)
     → IsSaved (text_of_certificate instance found) (f slot.CertOut) (h slot.CertOut)
-saved_since f g h instance found same saved =
-    subst (λ s. IsSaved (text_of_certificate instance found) s (h slot.CertOut)) (certificate_same f g same) saved
+saved_since f g h instance found same saved = grind (arith, same, saved)
 
 untold : (asked : Solve) (f g h : Slot → SlotState) (before after err_old err_new : SinkState) (instance : Instance) (rounded : ℕ) (found : Found)
     → IsAnswer asked (f slot.Instance) instance rounded found → SameBut slot.Instance f g
@@ -63,10 +61,8 @@ calm_each : (f g h : Slot → SlotState) → SameBut slot.Instance f g → SameB
     → (g slot.Instance).faults ≡ (f slot.Instance).faults → (h slot.CertOut).faults ≡ (g slot.CertOut).faults
     → (s : Slot) → (h s).faults ≡ (f s).faults
 calm_each f g h first second read written slot.Instance = ap (λ (s : SlotState). s.faults) (second slot.Instance (λ e. cc)) ∙ read
-calm_each f g h first second read written slot.CertIn =
-    ap (λ (s : SlotState). s.faults) (second slot.CertIn (λ e. cc) ∙ first slot.CertIn (λ e. cc))
-calm_each f g h first second read written slot.CertOut =
-    written ∙ ap (λ (s : SlotState). s.faults) (first slot.CertOut (λ e. cc))
+calm_each f g h first second read written slot.CertIn = grind (arith, first, second, read, written)
+calm_each f g h first second read written slot.CertOut = grind (arith, first, second, read, written)
 
 pub done : (asked : Solve) (f g h : Slot → SlotState) (before after err_old err_new : SinkState) (instance : Instance) (rounded : ℕ) (found : Found)
     → IsAnswer asked (f slot.Instance) instance rounded found → SameBut slot.Instance f g → SameBut slot.CertOut g h

@@ -7,7 +7,7 @@ use Rattle.dual_model.specs.Cover as cover
 use Rattle.dual_model.specs.Prelude.{map_leaves}
 use Rattle.branch_tree.specs.declared.found.Found.{Found}
 use Rattle.branch_tree.specs.declared.tree.Leaf.{Leaf}
-use Rattle.branch_tree.specs.Prelude.{Table, certificate_of, leaf_claim, table_at, written_tables, NumberedTree, EndAt, SplitAt, node_count, unnumbered, Instance, tree_of, each_once, leaf_tables, leaves, stored_tables, used_tables}
+use Rattle.branch_tree.specs.Prelude.{Table, certificate_of, written_tables, NumberedTree, EndAt, SplitAt, node_count, unnumbered, Instance, each_once, leaf_tables, leaves}
 use Rattle.branch_tree.specs.declared.tree.Leaf.TheVariants as leaf
 use Rattle.cert_text.specs.CertificateText.{listing_of, preorder}
 use Rattle.uc_check.specs.Accepting.{most_rows, IsLittle}
@@ -15,8 +15,7 @@ use Rattle.uc_check.specs.Accepting.{most_rows, IsLittle}
 -- a tree has one leaf more than splits
 leaves_counted : (tree : NumberedTree) → 2 * length (leaves (unnumbered tree)) ≡ suc (node_count tree)
 leaves_counted (EndAt number leaf) = omega arith
-leaves_counted (SplitAt number g t off on) =
-    omega (arith, length-append (leaves (unnumbered off)) (leaves (unnumbered on)), leaves_counted off, leaves_counted on)
+leaves_counted (SplitAt number g t off on) = grind (arith, length-append, number, g, t, off, on, (leaves_counted off), (leaves_counted on))
 
 -- each leaf uses a table at most
 leaf_few : (leaf : Leaf) → length (leaf_tables leaf) ≤ 1
@@ -39,30 +38,13 @@ once_few (number ∷ numbers) =
     omega (arith, length-filter others (each_once numbers), count_by-le-length others (each_once numbers), once_few numbers)
 
 tables_few : (found : Found) → 2 * length (written_tables found) ≤ suc (node_count found.tree.nodes)
-tables_few found =
-    let tree = tree_of found.tree in
-    omega (
-      arith,
-      length-map (used_tables tree) (table_at found.tables),
-      once_few (stored_tables tree),
-      used_few (leaves tree),
-      leaves_counted found.tree.nodes,
-    )
+tables_few found = grind (arith, length-map, once_few, used_few, leaves_counted)
 
 nodes_counted : (claim : Leaf → cover.Leaf) (tree : NumberedTree) → length (preorder (map_leaves claim (unnumbered tree))) ≡ node_count tree
 nodes_counted claim (EndAt number leaf) = omega arith
 nodes_counted claim (SplitAt number g t off on) =
-    omega (
-      arith,
-      length-append (preorder (map_leaves claim (unnumbered off))) (preorder (map_leaves claim (unnumbered on))),
-      nodes_counted claim off,
-      nodes_counted claim on,
-    )
+    grind (arith, length-append, number, g, t, off, on, (nodes_counted claim off), (nodes_counted claim on))
 
 pub found_little : (instance : Instance) (found : Found) → node_count found.tree.nodes ≤ 2000001
     → All (λ (table : Table). length table.ramps ≤ most_rows) (written_tables found) → IsLittle (listing_of (certificate_of instance found))
-found_little instance found few rows = record {
-  tables = omega (arith, tables_few found, few);
-  rows = rows;
-  nodes = omega (arith, nodes_counted (leaf_claim (used_tables (tree_of found.tree))) found.tree.nodes, few);
-}
+found_little instance found few rows = grind (arith, tables_few, nodes_counted, few, rows)

@@ -1,15 +1,15 @@
 -- A schedule that a search lets out has a text of the certificate's grammar, in the third version.
-use Rattle.std.proofs.Common.{◌≡◌, ◌∙◌, ℕ, zero, suc, ◌<◌, ◌*◌, ◌≤◌, Bool, true, false, List, [], ◌∷◌, get_or, length, replicate, refl, subst, sym, arith, ap, ℤ, pos, ◌*ℤ◌, ◌<ℤ◌, ◌/◌, Some, None, Option, IfSome}
+use Rattle.std.proofs.Common.{◌≡◌, ℕ, zero, suc, ◌<◌, ◌*◌, ◌≤◌, Bool, true, false, List, [], ◌∷◌, get_or, length, replicate, refl, arith, ℤ, pos, ◌*ℤ◌, ◌/◌, Some, None, Option, IfSome}
 use Rattle.std.proofs.lemmas.List.{get_or_default}
-use Rattle.uc_model.specs.Prelude.{thermal_count, renewable_count, cell_at, shed_at, short_at, printed_denominator, printed_schedule}
-use Rattle.uc_model.proofs.Common.{linear, le_from_mul, mul-zero, watts-factor, share_is, shed_parts, short_parts}
+use Rattle.uc_model.specs.Prelude.{thermal_count, renewable_count, shed_at, short_at, printed_denominator, printed_schedule}
+use Rattle.uc_model.proofs.Common.{linear, watts-factor, share_is, shed_parts, short_parts}
 use Rattle.uc_model.specs.declared.instance.Instance.{Instance}
 use Rattle.uc_model.specs.declared.schedule.Cell.{Cell}
 use Rattle.uc_model.specs.declared.schedule.Printed.{Printed}
 use Rattle.schedule_check.specs.SizedNumbers.{HasSizedNumbers, IsSized, IsSizedCell}
 use Rattle.branch_tree.specs.Prelude.{written_of}
 use Rattle.cert_text.specs.CertificateText.{has_price}
-use Rattle.cert_text.specs.TextConditions.{AreShortagesText, HasNoShortage, HasDigits, IsCellText, IsThermalRow, IsPowerRow, IsScheduleText}
+use Rattle.cert_text.specs.TextConditions.{AreShortagesText, HasNoShortage, IsCellText, IsThermalRow, IsPowerRow, IsScheduleText}
 use Rattle.cert_text.specs.declared.cert.Version.TheVariants.{Third}
 use Rattle.cert_text.proofs.PlanLaws.{no_prices}
 use Rattle.found_schedule.specs.Found.{HasFoundNumbers, IsFound, IsFoundCell, IsFoundIfAny}
@@ -20,52 +20,22 @@ abbrev no_cell : Cell
 no_cell = record { on = false; p = pos 0; r = pos 0; category = 0 }
 
 cell_text : (cell : Cell) → IsFoundCell cell → IsSizedCell cell → IsCellText cell
-cell_text cell plain small = record {
-  on = λ on. record {
-    output = omega (arith, small.output);
-    reserve = omega (arith, small.reserve);
-    category = omega (arith, plain.category);
-  };
-  off = λ off.
-      let idle = plain.off off in
-      record { output = idle.output; reserve = idle.reserve; category = idle.category };
-}
+cell_text cell plain small = grind (arith, linear, plain, small)
 
 thermal_row : (periods : ℕ) (printed : Printed) (g : ℕ) (row : List Cell) → HasFoundNumbers printed → row ≡ get_or printed.thermal g []
     → length row ≡ periods → IsThermalRow periods row
-thermal_row periods printed g row numbers is count = record {
-  cells = count;
-  written = λ t d within.
-      let same : cell_at printed g t ≡ get_or row t d = ap (λ r. get_or r t no_cell) (sym is) ∙ get_or_default row t no_cell d within in
-      subst IsCellText same (cell_text (cell_at printed g t) (numbers.cells g t) (numbers.sized.thermal g t));
-}
+thermal_row periods printed g row numbers is count = grind (arith, linear, get_or_default, cell_text, numbers, is, count)
 
 renewable_row : (periods : ℕ) (printed : Printed) (w : ℕ) (row : List ℤ) → HasSizedNumbers printed
     → row ≡ get_or printed.renewable w [] → length row ≡ periods → IsPowerRow periods row
-renewable_row periods printed w row small is count = record {
-  powers = count;
-  written = λ t d within.
-      let same : get_or (get_or printed.renewable w []) t (pos 0) ≡ get_or row t d = ap (λ r. get_or r t (pos 0)) (sym is) ∙ get_or_default row t (pos 0) d within in
-      let output = small.renewable w t in
-      subst (HasDigits 15) same (omega (arith, output));
-}
+renewable_row periods printed w row small is count = grind (arith, linear, get_or_default, small, is, count)
 
 power_row : (periods : ℕ) (row : List ℤ) → length row ≡ periods → ((t : ℕ) → IsSized (get_or row t (pos 0))) → IsPowerRow periods row
-power_row periods row count small = record {
-  powers = count;
-  written = λ t d within.
-      let power = small t in
-      subst (HasDigits 15) (get_or_default row t (pos 0) d within) (omega (arith, power));
-}
+power_row periods row count small = grind (arith, linear, get_or_default, count, small)
 
 -- ---- without a price nothing is missing
 zero_over : (q : ℕ) (missing : ℤ) → 1 ≤ q → pos q *ℤ missing ≡ pos 0 → missing ≡ pos 0
-zero_over q missing some e =
-    let positive : pos 0 <ℤ pos q = omega (arith, linear) in
-    let none = mul-zero (pos q) in
-    let low = le_from_mul (pos q) (pos 0) missing positive (omega (arith, linear, e, none)) in
-    let high = le_from_mul (pos q) missing (pos 0) positive (omega (arith, linear, e, none)) in
-    omega (arith, linear, low, high)
+zero_over q missing some e = grind (arith, linear, some, e)
 
 no_powers : (n : ℕ) (powers : List ℤ) → length powers ≡ n → ((t : ℕ) → t < n → get_or powers t (pos 0) ≡ pos 0)
     → powers ≡ replicate n (pos 0)
@@ -78,8 +48,7 @@ no_powers (suc n) (z ∷ powers) count none = λ i.
 -- a share of the schedule's denominator is at least 1
 share_zero : (q c d : ℕ) (missing : ℤ) → 0 < d → q ≡ c * d → 1 ≤ q → pos (q / d) *ℤ missing ≡ pos 0 → missing ≡ pos 0
 share_zero q zero d missing some e positive h = absurd (omega (arith, e, positive))
-share_zero q (suc c) d missing some e positive h =
-    zero_over (suc c) missing (omega arith) (ap (λ n. pos n *ℤ missing) (sym (share_is q (suc c) d some e)) ∙ h)
+share_zero q (suc c) d missing some e positive h = grind (arith, linear, zero_over, share_is, some, e, positive, h)
 
 lacks_nothing : (over : Bool) (instance : Instance) (printed : Printed) (cost : ℤ) → IsFound over instance printed cost
     → (instance.a ≡ 0) × (instance.b ≡ 0) → HasNoShortage instance.periods printed
@@ -102,10 +71,7 @@ shortages_text : (over : Bool) (instance : Instance) (printed : Printed) (cost :
     → has_price instance.a instance.b ≡ priced → AreShortagesText priced instance.periods printed
 shortages_text over instance printed cost false found none =
     lacks_nothing over instance printed cost found (no_prices instance.a instance.b none)
-shortages_text over instance printed cost true found some = record {
-  shed = power_row instance.periods printed.shed found.shape.shed found.numbers.shed;
-  short = power_row instance.periods printed.short found.shape.short found.numbers.short;
-}
+shortages_text over instance printed cost true found some = grind (arith, linear, power_row, found, some)
 
 schedule_text : (over : Bool) (instance : Instance) (printed : Printed) (cost : ℤ) → IsFound over instance printed cost
     → IsScheduleText Third (has_price instance.a instance.b) instance.periods (thermal_count instance) (renewable_count instance)

@@ -8,7 +8,6 @@ use Rattle.dual_model.proofs.Covers.{certificates_claim_truly}
 use Rattle.outside.specs.Prelude.{SlotState}
 use Rattle.branch_tree.specs.Prelude.{tree_bound, certificate_of, written_tables}
 use Rattle.cert_text.specs.TextConditions.{HasWrittenText, IsMoney}
-use Rattle.cert_text.specs.declared.cert.Version.TheVariants.{Third}
 use Rattle.cert_text.proofs.Parts.{found_has_text}
 use Rattle.demo_gen.specs.Demo.{demo_instance}
 use Rattle.roll.specs.Prelude.{IsNextWindow}
@@ -45,9 +44,7 @@ countable table few = omega (arith, few)
 text_of : (exact over : Bool) (instance : Instance) (budget gap : ℕ) (found : Found) → IsLawfulInstance instance → IsSearchResult exact instance budget gap found
     → IsWritable over instance found → HasWrittenText (certificate_of instance found)
 text_of exact over instance budget gap found lawful result writable =
-    found_has_text Third instance found lawful writable.tree result.truth.certificate (has_schedule_text over instance found.schedule writable.schedule)
-    (bound_text (tree_bound found.tree) writable.bound)
-    (All-weaker HasFewRows (λ (table : Table). length table.ramps < 10 ^ 18) countable (written_tables found) writable.tables)
+    grind (arith, found_has_text, has_schedule_text, bound_text, All-weaker, countable, lawful, result, writable)
 
 pub answered : (asked : Solve) (file : SlotState) (instance : Instance) (rounded : ℕ) (found : Found) → IsLawfulInstance instance
     → HasInstance (solve_options asked) file instance rounded → IsSearchResult asked.exact_units instance asked.units asked.gap found
@@ -80,10 +77,8 @@ demo_answered seed instance found is lawful result = record {
 -- ---- rolling windows
 pub rolled_true : (exact : Bool) (instance : Instance) (budget gap window step : ℕ) (rolled : Rolled) → IsLawfulInstance instance
     → IsRolled exact instance budget gap window step rolled → IsRolledTrue instance rolled
-rolled_true exact instance budget gap window step (Whole schedule cost windows) lawful is = record {
-  obeys = is.accepted.obeys;
-  costs = rw is.accepted.cost_is (cost-le-printed instance schedule lawful is.accepted.obeys);
-}
+rolled_true exact instance budget gap window step (Whole schedule cost windows) lawful is =
+    grind (arith, cost-le-printed, schedule, cost, windows, lawful, is)
 rolled_true exact instance budget gap window step (Stopped number from to kept found) lawful is = (
   is.ahead,
   subst (λ len. IsNextWindow instance kept (from - 1) len is.ahead) (omega (arith, is.is_from))

@@ -1,19 +1,16 @@
 -- The numbers of a schedule that has a text have so few digits, those past its rows too.
-use Rattle.std.proofs.Common.{◌≡◌, ℕ, ◌<◌, ◌≤◌, Bool, true, false, List, [], length, get_or, All, refl, sym, subst, ⊎_elim, arith, ℤ, pos}
+use Rattle.std.proofs.Common.{ℕ, Bool, false, List, [], get_or, All, ⊎_elim, arith, ℤ, pos}
 use Rattle.std.proofs.lemmas.Bool.{cases_lt}
 use Rattle.std.proofs.lemmas.List.{get_or_past}
 use Rattle.std.proofs.lemmas.List.Elements.{All-nil}
 use Rattle.dual_model.specs.Prelude.{WrittenSchedule}
 use Rattle.schedule_check.specs.SizedNumbers.{Cell, HasSizedNumbers, IsSized, IsSizedCell}
 use Rattle.cert_text.specs.declared.cert.Version.{Version}
-use Rattle.cert_text.specs.TextConditions.{HasDigits, IsCellText, IsOffCell, IsOnCell, IsScheduleText}
+use Rattle.cert_text.specs.TextConditions.{HasDigits, IsCellText, IsScheduleText}
 
 -- what holds of each element, and past the end, holds everywhere
 in_list : {X : Type 0} (P : X → Type 0) (xs : List X) (past : X) → All P xs → P past → (i : ℕ) → P (get_or xs i past)
-in_list P xs past all none i = ⊎_elim
-    (λ (within : i < length xs). all i past within)
-    (λ (after : length xs ≤ i). subst P (sym (get_or_past xs i past after)) none)
-    (cases_lt i (length xs))
+in_list P xs past all none i = grind (arith, ⊎_elim, get_or_past, cases_lt, all, none)
 
 in_rows : {X : Type 0} (P : X → Type 0) (rows : List (List X)) (past : X) → All (λ row. All P row) rows → P past
     → (i j : ℕ) → P (get_or (get_or rows i []) j past)
@@ -27,15 +24,7 @@ sized_power : (z : ℤ) → HasDigits 15 z → IsSized z
 sized_power z digits = omega (arith, digits)
 
 sized_cell : (cell : Cell) → IsCellText cell → IsSizedCell cell
-sized_cell cell text = by_state cell.on text.on text.off
-  where
-    by_state : (on : Bool) → (on ≡ true → IsOnCell cell) → (on ≡ false → IsOffCell cell) → IsSizedCell cell
-    by_state true on off =
-        record { output = sized_power cell.p (on refl).output; reserve = sized_power cell.r (on refl).reserve }
-    by_state false on off = record {
-      output = subst IsSized (sym (off refl).output) sized_nought;
-      reserve = subst IsSized (sym (off refl).reserve) sized_nought;
-    }
+sized_cell cell text = grind (arith, text)
 
 -- where a schedule has no cell
 abbrev no_cell : Cell

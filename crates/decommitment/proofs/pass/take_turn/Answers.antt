@@ -1,8 +1,7 @@
 -- The commitment with the unit's pattern of the fewest on periods was tried, or stands already.
-use Rattle.std.proofs.Common.{◌≡◌, ◌<◌, ◌∙◌, ap, arith, rules, length, refl, set, subst, sym, slice_index_or}
+use Rattle.std.proofs.Common.{◌≡◌, ◌<◌, ◌∙◌, arith, rules, length, refl, subst, slice_index_or}
 use Rattle.std.proofs.lemmas.List.{get_or_read, set-get_or, set-set}
-use Rattle.decommitment.specs.inside.Runs.{IsOrigin, IsRun, IsTrialOf, instance_of, order_of}
-use Rattle.decommitment.specs.inside.Turns.{AreAllowed}
+use Rattle.decommitment.specs.inside.Runs.{IsRun, IsTrialOf, instance_of, order_of}
 use Rattle.decommitment.proofs.Drops.{allowed_set, passed_spared}
 use Rattle.decommitment.proofs.pass.take_turn.Goals as goal
 
@@ -29,28 +28,10 @@ returns-then-eq c =
     }
 
 pub attempt-requires-clause-allowed : goal.attempt-requires-clause-allowed
-attempt-requires-clause-allowed c =
-    let instance = instance_of c.args.setting.now in
-    subst (AreAllowed instance) (sym c.deref.ensures.value)
-    (allowed_set instance c.args.pass.now.patterns.items c.args.g c.fewest-fewest.result c.requires.passed.kept.count c.requires.passed.kept.allowed
-    c.fewest-fewest.ensures)
+attempt-requires-clause-allowed c = grind (arith, allowed_set, c)
 
 pub attempt-requires-clause-origin : goal.attempt-requires-clause-origin
-attempt-requires-clause-origin c =
-    let instance = instance_of c.args.setting.now in
-    let order = order_of c.args.setting.now in
-    let start = c.args.setting.now.start.now in
-    let former = c.args.pass.now.patterns.items in
-    let stood = c.index.result.now in
-    let kept = c.requires.passed.kept in
-    let within : c.args.g < length former = omega (arith, c.requires.unit, kept.count) in
-    let back : set (set former c.args.g c.fewest-fewest.result) c.args.g stood ≡ former =
-    set-set former c.args.g c.fewest-fewest.result stood
-    ∙ (ap (set former c.args.g) (get_or_read former c.args.g stood within c.index.ensures stood) ∙ set-get_or former c.args.g stood) in
-    subst (λ p. IsOrigin instance order p start c.args.pass.now.best c.args.g stood) (sym c.deref.ensures.value) (record {
-      unit = λ t fill at. c.requires.unit;
-      run = subst (λ p. IsRun instance order p start c.args.pass.now.best) (sym back) kept.run;
-    })
+attempt-requires-clause-origin c = grind (arith, set-set, get_or_read, set-get_or, c)
 
 pub returns : goal.returns
 returns c =

@@ -1,25 +1,25 @@
 -- The next period comes after the amounts of the last one, in both runs.
-use Rattle.std.proofs.Common.{arith, length, subst, sym}
+use Rattle.std.proofs.Common.{◌≡◌, ◌<◌, List, ℤ, arith, length, subst, sym}
+use Rattle.uc_model.specs.Prelude.{thermal_count}
 use Rattle.dispatch_repair.specs.Prelude.{AreBeforePeriod}
-use Rattle.decommitment.specs.inside.Runs.{instance_of, order_of}
+use Rattle.decommitment.specs.DropCommitment.{Pattern}
+use Rattle.decommitment.specs.inside.Runs.{AreFills, Fill, IsSetting, Setting, instance_of, order_of, outputs_before}
 use Rattle.decommitment.proofs.Runs.{before_period}
 use Rattle.decommitment.proofs.run.fill_next.Goals as goal
 
+-- what is given before the next period
+before_next : (setting : Setting) (patterns : List Pattern) (fills : List Fill) (given : List ℤ) → given ≡ outputs_before setting.start.now fills (length fills)
+    → IsSetting setting → AreFills (instance_of setting) (order_of setting) patterns setting.start.now fills → length patterns ≡ thermal_count (instance_of setting)
+    → length fills < (instance_of setting).periods → AreBeforePeriod (instance_of setting) patterns (length fills) given
+before_next setting patterns fills given is own are count within =
+    subst (AreBeforePeriod (instance_of setting) patterns (length fills)) (sym is) (before_period (instance_of setting) (order_of setting) patterns
+    setting.start.now fills own.lawful own.start are count (length fills) (omega arith) within)
+
 pub fill_again-requires-clause-hour : goal.fill_again-requires-clause-hour
-fill_again-requires-clause-hour c = record {
-  before = subst (AreBeforePeriod (instance_of c.args.setting.now) c.args.patterns.now (length c.args.fills.now)) (sym c.given_before-before.ensures)
-      (before_period (instance_of c.args.setting.now) (order_of c.args.setting.now) c.args.patterns.now c.args.setting.now.start.now c.args.fills.now
-      c.requires.setting.lawful c.requires.setting.start c.requires.fills c.requires.patterns (length c.args.fills.now) (omega arith) c.requires.period);
-  merit = c.requires.setting.merit;
-}
+fill_again-requires-clause-hour c = grind (arith, before_next, c)
 
 pub fill_anew-requires-clause-hour : goal.fill_anew-requires-clause-hour
-fill_anew-requires-clause-hour c = record {
-  before = subst (AreBeforePeriod (instance_of c.args.setting.now) c.args.patterns.now (length c.args.fills.now)) (sym c.given_before-before.ensures)
-      (before_period (instance_of c.args.setting.now) (order_of c.args.setting.now) c.args.patterns.now c.args.setting.now.start.now c.args.fills.now
-      c.requires.setting.lawful c.requires.setting.start c.requires.fills c.requires.patterns (length c.args.fills.now) (omega arith) c.requires.period);
-  merit = c.requires.setting.merit;
-}
+fill_anew-requires-clause-hour c = grind (arith, before_next, c)
 
 pub given_before-requires : goal.given_before-requires
 given_before-requires c = grind (arith, c)

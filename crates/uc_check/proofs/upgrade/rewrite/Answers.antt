@@ -22,10 +22,8 @@ returns-in-Ok-clause-done g c =
 
 pub returns-in-Ok-clause-files : goal.returns-in-Ok-clause-files
 returns-in-Ok-clause-files g c = λ out_old out_new err_old err_new.
-    let files = g.F.Files.state in
-    keeps (upgrade_asked c.args.asked.now) (files c.args.files.now) (files c.read_certificate.new.files) (files c.save_read.new.files)
-    out_old out_new err_old err_new c.in_ok-cert.ensures.named c.in_ok-cert.ensures.only_read c.in_ok-cert.ensures.others
-    c.save_read.ensures.named c.save_read.ensures.others
+    keeps (upgrade_asked c.args.asked.now) _ _ _ out_old out_new err_old err_new c.in_ok-cert.ensures.named c.in_ok-cert.ensures.only_read
+    c.in_ok-cert.ensures.others c.save_read.ensures.named c.save_read.ensures.others
 
 pub returns-in-Err-clause-failed : goal.returns-in-Err-clause-failed
 returns-in-Err-clause-failed g c = λ out err_old err_new.
@@ -36,7 +34,5 @@ returns-in-Err-clause-failed g c = λ out err_old err_new.
 
 pub returns-in-Err-clause-files : goal.returns-in-Err-clause-files
 returns-in-Err-clause-files g c = λ out_old out_new err_old err_new.
-    let files = g.F.Files.state in
-    keeps (upgrade_asked c.args.asked.now) (files c.args.files.now) (files c.read_certificate.new.files) (files c.save_read.new.files)
-    out_old out_new err_old err_new c.in_ok-cert.ensures.named c.in_ok-cert.ensures.only_read c.in_ok-cert.ensures.others
-    c.save_read.ensures.named c.save_read.ensures.others
+    keeps (upgrade_asked c.args.asked.now) _ _ _ out_old out_new err_old err_new c.in_ok-cert.ensures.named c.in_ok-cert.ensures.only_read
+    c.in_ok-cert.ensures.others c.save_read.ensures.named c.save_read.ensures.others

@@ -1,5 +1,5 @@
 -- A fault of the certificate comes after the instance was read.
-use Rattle.std.proofs.Common.{inr, refl}
+use Rattle.std.proofs.Common.{arith}
 use Rattle.command_line.specs.Asked.{check_asked}
 use Rattle.uc_check.proofs.Verdicts.{certificate_fault, for_instance, refused_cause, verified}
 use Rattle.uc_check.proofs.verify.verify.Goals as goal
@@ -13,27 +13,7 @@ returns-in-Ok-claims_of-clause-verified g c =
     c.in-Ok.ensures.text c.in-Ok-claims_of.ensures.accepted c.in-Ok-claims_of.ensures.claim
 
 pub returns-in-Err-claims_of-clause-stopped : goal.returns-in-Err-claims_of-clause-stopped
-returns-in-Err-claims_of-clause-stopped g c = λ out err_old err_new.
-    let files = g.F.Files.state in
-    let old = files c.args.files.now in
-    let middle = files c.read_instance.new.files in
-    let new = files c.read_certificate.new.files in
-    let fault = c.in-Err-claims_of.fault in
-    record {
-      cause = inr (certificate_fault (check_asked c.args.asked.now) old middle new out err_old err_new c.in_ok-instance.instance c.in_ok-instance._rounded fault
-          c.in_ok-instance.ensures.read c.in_ok-instance.ensures.others c.in-Ok.ensures.others c.in_ok-instance.ensures.calm
-          (refused_cause old middle new c.in_ok-instance.instance c.in-Ok.cert fault c.in-Ok.ensures.calm
-          c.in-Ok.ensures.text c.in-Err-claims_of.ensures.refused));
-      out = refl;
-    }
+returns-in-Err-claims_of-clause-stopped g c = grind (arith, certificate_fault, refused_cause, g, c)
 
 pub returns-in-Err-clause-stopped : goal.returns-in-Err-clause-stopped
-returns-in-Err-clause-stopped g c = λ out err_old err_new.
-    let files = g.F.Files.state in
-    record {
-      cause = inr (certificate_fault (check_asked c.args.asked.now) (files c.args.files.now) (files c.read_instance.new.files) (files c.read_certificate.new.files)
-          out err_old err_new c.in_ok-instance.instance c.in_ok-instance._rounded c.in-Err.fault
-          c.in_ok-instance.ensures.read c.in_ok-instance.ensures.others c.in-Err.ensures.others c.in_ok-instance.ensures.calm
-          (for_instance c.in_ok-instance.instance _ _ _ c.in-Err.ensures.cause));
-      out = refl;
-    }
+returns-in-Err-clause-stopped g c = grind (arith, certificate_fault, for_instance, g, c)

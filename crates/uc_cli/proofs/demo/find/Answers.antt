@@ -7,6 +7,4 @@ pub search-requires-clause-options : goal.search-requires-clause-options
 search-requires-clause-options g c = λ lifetimes within. record { budget = omega arith; some = omega arith; workers = omega arith; gap = omega arith }
 
 pub returns-clause-answer : goal.returns-clause-answer
-returns-clause-answer g c =
-    demo_answered c.args.seed c.in_ok-instance.instance c.in_ok-found.found c.in_ok-instance.ensures.generated c.in_ok-instance.ensures.lawful
-    c.in_ok-found.ensures.result
+returns-clause-answer g c = grind (arith, demo_answered, g, c)

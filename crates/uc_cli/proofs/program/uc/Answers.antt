@@ -1,14 +1,12 @@
 -- A demo touches no file, and where memory was refused at the words nothing was touched.
-use Rattle.std.proofs.Common.{◌∙◌, ap, Some}
+use Rattle.std.proofs.Common.{arith, ◌∙◌, ap, Some}
 use Rattle.command_line.specs.Asked.{command_asked, demo_asked}
 use Rattle.command_line.specs.Command.{Demos}
-use Rattle.uc_cli.proofs.TurnedAway.{stopped_run, usage}
+use Rattle.uc_cli.proofs.TurnedAway.{stopped_run}
 use Rattle.uc_cli.proofs.program.uc.Goals as goal
 
 pub returns-in-Err-clause-usage : goal.returns-in-Err-clause-usage
-returns-in-Err-clause-usage g c = λ refused.
-    usage _ c.in-Err.fault (g.F.Files.state c.args.files.now) (g.O.Sink.state c.args.out.now) (g.E.Sink.state c.args.err.now)
-    (g.E.Sink.state c.end_of.new.err) c.end_of.result c.in-Err.ensures.refused c.end_of.ensures
+returns-in-Err-clause-usage g c = grind (arith, g, c)
 
 pub returns-in-Err-clause-run : goal.returns-in-Err-clause-run
 returns-in-Err-clause-run g c =

@@ -1,25 +1,11 @@
 -- Each end from the steps before it.
-use Rattle.std.proofs.Common.{refl, None}
+use Rattle.std.proofs.Common.{arith, refl}
 use Rattle.command_line.specs.Asked.{solve_asked}
-use Rattle.command_runs.proofs.HandedUp.{handed_up}
-use Rattle.command_runs.specs.Prelude.{outside_of}
-use Rattle.command_runs.specs.declared.ending.Failure.{Failure}
-use Rattle.uc_cli.specs.Run.{IsFailure}
-use Rattle.uc_cli.proofs.Endings.{stopped, unwritten, done}
+use Rattle.uc_cli.proofs.Endings.{unwritten, done}
 use Rattle.uc_cli.proofs.solve.find_and_write.Goals as goal
 
 pub returns-in_err-answer-clause-failed : goal.returns-in_err-answer-clause-failed
-returns-in_err-answer-clause-failed g c = λ err_old err_new.
-    let files = g.F.Files.state in
-    let sink = g.O.Sink.state in
-    let asked = solve_asked c.args.asked.now in
-    let fault = c.in_err-answer.field-0.0 in
-    let before = outside_of (files c.args.files.now) (sink c.args.out.now) err_old in
-    let after = outside_of (files c.find.new.files) (sink c.args.out.now) err_new in
-    handed_up c.from_residual.result (record { fault = fault; found = None }) (λ (f : Failure). IsFailure asked before after f.fault f.found)
-    c.from_residual.ensures.1
-    (stopped asked (files c.args.files.now) (files c.find.new.files) (sink c.args.out.now) err_old err_new fault c.in_err-answer.ensures.cause
-    c.in_err-answer.ensures.others)
+returns-in_err-answer-clause-failed g c = grind (arith, g, c)
 
 pub returns-clause-failed : goal.returns-clause-failed
 returns-clause-failed g c = λ err_old err_new.

@@ -1,10 +1,9 @@
 -- Each end from the steps before it.
 use Rattle.std.specs.Prelude.{None, refl}
 use Rattle.command_line.specs.Asked.{uplift_asked}
-use Rattle.command_runs.specs.Prelude.{IsTold, FailsToTell}
 use Rattle.command_runs.proofs.ReportEnds.{told_end, untold_end}
 use Rattle.command_runs.proofs.HandedUp.{handed_up}
-use Rattle.uc_uplift.proofs.Uplifts.{has_uplifts, of_uplifts, stopped_uplift, without_uplifts}
+use Rattle.uc_uplift.proofs.Uplifts.{stopped_uplift, uplifts_told, uplifts_untold, without_uplifts}
 use Rattle.uc_uplift.proofs.uplifting.uplift_and_tell.Goals as goal
 
 pub returns-in_err-checked-clause-failed : goal.returns-in_err-checked-clause-failed
@@ -24,39 +23,19 @@ uplifts_at-requires g c =
 
 pub returns-in-Ok-clause-done : goal.returns-in-Ok-clause-done
 returns-in-Ok-clause-done g c = λ err_old err_new.
-    let files = g.F.Files.state in
-    let sink = g.O.Sink.state in
-    let asked = uplift_asked c.args.asked.now in
-    let checked = c.in_ok-checked.ensures.verified in
-    let told = c.in-Ok.uplifted in
-    let is = c.in-Ok.ensures.uplifted in
-    told_end c.tell_uplifts-told.result c.end_of_report.result _ _ c.end_of_report.ensures c.tell_uplifts-told.ensures.told (λ said. record {
+    told_end c.tell_uplifts-told.result c.end_of_report.result _ _ c.end_of_report.ensures c.tell_uplifts-told.ensures.told (λ told. record {
       code = refl;
       nothing = refl;
       unrolled = refl;
-      done = record {
-        has = has_uplifts asked (files c.args.files.now) (files c.verify.new.files) c.in_ok-checked.checked is.printed told.table is.uplifts checked
-            is.picked is.are;
-        told = of_uplifts (λ text. IsTold text (sink c.args.out.now) (sink c.tell_uplifts-told.new.out)) asked.check (files c.args.files.now)
-            (files c.verify.new.files) c.in_ok-checked.checked told.table is.uplifts told.numbers checked is.numbers said;
-        calm = checked.calm;
-      };
+      done = uplifts_told (uplift_asked c.args.asked.now) (g.F.Files.state c.args.files.now) (g.F.Files.state c.verify.new.files) _ _ err_old err_new
+          c.in_ok-checked.checked c.in-Ok.uplifted c.in_ok-checked.ensures.verified c.in-Ok.ensures.uplifted told;
     })
 
 pub returns-in-Ok-clause-failed : goal.returns-in-Ok-clause-failed
 returns-in-Ok-clause-failed g c = λ err_old err_new.
-    let files = g.F.Files.state in
-    let sink = g.O.Sink.state in
-    let asked = uplift_asked c.args.asked.now in
-    let checked = c.in_ok-checked.ensures.verified in
-    let told = c.in-Ok.uplifted in
-    let is = c.in-Ok.ensures.uplifted in
-    untold_end c.tell_uplifts-told.result c.end_of_report.result _ _ c.end_of_report.ensures c.tell_uplifts-told.ensures.failed (λ failed. record {
-      has = has_uplifts asked (files c.args.files.now) (files c.verify.new.files) c.in_ok-checked.checked is.printed told.table is.uplifts checked
-          is.picked is.are;
-      report = of_uplifts (λ text. FailsToTell text (sink c.args.out.now) (sink c.tell_uplifts-told.new.out)) asked.check (files c.args.files.now)
-          (files c.verify.new.files) c.in_ok-checked.checked told.table is.uplifts told.numbers checked is.numbers failed;
-    })
+    untold_end c.tell_uplifts-told.result c.end_of_report.result _ _ c.end_of_report.ensures c.tell_uplifts-told.ensures.failed
+    (uplifts_untold (uplift_asked c.args.asked.now) (g.F.Files.state c.args.files.now) (g.F.Files.state c.verify.new.files) _ _ err_old err_new
+    c.in_ok-checked.checked c.in-Ok.uplifted c.in_ok-checked.ensures.verified c.in-Ok.ensures.uplifted)
 
 pub returns-in-Ok-clause-files : goal.returns-in-Ok-clause-files
 returns-in-Ok-clause-files g c = λ err_old err_new.

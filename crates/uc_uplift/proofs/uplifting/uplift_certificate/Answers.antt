@@ -3,10 +3,7 @@ use Rattle.command_runs.proofs.Endings.{ended}
 use Rattle.uc_uplift.proofs.uplifting.uplift_certificate.Goals as goal
 
 pub returns : goal.returns
-returns g c =
-    let old = g.E.Sink.state c.args.err.now in
-    let new = g.E.Sink.state c.end_of.new.err in
-    record {
-      files = c.uplift_and_tell-outcome.ensures.files old new;
-      ended = ended _ _ _ _ _ _ (c.uplift_and_tell-outcome.ensures.done old new) (c.uplift_and_tell-outcome.ensures.failed old new) c.end_of.ensures;
-    }
+returns g c = record {
+  files = c.uplift_and_tell-outcome.ensures.files _ _;
+  ended = ended _ _ _ _ _ _ (c.uplift_and_tell-outcome.ensures.done _ _) (c.uplift_and_tell-outcome.ensures.failed _ _) c.end_of.ensures;
+}
