@@ -13,13 +13,13 @@ use Rattle.branch_tree.proofs.Subtrees.{part_counted}
 use Rattle.branch_tree.specs.declared.found.Entry.{Entry}
 use Rattle.branch_tree.specs.declared.found.Outcome.{Outcome}
 use Rattle.branch_tree.specs.declared.tree.Leaf.TheVariants as leaf
-use Rattle.search_machine.specs.Prelude.{Machine, IsHeldIn, IsLive, IsOpen, IsHolding, spot_stored, stored_at, kept, children_by, tickets_of, IsMoveLegal, IsOrderly, IsTrueOutcome, IsTrueEvent, IsTrueStart, TreeHoldsAt, TreeRunsHold, AnyCost, IsLegalBy}
+use Rattle.search_machine.specs.Prelude.{Machine, IsHeldIn, IsLive, IsOpen, IsHolding, spot_stored, stored_at, kept, children_by, tickets_of, IsOrderly, IsTrueOutcome, IsTrueEvent, IsTrueStart, TreeHoldsAt, TreeRunsHold, AnyCost, IsLegalBy}
 use Rattle.search_machine.specs.declared.holder.Holder.{Holder}
 use Rattle.search_machine.specs.declared.stored.Stored.{Stored}
 use Rattle.std.specs.Option.{IfSome}
 use Rattle.branch_tree.specs.declared.tree.Spot.TheVariants as spot
 use Rattle.search_machine.specs.declared.event.Move.{Move}
-use Rattle.search_machine.specs.declared.event.Move.TheVariants.{Again, Prune}
+use Rattle.search_machine.specs.declared.event.Move.TheVariants.{Again}
 use Rattle.search_machine.specs.declared.event.Event.TheVariants as event
 use Rattle.search_machine.proofs.Claims.{IsHoldable, holdable, holder_place}
 use Rattle.search_machine.proofs.Growth.{tree_grows, leaf_part, holds_of_leaf}
@@ -127,12 +127,6 @@ ended_count : (claims : List Claim) (unit : ℕ) (status : Status) → length (e
 ended_count claims unit status = length-set claims (unit - 1) (record (claim_of claims unit) { status = status })
 
 -- ---- a commit
-move_legal : (book : BookView) (worker node : ℕ) (table : Table) (exact : Bool) (outcome : Outcome) (action : Move)
-    → IsMoveLegal (λ cost. Unit {0}) (state_of book) node table exact outcome action
-    → IsMoveLegal (AnyCost (state_of book) worker) (state_of book) node table exact outcome action
-move_legal book worker node table exact outcome (Prune seen) legal = (legal.0, record { looked = tt; within = legal.1.within })
-move_legal book worker node table exact outcome _ legal = legal
-
 pub commit_legal : (book : BookView) (worker unit node : ℕ) (given : Node) (table : Table) (exact : Bool) (outcome : Outcome) (action : Move)
     → worker < 256 → IsHolding (state_of book) worker unit node → MayBe book node given table exact outcome action
     → IsLegalBy AnyCost (state_of book) (event.Commit worker unit table exact outcome action)

@@ -1,5 +1,5 @@
 -- Where the parts of a tree hang, by their numbers, and what a replaced leaf changes in these.
-use Rattle.std.proofs.Common.{◌≡◌, ℕ, ◌+◌, ◌*◌, ◌≤◌, ◌⊎◌, Bool, true, false, cond, refl, ap, sym, ◌∙◌, subst, arith, inl, inr, ⊎_elim, ◌==◌, ◌<◌, Option, Some, None}
+use Rattle.std.proofs.Common.{◌≡◌, ℕ, ◌+◌, ◌*◌, ◌≤◌, ◌⊎◌, Bool, true, false, cond, refl, ap, sym, ◌∙◌, subst, arith, ⊎_elim, ◌==◌, ◌<◌, Some, None}
 use Rattle.std.specs.Option.{option_or}
 use Rattle.std.proofs.lemmas.Bool.{eq-eqb, cases_lt}
 use Rattle.dual_model.specs.Prelude.{child}
@@ -68,10 +68,6 @@ pub record IsHere (here : Node) (tree : NumberedTree) (wanted : ℕ) (part : Sub
 pub at_root : (here : Node) (tree : NumberedTree) → subtree_below here tree (number_of tree) ≡ Some (record { node = here; tree = tree })
 at_root here (EndAt number leaf) = grind (arith, number, leaf)
 at_root here (SplitAt number g t off on) = grind (arith, number, g, t, off, on)
-
-or_cases : {A : Type 0} (a b : Option A) (x : A) → option_or a b ≡ Some x → (a ≡ Some x) ⊎ ((a ≡ None) × (b ≡ Some x))
-or_cases None b x e = inr (refl, e)
-or_cases (Some y) b x e = inl e
 
 pub subtree_cases : (here : Node) (number g t : ℕ) (off on : NumberedTree) (wanted : ℕ) (part : Subtree)
     → subtree_below here (SplitAt number g t off on) wanted ≡ Some part

@@ -21,9 +21,6 @@ passing_both : {A : Type 0} (form : Form A) (first second : A → Bool) (bytes :
     → passing (λ a. first a && second a) form bytes ≡ option_and_then (λ (x : A × List ℕ). cond (second x.0) (Some x) None) (passing first form bytes)
 passing_both {A} form first second bytes = grind arith
 
-passed : {A : Type 0} (form : Form A) (test : A → Bool) (bytes : List ℕ) (x : A × List ℕ) → passing test form bytes ≡ Some x → test x.0 ≡ true
-passed {A} form test bytes x e = grind (arith, e)
-
 change_read : (size : Sizes) (table : Table) (last : Option Change) (bytes rest : List ℕ) (change : Change)
     → passing (is_within size) written_change_at bytes ≡ Some (change, rest)
     → change_at size table last bytes ≡ cond (comes_behind last change && is_other table change) (Some (change, rest)) None

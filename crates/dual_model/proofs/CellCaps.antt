@@ -12,7 +12,7 @@ min_of_more a b h = grind (arith, ints)
 
 -- a start in the first period is one of a unit that is off initially
 start_counts : (unit : Thermal) (on : Commitment) (t : ℕ) → (starts unit on t && not (unit.on0 && (t == 0))) ≡ starts unit on t
-start_counts unit on zero = grind (arith, ints, zero)
+start_counts unit on zero = grind (arith, ints)
 start_counts unit on (suc t) = grind (arith, ints)
 
 followed_counts : (a b : Bool) → ((a && b) && b) ≡ (a && b)

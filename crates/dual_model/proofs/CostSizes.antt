@@ -28,8 +28,8 @@ only_where b o m h = cond_both b o None (λ x. IsWithin m x) (λ e. h) (λ e. tt
 
 pub move-size : (unit : Thermal) (terms : Terms) (fix : Fix) → IsLawfulThermal unit → AreSizedTerms unit terms → (t : ℕ) → t < period_count terms
     → (was : Bool) (since : ℕ) (now : Bool) → IsWithin MAX_MOVE (move terms unit fix t was since now)
-move-size unit terms fix lawful sized t h true since true = grind (arith, ints, only_where, hour_before-size, lawful, sized, h, true)
-move-size unit terms fix lawful sized t h true since false = grind (arith, ints, only_where, hour_before-size, lawful, sized, h, true, false)
+move-size unit terms fix lawful sized t h true since true = grind (arith, ints, only_where, hour_before-size, lawful, sized, h)
+move-size unit terms fix lawful sized t h true since false = grind (arith, ints, only_where, hour_before-size, lawful, sized, h)
 move-size unit terms fix lawful sized t h false since true =
     only_where _ (Some (terms.k *ℤ sigma unit (stop_since since) t)) MAX_MOVE start
   where
@@ -62,7 +62,7 @@ end_cost-size unit terms lawful sized t h false since = omega arith
 
 pub cost_to_go-size : (unit : Thermal) (terms : Terms) (fix : Fix) → IsLawfulThermal unit → AreSizedTerms unit terms → (n t : ℕ) → n + t ≤ period_count terms
     → (was : Bool) (since : ℕ) → IsWithin (MAX_MOVE * n + MAX_MOVE) (cost_to_go terms unit fix n t was since)
-cost_to_go-size unit terms fix lawful sized zero t h was since = grind (arith, ints, more_room, end_cost-size, lawful, sized, zero, h)
+cost_to_go-size unit terms fix lawful sized zero t h was since = grind (arith, ints, more_room, end_cost-size, lawful, sized, h)
 cost_to_go-size unit terms fix lawful sized (suc n) t h was since =
     let rest = λ (state : Bool) (from : ℕ). cost_to_go-size unit terms fix lawful sized n (suc t) (omega arith) state from in
     more_room (MAX_MOVE + (MAX_MOVE * n + MAX_MOVE)) _ _ (omega arith)

@@ -56,7 +56,7 @@ traced-more choices on first t old new end is here others traced =
 -- ---- a state that lasts
 pub lasting-split : (move : MoveCosts) (was : Bool) (since t m n : ℕ)
     → lasting move was since t (m + n) ≡ total_of (lasting move was since t m) (lasting move was since (t + m) n)
-lasting-split move was since t m zero = grind (arith, zero)
+lasting-split move was since t m zero = grind arith
 lasting-split move was since t m (suc n) =
     let count : m + suc n ≡ suc (m + n) = omega arith in
     let at : t + (m + n) ≡ (t + m) + n = omega arith in

@@ -24,7 +24,7 @@ div_next p q some = grind (arith, linear, some)
 -- ---- sums
 -- what is summed up to the floors of (p + j)/q is what is summed at the floors of y/q below p
 pub counted : (q p : ℕ) (f : ℕ → ℤ) → 0 < q → sum_below q (λ j. sum_below ((p + j) / q) f) ≡ sum_below p (λ y. f (y / q))
-counted q zero f some = grind (arith, linear, sum_below-zero, small_sum, zero, some)
+counted q zero f some = grind (arith, linear, sum_below-zero, small_sum, some)
 counted q (suc p) f some =
     let up = λ (j : ℕ). sum_below ((p + j) / q) f in
     let first = sum_below-first q up in

@@ -23,7 +23,7 @@ limit_from p0 pmin pmax sd false now e h = cc
 limit_to : (p0 pmin pmax sd : ℤ) (first now : Bool) → (first ≡ true → p0 ≤ℤ (if now then pmax else int_min pmax sd))
     → (bit first *ℤ (p0 -ℤ pmin)) ≤ℤ (bit first *ℤ (pmax -ℤ pmin) -ℤ int_max (pmax -ℤ sd) (pos 0) *ℤ bit (first && not now))
 limit_to p0 pmin pmax sd true now h = omega (arith, linear, h refl, one-mul (p0 -ℤ pmin), limit_at pmin pmax sd now)
-limit_to p0 pmin pmax sd false now h = grind (arith, ints, false, h)
+limit_to p0 pmin pmax sd false now h = grind (arith, ints, h)
 
 limit_is : (unit : Thermal) (now : Bool) → (if now then unit.pmax else int_min unit.pmax unit.sd) ≡ initial_limit unit (not now)
 limit_is unit true = refl

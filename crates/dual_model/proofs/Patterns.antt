@@ -1,5 +1,5 @@
 -- Of finitely many patterns that pass a test one has the least value, or none passes.
-use Rattle.std.proofs.Common.{◌≡◌, ℕ, zero, suc, ◌<◌, Bool, true, false, ◌==◌, sym, ◌∙◌, arith, ⊎_elim, ℤ, ◌≤ℤ◌, IsTrue, int_le, Option, Some, None, if◌then◌else◌}
+use Rattle.std.proofs.Common.{◌≡◌, ℕ, zero, suc, Bool, true, false, ◌==◌, sym, ◌∙◌, arith, ⊎_elim, ℤ, ◌≤ℤ◌, IsTrue, int_le, Option, Some, None, if◌then◌else◌}
 use Rattle.std.proofs.lemmas.Int.{ints}
 use Rattle.std.proofs.lemmas.Bool.{cases_Bool, true≢false, cond_both}
 use Rattle.uc_model.specs.Prelude.{Commitment}
@@ -22,9 +22,6 @@ pub record PassesNone (test : Commitment → Bool) : Type 0 where
 -- the commitment with the bit b in period n
 abbrev pub with_bit : ℕ → Bool → Commitment → Commitment
 with_bit n b on t = if t == n then b else on t
-
-below : (t n : ℕ) → t < suc n → (t == n) ≡ false → t < n
-below t n l apart = grind (arith, ints, l, apart)
 
 with_bit-same : (n : ℕ) (b : Bool) (on other : Commitment) → SameBelow n on other → SameBelow (suc n) (with_bit n b on) (with_bit n b other)
 with_bit-same n b on other h = grind (arith, ints, h)

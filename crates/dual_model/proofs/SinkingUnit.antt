@@ -1,9 +1,9 @@
 -- The unit of the examples that can't ramp down from 20 MW to 10, for an hour: it is on, at 15 MW or more, and L on its
 -- points has one slope. At a unit of 40 MW in watts L is never summed up.
-use Rattle.std.proofs.Common.{◌≡◌, ℕ, zero, suc, ◌*◌, ◌/◌, ◌<◌, ◌≤◌, true, cond, refl, sym, ap, subst, ◌∙◌, arith, List, length, ℤ, pos, ◌+ℤ◌, ◌-ℤ◌, ◌*ℤ◌, neg_ℤ, ◌≤ℤ◌, Some}
+use Rattle.std.proofs.Common.{◌≡◌, ℕ, zero, ◌*◌, ◌/◌, ◌<◌, ◌≤◌, true, cond, refl, sym, ap, subst, ◌∙◌, arith, List, ℤ, pos, ◌+ℤ◌, ◌-ℤ◌, ◌*ℤ◌, neg_ℤ, ◌≤ℤ◌, Some}
 use Rattle.std.proofs.lemmas.Nat.{div_below}
-use Rattle.uc_model.specs.Prelude.{point_of, Segment, hull_cost, mw}
-use Rattle.uc_model.proofs.Common.{linear, zero-mul, one-mul, neg-mul, sum_below-same, sum_below-const, Rises}
+use Rattle.uc_model.specs.Prelude.{Segment, hull_cost, mw}
+use Rattle.uc_model.proofs.Common.{linear, zero-mul, one-mul, neg-mul, sum_below-same, sum_below-const}
 use Rattle.dual_model.specs.Prelude.{pi_at, mu_at, Point, Instance, Table, UnitSchedule, floored_slope, slope_from, IsUnitSchedule, exact_cell_value, exact_period_value, unit_schedule_value, IsExactUnitValue, root, alone, sinking_unit, zero_prices, ray, scaled_dollars}
 use Rattle.dual_model.specs.ExactValue.{floored_cost}
 
@@ -20,13 +20,6 @@ flat_cost points k m width q p some slope h =
 -- ---- its points
 abbrev points : List Point
 points = sinking_unit.points
-
-rising_at : (l : ℕ) → suc l < length points → (point_of points l).mw ≤ℤ (point_of points (suc l)).mw
-rising_at zero h = omega (arith, linear)
-rising_at (suc l) h = absurd (omega (arith, h))
-
-rises : Rises points
-rises = record { some = omega arith; rising = rising_at }
 
 -- the segment of each step is the one from the first point to the second
 abbrev whole : Segment

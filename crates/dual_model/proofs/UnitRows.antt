@@ -14,7 +14,7 @@ tail-rising row rows rising i d h = rising (suc i) d (omega arith)
 -- a row behind another one is of no earlier unit
 unit-later : (rows : List RampRow) → AreRising rows → (i j : ℕ) (d : RampRow) → i ≤ j → j < length rows
     → (slice_index_or rows i d).g ≤ (slice_index_or rows j d).g
-unit-later rows rising i zero d h l = grind (arith, rising, zero, h, l)
+unit-later rows rising i zero d h l = grind (arith, rising, h, l)
 unit-later rows rising i (suc j) d h l = ⊎_elim
     (λ (same : i ≡ suc j). subst (λ n. (slice_index_or rows n d).g ≤ (slice_index_or rows (suc j) d).g) (sym same) (omega arith))
     (λ (earlier : i ≤ j).

@@ -53,16 +53,16 @@ pub record IsRight (unit : Thermal) (fix : Fix) (on : Commitment) (t : ℕ) : Ty
 -- a move that may be, and the rules of its period
 pub right-from : (unit : Thermal) (fix : Fix) (on : Commitment) (t from : ℕ) (was now : Bool) → was_on unit on t ≡ was → since unit.on0 on t ≡ from → on t ≡ now
     → IsTrue (may_move unit fix t was from now) → IsRight unit fix on t
-right-from unit fix on t from true true w s n may = grind (arith, linear, true, w, s, n, may)
-right-from unit fix on t from true false w s n may = grind (arith, linear, true, false, w, s, n, may)
-right-from unit fix on t from false true w s n may = grind (arith, linear, false, true, w, s, n, may)
-right-from unit fix on t from false false w s n may = grind (arith, linear, false, w, s, n, may)
+right-from unit fix on t from true true w s n may = grind (arith, linear, w, s, n, may)
+right-from unit fix on t from true false w s n may = grind (arith, linear, w, s, n, may)
+right-from unit fix on t from false true w s n may = grind (arith, linear, w, s, n, may)
+right-from unit fix on t from false false w s n may = grind (arith, linear, w, s, n, may)
 
 pub right-may : (unit : Thermal) (fix : Fix) (on : Commitment) (t from : ℕ) (was now : Bool) → was_on unit on t ≡ was → since unit.on0 on t ≡ from → on t ≡ now
     → IsRight unit fix on t → IsTrue (may_move unit fix t was from now)
-right-may unit fix on t from true true w s n right = grind (arith, linear, true, w, s, n, right)
-right-may unit fix on t from true false w s n right = grind (arith, linear, true, false, w, s, n, right)
-right-may unit fix on t from false true w s n right = grind (arith, linear, false, true, w, s, n, right)
+right-may unit fix on t from true true w s n right = grind (arith, linear, w, s, n, right)
+right-may unit fix on t from true false w s n right = grind (arith, linear, w, s, n, right)
+right-may unit fix on t from false true w s n right = grind (arith, linear, w, s, n, right)
 right-may unit fix on t from false false w s n right = right.off_may n
 
 -- ---- one move of a way, at any costs of the moves that may be
@@ -108,14 +108,14 @@ IsThere o = (x : ℤ) × (o ≡ Some x)
 
 move-hour : (terms : Terms) (unit : Thermal) (on : Commitment) (t : ℕ) (was now : Bool) (x : ℤ) → t < period_count terms → was_on unit on t ≡ was → on t ≡ now
     → hour_and_start terms unit t was (since unit.on0 on t) now ≡ Some x → IsThere (hour terms unit on t)
-move-hour terms unit on t true now x h w n e = grind (arith, linear, hour-on, since, true, h, w, n, e)
+move-hour terms unit on t true now x h w n e = grind (arith, linear, hour-on, since, h, w, n, e)
 move-hour terms unit on t false now x h w n e = (pos 0, hour-off terms unit on t w)
 
 hour-move : (terms : Terms) (unit : Thermal) (on : Commitment) (t : ℕ) (was now : Bool) (x : ℤ) → t < period_count terms → was_on unit on t ≡ was → on t ≡ now
     → hour terms unit on t ≡ Some x → hour_and_start terms unit t was (since unit.on0 on t) now ≡ Some (x +ℤ start_value terms unit on t)
-hour-move terms unit on t true now x h w n there = grind (arith, linear, cond-false, since, hour-on, true, h, w, n, there)
-hour-move terms unit on t false true x h w n there = grind (arith, linear, hour-off, since, cond-true, last_stop-since, false, true, h, w, n, there)
-hour-move terms unit on t false false x h w n there = grind (arith, linear, false, h, w, n, there)
+hour-move terms unit on t true now x h w n there = grind (arith, linear, cond-false, since, hour-on, h, w, n, there)
+hour-move terms unit on t false true x h w n there = grind (arith, linear, hour-off, since, cond-true, last_stop-since, h, w, n, there)
+hour-move terms unit on t false false x h w n there = grind (arith, linear, h, w, n, there)
 
 -- ---- the whole way
 -- the way from the state that the commitment has before period t

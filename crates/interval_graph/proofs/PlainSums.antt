@@ -15,25 +15,20 @@ cell rows a b i = unwrap_or (interval_term rows a b (a + i)) (pos 0)
 -- by the place that its period has in the interval
 pub cell-in : (rows : List (List (Option ℤ))) (a b i t : ℕ) (start stop : Bool) → a + i ≡ t → (t == a) ≡ start → (t == b) ≡ stop
     → cell rows a b i ≡ term_value rows t start stop
-cell-in rows a b i t start stop here first last =
-    ap (λ k. unwrap_or (interval_term rows a b k) (pos 0)) here ∙ (λ j. term_value rows t (first j) (last j))
+cell-in rows a b i t start stop here first last = grind (arith, linear, here, first, last)
 
 pub first-cell : (rows : List (List (Option ℤ))) (a b : ℕ) → a < b → cell rows a b 0 ≡ term_value rows a true false
 first-cell rows a b h = cell-in rows a b 0 a true false (omega arith) (eq-eqb a a refl) (ne_eqb a b (λ e. omega arith))
 
 pub middle-cell : (rows : List (List (Option ℤ))) (a b k : ℕ) → suc (a + k) < b → cell rows a b (suc k) ≡ full_value rows (suc a + k)
-middle-cell rows a b k h =
-    cell-in rows a b (suc k) (suc a + k) false false (omega arith) (ne_eqb (suc a + k) a (λ e. omega arith)) (ne_eqb (suc a + k) b (λ e. omega arith))
+middle-cell rows a b k h = grind (arith, linear, h)
 
 pub last-cell : (rows : List (List (Option ℤ))) (a b i : ℕ) → a < b → a + i ≡ b → cell rows a b i ≡ term_value rows b false true
 last-cell rows a b i h here = cell-in rows a b i b false true here (ne_eqb b a (λ e. omega arith)) (eq-eqb b b refl)
 
 -- ---- the whole
 pub alone : (rows : List (List (Option ℤ))) (a b : ℕ) → a ≡ b → interval_cost rows a b ≡ term_value rows a true true
-alone rows a b same =
-    let one : suc b - a ≡ 1 = omega arith in
-    let here : cell rows a b 0 ≡ term_value rows a true true = cell-in rows a b 0 a true true (omega arith) (eq-eqb a a refl) (eq-eqb a b same) in
-    ap (λ n. sum_below n (cell rows a b)) one ∙ (let sum : sum_below 1 (cell rows a b) ≡ term_value rows a true true = omega (arith, linear) in sum)
+alone rows a b same = grind (arith, linear, same)
 
 pub in_parts : (rows : List (List (Option ℤ))) (a b : ℕ) → a < b
     → interval_cost rows a b ≡ (term_value rows a true false +ℤ sum_below (b - suc a) (λ k. full_value rows (suc a + k))) +ℤ term_value rows b false true

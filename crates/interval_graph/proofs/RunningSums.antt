@@ -1,8 +1,7 @@
 -- Running sums, written period by period.
-use Rattle.std.proofs.Common.{◌≡◌, ℕ, suc, ◌*◌, ◌<◌, ◌≤◌, ⊎_elim, false, List, length, sym, ap, subst, ◌∙◌, lit<, arith, ℤ, pos, ◌+ℤ◌, to_z, of_z, FitsSigned, Option, Some, unsigned_abs, unwrap_or, slice_index_or, slice_set, get_or-set_other, get_or-set_same, length-set, replicate}
+use Rattle.std.proofs.Common.{◌≡◌, ℕ, suc, ◌*◌, ◌<◌, ◌≤◌, ⊎_elim, false, List, length, sym, ap, subst, ◌∙◌, lit<, arith, ℤ, pos, ◌+ℤ◌, to_z, of_z, Option, Some, unsigned_abs, unwrap_or, slice_index_or, slice_set, get_or-set_other, get_or-set_same, length-set, replicate}
 use Rattle.std.specs.Int.{w128}
 use Rattle.std.proofs.lemmas.Bool.{cases_lt}
-use Rattle.std.proofs.lemmas.Int.{fits_signed_from_abs}
 use Rattle.std.proofs.lemmas.List.{get_or-replicate, length-replicate}
 use Rattle.uc_model.specs.Prelude.{sum_below}
 use Rattle.uc_model.proofs.Common.{abs_add, sum_below-zero}
@@ -17,14 +16,6 @@ pub record IsAddedTo (rows : List (List (Option ℤ))) (t : ℕ) (total : ℤ) (
   pub before : (k : ℕ) → k < t → slice_index_or sums k (pos 0) ≡ sum_below k (full_value rows)
   pub is : total ≡ sum_below t (full_value rows)
   pub size : unsigned_abs total ≤ t * MAX_TERM
-
--- the terms of at most all periods fit, with one more
-pub more-fits : (n : ℕ) (total term : ℤ) → n < MAX_PERIODS → unsigned_abs total ≤ n * MAX_TERM → unsigned_abs term ≤ MAX_TERM
-    → FitsSigned w128 (total +ℤ to_z w128 (of_z w128 term))
-more-fits n total term h size more =
-    let kept = wide term MAX_TERM more (lit< tt) in
-    let whole = abs_add total term (n * MAX_TERM) MAX_TERM size more in
-    subst (λ x. FitsSigned w128 (total +ℤ x)) (sym kept) (fits_signed_from_abs w128 (total +ℤ term) (omega arith))
 
 pub added-more : (rows : List (List (Option ℤ))) (t : ℕ) (total term : ℤ) (sums : List ℤ) → t < length rows → t < MAX_PERIODS
     → Some term ≡ term_in rows t false false → unsigned_abs term ≤ MAX_TERM → IsAddedTo rows t total sums
@@ -52,18 +43,8 @@ added-more rows t total term sums h few found more so_far =
 
 -- all of them
 pub added-all : (rows : List (List (Option ℤ))) (t : ℕ) (total : ℤ) (sums : List ℤ) → length rows ≤ t → IsAddedTo rows t total sums → AreRunningSums rows sums
-added-all rows t total sums h added = record {
-  count = added.count;
-  before = λ k l. added.before k (omega arith);
-}
+added-all rows t total sums h added = grind (arith, h, added)
 
 -- where each term is 0, so is each sum
 pub zero-sums : (n : ℕ) → AreRunningSums (replicate n zero_row) (replicate n (pos 0))
-zero-sums n =
-    let count : length (replicate n zero_row) ≡ n = length-replicate n zero_row in
-    record {
-      count = length-replicate n (pos 0) ∙ sym count;
-      before = λ t within.
-          get_or-replicate n t (pos 0) (pos 0) (omega arith)
-          ∙ sym (sum_below-zero t (full_value (replicate n zero_row)) (λ k l. ap (λ o. unwrap_or o (pos 0)) (zero-term n k false false (omega arith))));
-    }
+zero-sums n = grind (arith, zero_row, length-replicate, get_or-replicate, sum_below-zero, zero-term)

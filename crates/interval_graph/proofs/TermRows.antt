@@ -1,5 +1,5 @@
 -- Rows of terms of which each is 0, and what a read of a row gives.
-use Rattle.std.proofs.Common.{◌≡◌, ℕ, ◌<◌, ◌≤◌, Bool, true, false, List, [], length, sym, subst, ◌∙◌, arith, ℤ, pos, Option, Some, None, IfSome, unsigned_abs, slice_index_or, replicate}
+use Rattle.std.proofs.Common.{◌≡◌, ℕ, ◌<◌, ◌≤◌, Bool, true, false, List, length, sym, subst, arith, ℤ, pos, Option, Some, IfSome, unsigned_abs, slice_index_or, replicate}
 use Rattle.std.proofs.lemmas.List.{get_or-replicate, length-replicate}
 use Rattle.uc_model.specs.Prelude.{place}
 use Rattle.interval_graph.specs.Intervals.{MAX_PERIODS, MAX_TERM, term_in, AreTermRows}
@@ -14,9 +14,7 @@ abbrev pub zero_row : List (Option ℤ)
 zero_row = replicate 4 (Some (pos 0))
 
 pub zero-term : (n t : ℕ) (start stop : Bool) → t < n → term_in (replicate n zero_row) t start stop ≡ Some (pos 0)
-zero-term n t start stop h =
-    (λ i. slice_index_or (get_or-replicate n t zero_row [] h i) (place start stop) None)
-    ∙ get_or-replicate 4 (place start stop) (Some (pos 0)) None (place-below start stop)
+zero-term n t start stop h = grind (arith, slice_index_or, get_or-replicate, place-below, h)
 
 pub zero-rows : (n : ℕ) → n ≤ MAX_PERIODS → AreTermRows (replicate n zero_row)
 zero-rows n h =

@@ -96,10 +96,6 @@ fits fix on t = not (commitment_of fix.known t) || (if commitment_of fix.on t th
 fits-undecided : (fix : Fix) (on : Commitment) (t : ℕ) → commitment_of fix.known t ≡ false → fits fix on t ≡ true
 fits-undecided fix on t e = or_left _ _ (not_from_false _ e)
 
-not_here : (on same old : Bool) → same ≡ false → ((on && same) || old) ≡ old
-not_here true same old e = ap (λ x. x || old) e
-not_here false same old e = refl
-
 fits-here : (fixing : Fixing) (old new : Fix) (on : Commitment) → IsFixWith fixing old new → commitment_of old.on fixing.t ≡ false
     → fits new on fixing.t ≡ keeps fixing on
 fits-here fixing old new on with off = grind (arith, with, off)

@@ -74,12 +74,6 @@ record IsSmallRay (ray : OpeningRay) : Type 0 where
   reserve : pos 0 ≤ℤ ray.reserve
   reserve_size : unsigned_abs ray.reserve ≤ 1
 
-nought : pos 0 ≤ℤ pos 0
-nought = omega (arith, linear)
-
-above : pos 0 ≤ℤ pos 1
-above = omega (arith, linear)
-
 ray_small : (periods n : ℕ) → n < ray_count periods → IsSmallRay (ray_at periods n)
 ray_small periods n h = grind (arith, ints, h)
 

@@ -3,7 +3,7 @@ use Rattle.std.proofs.Common.{◌≡◌, ℕ, ◌+◌, ◌<◌, ◌≤◌, ◌++
 use Rattle.std.proofs.lemmas.List.{get_or_append_left, get_or-append-add, get_or-take}
 use Rattle.uc_model.specs.Prelude.{thermal_count, renewable_count, cell_at, shed_at, short_at}
 use Rattle.schedule_check.specs.SizedNumbers.{output_at}
-use Rattle.roll.specs.Prelude.{Instance, Cell, Printed, IsNextWindow, IsKept, IsStitched, SameDispatch, IsShownFrom}
+use Rattle.roll.specs.Prelude.{Instance, Printed, IsNextWindow, IsKept, IsStitched, SameDispatch, IsShownFrom}
 
 -- the first m periods of a schedule are those of another one, but for the categories
 pub record AreSame (instance : Instance) (m : ℕ) (old new : Printed) : Type 0 where
@@ -11,9 +11,6 @@ pub record AreSame (instance : Instance) (m : ℕ) (old new : Printed) : Type 0 
   pub outputs : (w t : ℕ) → w < renewable_count instance → t < m → output_at new w t ≡ output_at old w t
   pub shed : (t : ℕ) → t < m → shed_at new t ≡ shed_at old t
   pub short : (t : ℕ) → t < m → short_at new t ≡ short_at old t
-
-through : (a b c : Cell) → SameDispatch a b → SameDispatch b c → SameDispatch a c
-through a b c first second = grind (arith, first, second)
 
 -- ---- more is stitched behind
 appended_left : (xs ys zs : List ℤ) (m t : ℕ) → length xs ≡ m → zs ≡ xs ++ ys → t < m → get_or zs t (pos 0) ≡ get_or xs t (pos 0)

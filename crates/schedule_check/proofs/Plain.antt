@@ -4,13 +4,9 @@ use Rattle.std.proofs.Common.{ℕ, ◌<◌, List, [], length, get_or, ℤ, pos, 
 use Rattle.std.proofs.lemmas.Bool.{cases_lt}
 use Rattle.std.proofs.lemmas.List.{get_or_past}
 use Rattle.uc_model.specs.Prelude.{IsLimit, IsPower}
-use Rattle.uc_model.specs.declared.limits.TheConstants.{MAX_POWER}
-use Rattle.uc_model.proofs.Common.{linear, within_of_abs}
+use Rattle.uc_model.proofs.Common.{linear}
 use Rattle.schedule_check.specs.SizedNumbers.{Cell, Printed, HasSizedNumbers}
 use Rattle.schedule_check.specs.PlainNumbers.{HasPlainNumbers, IsPlainCell}
-
-power_high : (z : ℤ) → IsPower z → z ≤ℤ pos MAX_POWER
-power_high z h = (within_of_abs z MAX_POWER h).high
 
 -- a number that isn't below 0 is a power if it is at most one
 pub power_below : (z most : ℤ) → pos 0 ≤ℤ z → z ≤ℤ most → IsPower most → IsPower z

@@ -97,10 +97,6 @@ undecided tree instance number path size at cell each = grind (arith, ints, size
 abbrev IsOver : Move → Type 0
 IsOver action = ¬ IsAgain action
 
-either : (b : Bool) (one other : Move) → IsOver one → IsOver other → IsOver (if b then one else other)
-either true one other first second = first
-either false one other first second = second
-
 -- with a cell to split on the node isn't left open
 split_over : (seen : Option ℤ) (stored : ℤ) (gap : ℕ) (k : ℤ) (cell : ℕ × ℕ) (outcome : Outcome) → IsOver (move_of seen stored gap k (Some cell) outcome)
 split_over seen stored gap k cell (Value v) = grind (arith, ints, v)

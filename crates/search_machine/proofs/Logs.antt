@@ -6,7 +6,7 @@ use Rattle.std.proofs.lemmas.Option.{slice_get_within, slice_get-get_or}
 use Rattle.branch_tree.specs.Prelude.{node_count, IsNodeAt, TreeView, IsOpenAt, IsTrueEntry, AreApart}
 use Rattle.branch_tree.specs.declared.tree.Leaf.TheVariants as leaf
 use Rattle.branch_tree.proofs.Changes.{get-append, get-set_same}
-use Rattle.search_machine.specs.Prelude.{Entry, Table, Holder, Machine, IsHolding, entries_of, stored_at, start_of, Again, Outcome, Move, HasFreeCell, MayGoOn, IsMoveLegal, kept, tree_after, Claim, Commit, Publish, Event, IsFresh, IsStoredTable, IsLegalBy, committed, committed_by, after, Instance, IsOrderly, Node, Owns, HasFewEntries, IsTrueEvent, IsTrueStart}
+use Rattle.search_machine.specs.Prelude.{Entry, Table, Holder, Machine, IsHolding, entries_of, stored_at, Again, Outcome, Move, HasFreeCell, MayGoOn, IsMoveLegal, kept, tree_after, Claim, Commit, Publish, Event, IsFresh, IsStoredTable, IsLegalBy, committed, committed_by, after, Instance, IsOrderly, Node, Owns, HasFewEntries, IsTrueEvent, IsTrueStart}
 use Rattle.search_machine.proofs.Claims.{get_push_last, holdable}
 use Rattle.search_machine.proofs.Growth.{leaf_part, part_node, IsAgain, node_after, open_before, free_before, open_again_only}
 use Rattle.search_machine.proofs.OwnSteps.{IsEnded, entries_own, entries_same, no_entries, all_of_node, pairs_push, ended_more, ended_still, ended_apart, entry_by, own_after, IsTableWithin}
@@ -30,10 +30,6 @@ abbrev pub HasTrueLog : Instance → Machine → Machine → Type 0
 HasTrueLog instance start m = IsLogged instance start m.tree m.tables m.claims m.log
 
 -- ---- the start
-started : (instance : Instance) (units periods workers budget gap : ℕ) (table : Table) (value : ℤ)
-    → HasTrueLog instance (start_of units periods workers budget gap table value) (start_of units periods workers budget gap table value)
-started instance units periods workers budget gap table value = grind arith
-
 pub start_logged : (instance : Instance) (m : Machine) → IsTrueStart instance m → HasTrueLog instance m m
 start_logged instance m start = grind (arith, start)
 

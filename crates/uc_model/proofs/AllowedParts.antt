@@ -18,7 +18,7 @@ room_from low high limit true true range now fits =
     let b = mul-one (int_max (high -ℤ limit) (pos 0)) in
     let room : pos 0 ≤ℤ ((high -ℤ low) -ℤ int_max (high -ℤ limit) (pos 0)) = omega (arith, ints, clamps) in
     omega (arith, linear)
-room_from low high limit true false range now fits = grind (arith, ints, mul-one, mul-zero, false, range, fits)
+room_from low high limit true false range now fits = grind (arith, ints, mul-one, mul-zero, range, fits)
 room_from low high limit false change range now fits = cc
 
 room_to : (low high limit : ℤ) (now change : Bool) → now ≡ true → change ≡ true

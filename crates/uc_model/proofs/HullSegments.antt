@@ -351,7 +351,7 @@ pub record Rises (points : List Point) : Type 0 where
 
 -- a later point lies no further left
 pub outputs_rise : (points : List Point) → Rises points → (i j : ℕ) → i ≤ j → j < length points → output_of points i ≤ℤ output_of points j
-outputs_rise points rises i zero h l = grind (arith, linear, rises, zero, h, l)
+outputs_rise points rises i zero h l = grind (arith, linear, rises, h, l)
 outputs_rise points rises i (suc j) h l = ⊎_elim
     (λ (less : i < suc j).
     let before = outputs_rise points rises i j (omega (arith, less)) (omega (arith, l)) in

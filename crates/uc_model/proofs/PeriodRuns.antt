@@ -38,12 +38,12 @@ never_starts unit n zero first h = true≢false (sym first ∙ (start_parts unit
 never_starts unit n (suc t) first h = grind (arith, linear, first, h)
 
 pub stops_in : (unit : Thermal) (n t : ℕ) → IsTrue (stops unit (on_during 0 n) t) → t ≡ n
-stops_in unit n zero h = grind (arith, linear, zero, h)
+stops_in unit n zero h = grind (arith, linear, h)
 stops_in unit n (suc t) h = grind (arith, linear, h)
 
 -- one that is off at first and on from n to the end starts in n, and never stops
 pub starts_in : (unit : Thermal) (n end t : ℕ) → IsTrue (starts unit (on_during n end) t) → t ≡ n
-starts_in unit n end zero h = grind (arith, linear, zero, h)
+starts_in unit n end zero h = grind (arith, linear, h)
 starts_in unit n end (suc t) h = grind (arith, linear, h)
 
 pub never_stops : (unit : Thermal) (n end t : ℕ) → unit.on0 ≡ false → t < end → IsTrue (stops unit (on_during n end) t) → ⊥

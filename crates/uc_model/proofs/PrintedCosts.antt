@@ -63,7 +63,7 @@ on_cell q c points d p (Some s) e some positive within factor = grind (arith, li
 off_cell : (q : ℕ) (points : List Point) (idle : Bool) → 0 < length points
     → ((l : ℕ) → l < length points → (if idle then 0 else refused_weight q l) ≤ q)
     → weighted_cost points (λ l. if idle then 0 else refused_weight q l) ≤ℤ (pos q *ℤ pos 0)
-off_cell q points true some within = grind (arith, linear, sum_below-zero, mul-zero, true, some, within)
+off_cell q points true some within = grind (arith, linear, sum_below-zero, mul-zero, some, within)
 off_cell q points false some within = no_refused q (length points) some within
 
 -- the weights that a cell stands for cost at most q times what is printed
@@ -72,7 +72,7 @@ cell_weights : (q c : ℕ) (points : List Point) (d : ℕ) (on : Bool) (p : ℤ)
     → q ≡ c * (d * (if on then width_on points (segment_at points d p) else 1))
     → weighted_cost points (λ l. if on then segment_weight q points d p (segment_at points d p) l else (if int_eq p (pos 0) then 0 else refused_weight q l))
     ≤ℤ (pos q *ℤ (if on then hull_cost points d p else pos 0))
-cell_weights q c points d true p some positive within factor = grind (arith, linear, on_cell, true, some, positive, within, factor)
+cell_weights q c points d true p some positive within factor = grind (arith, linear, on_cell, some, positive, within, factor)
 cell_weights q c points d false p some positive within factor = off_cell q points (int_eq p (pos 0)) some within
 
 cell_cost-le : (instance : Instance) (printed : Printed) (g t : ℕ) → IsLawfulInstance instance

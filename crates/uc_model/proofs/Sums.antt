@@ -63,7 +63,7 @@ term-le-sum_below (suc n) f k l h =
 -- ---- its parts
 -- cut at a place
 pub sum_below-split : (m n : ℕ) (f : ℕ → ℤ) → sum_below (m + n) f ≡ sum_below m f +ℤ sum_below n (λ k. f (m + k))
-sum_below-split m zero f = grind (arith, linear, zero)
+sum_below-split m zero f = grind (arith, linear)
 sum_below-split m (suc n) f =
     let next : m + suc n ≡ suc (m + n) = omega arith in
     let before = sum_below-split m n f in

@@ -4,7 +4,7 @@ use Rattle.std.specs.Ordering.{int_eq}
 use Rattle.uc_model.proofs.Common.{linear}
 use Rattle.dual_model.specs.Prelude.{total_of}
 use Rattle.dual_model.proofs.Optimum.{total_of-parts}
-use Rattle.step_functions.specs.Functions.{Steps, IsPlace, last_place, value_at}
+use Rattle.step_functions.specs.Functions.{Steps, last_place, value_at}
 use Rattle.unit_runs.specs.CostThrough.{hour_after, least_between, reserve_cost}
 use Rattle.unit_runs.proofs.Costs.{least_between-reached}
 use Rattle.unit_exact.specs.inside.Problems.{Table, Thermal}
@@ -12,9 +12,6 @@ use Rattle.hull_function.proofs.Represented.{output-of}
 use Rattle.hull_function.specs.Hours.{IsCostsOf}
 
 -- ---- no hours behind an output
-only : (f : Steps) (output p : ℤ) → f.first ≡ output → last_place f ≡ output → IsPlace f p → p ≡ output
-only f output p first last place = grind (arith, linear, last, place)
-
 pub begun-costs : (f : Steps) (output : ℤ) → f.first ≡ output → last_place f ≡ output → value_at f output ≡ pos 0
     → IsCostsOf true f (λ p. if int_eq p output then Some (pos 0) else None)
 begun-costs f output first last value = grind (arith, linear, last, value)

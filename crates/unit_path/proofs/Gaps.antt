@@ -39,17 +39,6 @@ least-either zero p q f other = refl
 least-either (suc n) p q f other = grind (arith, ints, chosen-either, least-first, (least-either n p q f other))
 
 -- ---- one category
--- a stop adds it where it is reached, its lags are in order, and the gap is below the next lag
-added : (reached ordered near below free : Bool) → (ordered ≡ true → near ≡ below)
-    → cond reached (ordered && near) free ≡ (cond reached (ordered && false) free || ((below && reached) && ordered))
-added true true near true free e = e refl
-added true true near false free e = e refl
-added true false near true free e = refl
-added true false near false free e = refl
-added false ordered near below true e = refl
-added false ordered near true false e = refl
-added false ordered near false false e = refl
-
 not_added : (reached ordered near free : Bool) → (ordered ≡ true → near ≡ false) → cond reached (ordered && near) free ≡ cond reached (ordered && false) free
 not_added true true near free e = e refl
 not_added true false near free e = refl

@@ -1,20 +1,14 @@
 -- One term more, and the whole at the end.
-use Rattle.std.proofs.Common.{add-one, sym, subst, arith, refl, ◌+ℤ◌, to_z, of_z, slice_set}
+use Rattle.std.proofs.Common.{add-one, sym, subst, arith, ◌+ℤ◌, to_z, of_z, slice_set}
 use Rattle.std.specs.Int.{w128}
-use Rattle.interval_graph.proofs.RunningSums.{added-all, added-more, more-fits, IsAddedTo}
+use Rattle.interval_graph.proofs.RunningSums.{added-all, added-more, IsAddedTo}
 use Rattle.interval_graph.proofs.sums.add_up.Goals as goal
 
 pub overflow_add-total : goal.overflow_add-total
-overflow_add-total c =
-    more-fits c.loop-t.t (to_z w128 c.loop-t.total-bits) c.full_of-total.result (omega (arith, c.loop-t-test.true, c.requires.rows.periods)) c.loop-t.invariant.size c.full_of-total.ensures.size
+overflow_add-total c = grind (arith, c)
 
 pub loop-t-init : goal.loop-t-init
-loop-t-init c = record {
-  count = c.requires.room;
-  before = λ k h. absurd (omega arith);
-  is = refl;
-  size = omega arith;
-}
+loop-t-init c = grind (arith, c)
 
 pub loop-t-preserved : goal.loop-t-preserved
 loop-t-preserved c =

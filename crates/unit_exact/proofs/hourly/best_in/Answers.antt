@@ -1,5 +1,5 @@
 -- The output lies on the hull and within the cap.
-use Rattle.std.proofs.Common.{◌≡◌, ◌*◌, ◌≤◌, sym, ap, subst, ◌∙◌, arith, ℤ, pos, ◌+ℤ◌, ◌≤ℤ◌, false, true, to_z, of_z, unsigned_abs}
+use Rattle.std.proofs.Common.{◌≡◌, ◌≤◌, sym, ap, subst, ◌∙◌, arith, ℤ, pos, ◌+ℤ◌, ◌≤ℤ◌, false, true, to_z, of_z}
 use mir.Val.{SFits}
 use Rattle.std.specs.Int.{w64, w128, int_min}
 use Rattle.std.specs.Int.Signed.{lt_z, le_z}
@@ -7,18 +7,12 @@ use Rattle.std.proofs.lemmas.Int.{ints, to_z-of_z}
 use Rattle.step_functions.specs.Functions.{Steps, IsPlace, last_place}
 use Rattle.hull_function.specs.Hours.{IsSizedHour}
 use Rattle.hull_function.specs.Hulls.{IsHullFunction}
-use Rattle.hull_function.specs.Problems.{MAX_POWER}
 use Rattle.hull_function.specs.declared.hour.Hour.{Hour}
 use Rattle.unit_exact.proofs.hourly.best_in.Goals as goal
 
 -- the lesser of a place of the hull and a cap of at least 0
 abbrev IsBetween : ℤ → ℤ → ℤ → Type 0
 IsBetween last limit z = (pos 0 ≤ℤ z) × (z ≤ℤ last) × (z ≤ℤ limit)
-
-lesser : (first last least limit output : ℤ) → first ≡ pos 0 → last ≤ℤ pos (2 * MAX_POWER) → first ≤ℤ least → least ≤ℤ last → unsigned_abs limit ≤ MAX_POWER
-    → lt_z (to_z w64 (of_z w64 limit)) (pos 0) ≡ false → output ≡ int_min (to_z w64 (of_z w64 least)) (to_z w64 (of_z w64 limit))
-    → IsBetween last limit (to_z w64 (of_z w64 output))
-lesser first last least limit output e h low high small sign is = grind (arith, ints, e, h, low, high, small, sign, is)
 
 -- the output that is taken
 between : (hull : Steps) (hour : Hour) (least output : ℤ) → IsHullFunction hull → IsSizedHour hour → IsPlace hull least

@@ -1,6 +1,5 @@
 -- The numbers of the period are what their bits say.
-use Rattle.std.proofs.Common.{◌≡◌, ℕ, ◌*◌, ◌^◌, ◌<◌, ◌≤◌, List, All, length, arith, lit<, ℤ, pos, to_z, of_z, unsigned_abs, slice_index_or}
-use Rattle.std.specs.Int.{w64}
+use Rattle.std.proofs.Common.{◌≡◌, ◌*◌, ◌^◌, ◌<◌, arith, lit<, to_z, slice_index_or}
 use Rattle.std.proofs.lemmas.Int.{to_z-of_z}
 use Rattle.uc_model.specs.Prelude.{shed_at, short_at, most_shed, most_short}
 use Rattle.uc_model.proofs.Common.{sum-fits, sum-is}
@@ -8,10 +7,6 @@ use Rattle.dual_model.specs.Prelude.{mu_at, pi_at}
 use Rattle.uplift.specs.Uplift.{shortage_uplift}
 use Rattle.uplift.specs.declared.shortage.TheConstants.{MOST_GAIN}
 use Rattle.uplift.proofs.shortage.period_uplift.Goals as goal
-
--- a number of a list, as it is passed
-passed : (xs ys : List ℤ) (t m : ℕ) → xs ≡ ys → t < length ys → All (λ z. unsigned_abs z ≤ m) ys → unsigned_abs (to_z w64 (of_z w64 (slice_index_or xs t (pos 0)))) ≤ m
-passed xs ys t m same within small = grind (arith, same, within, small)
 
 pub missing_uplift-unserved-requires-clause-multiplier : goal.missing_uplift-unserved-requires-clause-multiplier
 missing_uplift-unserved-requires-clause-multiplier c = grind (arith, c)

@@ -1,14 +1,13 @@
 -- The sum before the one period less that before the other.
-use Rattle.std.proofs.Common.{◌+◌, ◌*◌, sym, ◌∙◌, lit<, ◌-ℤ◌}
-use Rattle.uc_model.proofs.Common.{difference-is, difference-size, sum-fits, wide-size}
+use Rattle.std.proofs.Common.{arith, ◌+◌, sym, ◌∙◌, lit<, ◌-ℤ◌}
+use Rattle.uc_model.proofs.Common.{difference-is, difference-size}
 use Rattle.uc_model.proofs.Sizes.{wide}
 use Rattle.interval_graph.specs.Intervals.{MAX_INTERVAL}
 use Rattle.interval_graph.proofs.PlainSums.{apart}
 use Rattle.interval_graph.proofs.intervals.Intervals.between.Goals as goal
 
 pub difference-requires : goal.difference-requires
-difference-requires c =
-    sum-fits c.sum_before-later.result c.sum_before-earlier.result MAX_INTERVAL MAX_INTERVAL c.sum_before-later.ensures.size c.sum_before-earlier.ensures.size (lit< tt)
+difference-requires c = grind (arith, c)
 
 pub returns-clause-value : goal.returns-clause-value
 returns-clause-value c =
@@ -21,7 +20,4 @@ returns-clause-value c =
     ∙ sym (apart c.args.self.now c.args.from c.args.to c.requires.order)
 
 pub returns-clause-size : goal.returns-clause-size
-returns-clause-size c =
-    wide-size c.difference.result (2 * MAX_INTERVAL)
-    (difference-size c.sum_before-later.result c.sum_before-earlier.result c.difference.result MAX_INTERVAL MAX_INTERVAL c.difference.ensures
-    c.sum_before-later.ensures.size c.sum_before-earlier.ensures.size)
+returns-clause-size c = grind (arith, c)

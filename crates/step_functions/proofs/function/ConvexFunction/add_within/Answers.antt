@@ -1,11 +1,11 @@
 -- The other's steps are added from the one on with which this one begins.
-use Rattle.std.proofs.Common.{◌≡◌, ℕ, ◌+◌, ◌≤◌, sym, ap, subst, ◌∙◌, arith, lit<, ℤ, pos, ◌+ℤ◌, ◌≤ℤ◌, unsigned_abs, to_z, of_z, vec_capacity}
+use Rattle.std.proofs.Common.{◌≡◌, ℕ, ◌+◌, ◌≤◌, sym, ap, subst, ◌∙◌, arith, lit<, ℤ, pos, ◌+ℤ◌, ◌≤ℤ◌, to_z, of_z, vec_capacity}
 use Rattle.std.specs.Int.{w64, w128}
 use Rattle.std.proofs.lemmas.Int.{ints}
 use Rattle.uc_model.proofs.Common.{narrow}
 use Rattle.step_functions.specs.contracts.function.ConvexFunction.{the_view}
 use Rattle.step_functions.specs.Runs.{steps_of}
-use Rattle.step_functions.specs.Functions.{Steps, IsPlace, IsSmall, IsWithin, MAX_PLACE, MAX_VALUE, last_place, value_at}
+use Rattle.step_functions.specs.Functions.{Steps, IsPlace, IsSmall, IsWithin, MAX_PLACE, last_place, value_at}
 use Rattle.step_functions.specs.inside.Edits.{AreAdded}
 use Rattle.step_functions.specs.inside.Kept.{height, HaveSteps, HaveSmallSlopes}
 use Rattle.step_functions.proofs.Values.{owed, small-own, told, value_at-place}
@@ -24,10 +24,6 @@ steps-left f other skipped first before = omega (arith, ints)
 -- the ends of the values behind the fields
 ends : (f other own their : Steps) → f ≡ own → other ≡ their → last_place own ≤ℤ last_place their → last_place f ≤ℤ last_place other
 ends f other own their same same_other before = subst (λ (h : Steps). last_place f ≤ℤ last_place h) (sym same_other) (subst (λ (h : Steps). last_place h ≤ℤ last_place their) (sym same) before)
-
--- the sum of two small values
-sum-small : (value reached : ℤ) → IsSmall value → IsSmall reached → unsigned_abs (to_z w128 (of_z w128 value) +ℤ to_z w128 (of_z w128 reached)) ≤ MAX_VALUE + MAX_VALUE
-sum-small value reached own other = grind (arith, ints, own, other)
 
 sum-written : (value reached : ℤ) → IsSmall value → IsSmall reached
     → to_z w128 (of_z w128 (to_z w128 (of_z w128 value) +ℤ to_z w128 (of_z w128 reached))) ≡ value +ℤ reached

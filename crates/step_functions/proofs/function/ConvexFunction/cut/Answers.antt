@@ -1,6 +1,6 @@
 -- Cut on both sides, each value is as it was. The places are compared by their bits, which say them.
 use Rattle.std.proofs.Common.{◌≡◌, ℕ, true, false, refl, sym, subst, ◌∙◌, arith, ℤ, pos, ◌+ℤ◌, ◌≤ℤ◌, to_z, of_z}
-use lib.Signed.{le_z, lt_z}
+use lib.Signed.{lt_z}
 use Rattle.std.specs.Int.{w64, int_max, int_min}
 use Rattle.std.proofs.lemmas.Bool.{false≢true, true≢false}
 use Rattle.std.proofs.lemmas.Int.{ints, clamps}
@@ -9,9 +9,6 @@ use Rattle.step_functions.proofs.function.ConvexFunction.cut.Goals as goal
 use Rattle.step_functions.proofs.function.ConvexFunction.cut.Goals.{After-last-last, After-max, After-min}
 
 -- ---- what the comparisons say
-below : (a b : ℤ) → IsWithin a → IsWithin b → lt_z (to_z w64 (of_z w64 a)) (to_z w64 (of_z w64 b)) ≡ true → b ≤ℤ a → ⊥
-below a b own other less more = grind (arith, ints, own, other, less, more)
-
 -- the ends of a function, as they are read
 record AreEnds (f l first last low high : ℤ) : Type 0 where
   pub first_is : first ≡ f
@@ -29,12 +26,6 @@ meets : (f l first last low high : ℤ) → AreEnds f l first last low high → 
     → lt_z (to_z w64 (of_z w64 high)) (to_z w64 (of_z w64 first)) ≡ false → lt_z (to_z w64 (of_z w64 last)) (to_z w64 (of_z w64 low)) ≡ false
     → (low ≤ℤ high) × (f ≤ℤ high) × (low ≤ℤ l)
 meets f l first last low high ends a b c = grind (arith, ints, ends, a, b, c)
-
-greatest : (f low : ℤ) → low ≤ℤ f → f ≡ int_max f low
-greatest f low h = omega (arith, ints, clamps)
-
-least : (l high : ℤ) → l ≤ℤ high → l ≡ int_min l high
-least l high h = omega (arith, ints, clamps)
 
 -- ---- the ends that are cut
 right : (c : After-min) → to_z w64 (of_z w64 c.min.result) ≡ int_min (last_place c.args.self.now) c.args.high
