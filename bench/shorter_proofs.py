@@ -120,9 +120,9 @@ class File:
         return [it for it in clauses if it.tries]
 
     def end_of(self, start):
-        """The line behind what starts here: lines further in and closing brackets belong to it."""
+        """The line behind what starts here: lines further in and closing brackets belong to it, and so does an empty line before one."""
         at = start + 1
-        while at < len(self.lines) and re.match(r"[ })\]]", self.lines[at]):
+        while at < len(self.lines) and re.match(r"[ })\]]", self.lines[at] or "".join(self.lines[at + 1:at + 2])):
             at += 1
         return at
 

@@ -3,8 +3,8 @@
 
     python3 bench/uncited.py [--drop]    # at the top of the repository; then rt tidy in the crates that changed
 
-A lemma is cited where its name stands outside of its own lines, in any file: so one whose name another lemma shares is not told, nor
-one that is imported under another name. Answers aren't lemmas. A comment right above a lemma goes with it.
+A lemma is cited where its name stands outside of its own lines, in any file, or where it isn't `pub` in its own: so a public one whose
+name another lemma shares is not told, nor one that is imported under another name. Answers aren't lemmas. A comment right above a lemma goes with it.
 """
 import argparse
 import collections
@@ -59,7 +59,8 @@ def main():
             lines = path.read_text().split("\n")
             gone = []
             for lemma, start, end in lemmas_of(path):
-                if everywhere[lemma.name] <= words_of("\n".join(lines[start:end]))[lemma.name]:
+                places = everywhere if lemma.signature.startswith("pub ") else used[path]
+                if places[lemma.name] <= words_of("\n".join(lines[start:end]))[lemma.name]:
                     print(f"{path.relative_to(TOP)}: {lemma.name}")
                     gone.append((start, end))
             if gone and drop:
