@@ -1,6 +1,6 @@
 -- The unit of the examples that can't ramp down from 20 MW to 10, for an hour: it is on, at 15 MW or more, and L on its
 -- points has one slope. At a unit of 40 MW in watts L is never summed up.
-use Rattle.std.proofs.Common.{◌≡◌, ℕ, zero, ◌*◌, ◌/◌, ◌<◌, ◌≤◌, true, cond, refl, sym, ap, subst, ◌∙◌, arith, List, ℤ, pos, ◌+ℤ◌, ◌-ℤ◌, ◌*ℤ◌, neg_ℤ, ◌≤ℤ◌, Some}
+use Rattle.std.proofs.Common.{◌≡◌, ℕ, ◌*◌, ◌/◌, ◌<◌, ◌≤◌, true, cond, refl, sym, ap, subst, ◌∙◌, arith, List, ℤ, pos, ◌+ℤ◌, ◌-ℤ◌, ◌*ℤ◌, neg_ℤ, ◌≤ℤ◌, Some}
 use Rattle.std.proofs.lemmas.Nat.{div_below}
 use Rattle.uc_model.specs.Prelude.{Segment, hull_cost, mw}
 use Rattle.uc_model.proofs.Common.{linear, zero-mul, one-mul, neg-mul, sum_below-same, sum_below-const}

@@ -3,7 +3,6 @@ use Rattle.std.proofs.Common.{◌≡◌, ℕ, ◌<◌, refl, sym, subst, ◌∙�
 use Rattle.uc_model.specs.Prelude.{sum_below, Commitment, starts, cap, is_allowed, thermal_unit, term_at}
 use Rattle.uc_model.proofs.Common.{linear, sum_below-same}
 use Rattle.dual_model.specs.Prelude.{Instance, Table, Fix, Node, IsPatternAt, IsFixOf, Point, IsTerm, IsTermAt, output_price, reserve_price, Thermal, IsPatternValue, IsUnitValue, Terms, IsPattern, IsLeastValue, is_followed, term_of, pattern_value, IsCellTerm, AreTermsOf, IsUnitValueOf}
-use Rattle.dual_model.specs.Fixings.{HasNoPattern}
 use Rattle.dual_model.specs.UnitValue.{period_value}
 use Rattle.dual_model.proofs.UnitValues.{term_unique, cap-allowed}
 use Rattle.dual_model.specs.PatternValue as by_terms
