@@ -350,7 +350,7 @@ fn ascent(
     }
 }
 
-// The ascent of the first claim; several workers make two more, each from the table of the one before, since they split the root then.
+// The ascent of the first claim; several workers make two more, since they split the root then.
 fn claimed_root(
     alloc: Global,
     values: Values,
@@ -367,11 +367,28 @@ fn claimed_root(
         None => first_ascent(alloc, values, pool)?,
     };
     if shared {
-        let second = root_ascent(alloc, values, pool, &ascent.table)?;
-        root_ascent(alloc, values, pool, &second.table)
+        let stepped = root_steps(alloc, values, pool, &ascent.table);
+        drop(ascent);
+        stepped
     } else {
         Ok(ascent)
     }
+}
+
+// Two more ascents of the first claim, each from the table of the one before.
+fn root_steps(
+    alloc: Global,
+    values: Values,
+    pool: &mut CutPool,
+    table: &Table,
+) -> Result<Ascent, NoMemory>
+    requires { IsLawfulInstance values.instance.now }
+    ensures { IfOk result (IsAscentFor values.entry.instance.now 1) }
+{
+    let ascent = root_ascent(alloc, values, pool, table)?;
+    let stepped = root_ascent(alloc, values, pool, &ascent.table);
+    drop(ascent);
+    stepped
 }
 
 // The ascent from what the node stores, with a ray or a cell that is looked for where no schedule is known.
