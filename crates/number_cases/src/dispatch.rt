@@ -42,10 +42,27 @@ pub(crate) fn dispatched(
     let Ok(patterns) = patterns(alloc, words) else {
         return Err(NoDispatch::NoMemory);
     };
+    let printed = dispatch_of(alloc, instance, &patterns);
+    drop(patterns);
+    printed
+}
+
+// The dispatch of a commitment.
+fn dispatch_of(
+    alloc: Global,
+    instance: &Instance,
+    patterns: &[Pattern],
+) -> Result<Printed, NoDispatch>
+    requires { IsLawfulInstance instance.now }
+    ensures obeys { IfOk result (λ printed. let q = printed_denominator instance.now printed in Obeys instance.now q (printed_schedule instance.now printed q)) }
+    ensures shape { IfOk result (HasShapeOf instance.now) }
+    ensures numbers { IfOk result HasPlainNumbers }
+    ensures whole { IfOk result (λ printed. printed.denominator ≡ 1) }
+{
     if patterns.len() != instance.thermal.as_slice().len() {
         return Err(NoDispatch::Count);
     }
-    match dispatch(alloc, instance, &patterns) {
+    match dispatch(alloc, instance, patterns) {
         Ok(printed) => Ok(printed),
         Err(DispatchFault::Stuck(stuck)) => Err(NoDispatch::Stuck(stuck)),
         Err(DispatchFault::NoMemory) => Err(NoDispatch::NoMemory),

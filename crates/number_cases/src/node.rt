@@ -91,35 +91,55 @@ pub(crate) fn tell_child(alloc: Global, instance: &Instance, words: &str) -> Ans
     let parent = node(alloc, decisions)?;
     match decision(last) {
         Some(fixing) if is_node_of(instance, &parent) && is_cell_of(instance, &fixing) => {
-            let table = table_with(alloc, instance, price, 0, &[])?;
-            let evaluation = child_valued(alloc, instance, &parent, &fixing, &table);
-            evaluation_text(alloc, evaluation, true)
+            child_text(alloc, instance, &parent, &fixing, price)
         }
         _ => told(alloc, "no such cell\n"),
     }
 }
 
-// The value of a node with a decision more than its parent, from its parent's.
+// The value of a node with a decision more than its parent, at a price of demand.
+fn child_text(
+    alloc: Global,
+    instance: &Instance,
+    parent: &Node,
+    fixing: &Fixing,
+    price: i32,
+) -> Answer
+    requires lawful { IsLawfulInstance instance.now }
+    requires parent { IsNodeOf instance.now parent.now }
+    requires cell { IsCell instance.now fixing.now.g fixing.now.t }
+{
+    let table = table_with(alloc, instance, price, 0, &[])?;
+    let evaluation = match valued(alloc, instance, parent, &table) {
+        Ok(valued) => child_valued(alloc, instance, parent, fixing, &table, &valued),
+        Err(fault) => Err(fault),
+    };
+    evaluation_text(alloc, evaluation, true)
+}
+
+// The value of a node with a decision more than its parent, of which the value at the table is known.
 fn child_valued(
     alloc: Global,
     instance: &Instance,
     parent: &Node,
     fixing: &Fixing,
     table: &Table,
+    valued: &Valued,
 ) -> Evaluation
     requires lawful { IsLawfulInstance instance.now }
     requires parent { IsNodeOf instance.now parent.now }
     requires cell { IsCell instance.now fixing.now.g fixing.now.t }
     requires size { HasSizeOf instance.now table.now }
     requires limits { IsWithinLimits table.now }
+    requires value { IsValued instance.now parent.now table.now valued.now }
+    requires sizes { HasSizes valued.now }
 {
-    let known = valued(alloc, instance, parent, table)?;
     let node = with_decision(alloc, parent, fixing)?;
     let mut scratch = Scratch::new(alloc, instance.periods as usize)?;
     let mut room = Room::new(alloc, instance)?;
     let inherited = Inherited {
         table,
-        parent: &known,
+        parent: valued,
         g: fixing.g,
     };
     child(alloc, &mut scratch, &mut room, instance, &node, &inherited)

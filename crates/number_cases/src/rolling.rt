@@ -1,8 +1,9 @@
 //! Windows one behind another, each with the dispatch of its part of a commitment.
 
-ghost use Rattle.std.specs.Prelude.{◌≡◌, ◌+◌, ◌≤◌, IfOk, length};
+ghost use Rattle.std.specs.Prelude.{◌≡◌, ℕ, ◌+◌, ◌≤◌, IfOk, length};
 ghost use Rattle.uc_model.specs.Prelude.{IsLawfulInstance, thermal_count};
-ghost use Rattle.roll.specs.Prelude.{IsKept, IsContinuation};
+ghost use Rattle.roll.specs.Kept.{IsKept};
+ghost use Rattle.roll.specs.Stitched.{IsContinuation};
 
 use crate::Answer;
 use crate::commitment::patterns;
@@ -80,9 +81,14 @@ fn rolled(
         let left = instance.periods - done;
         let len = pace.window.min(left);
         let keep = if len == left { len } else { pace.step.min(len) };
-        let piece = Piece { done, len, keep };
-        let shown = next_shown(alloc, instance, &kept, patterns, piece, text)?;
-        kept = stitch(alloc, instance, &kept, &shown, keep)?;
+        kept = next_kept(
+            alloc,
+            instance,
+            kept,
+            patterns,
+            Piece { done, len, keep },
+            text,
+        )?;
         done += keep;
     }
     Ok(kept)
@@ -94,6 +100,30 @@ struct Piece {
     done: u32,
     len: u32,
     keep: u32,
+}
+
+// What is kept behind the next window.
+fn next_kept(
+    alloc: Global,
+    instance: &Instance,
+    kept: Printed,
+    patterns: &[Pattern],
+    piece: Piece,
+    text: &mut String,
+) -> Result<Printed, DispatchFault>
+    requires lawful { IsLawfulInstance instance.now }
+    requires kept { IsKept instance.now piece.done kept }
+    requires patterns { length patterns.now ≡ thermal_count instance.now }
+    requires some { 1 ≤ piece.keep }
+    requires part { piece.keep ≤ piece.len }
+    requires within { piece.done + piece.len ≤ instance.now.periods }
+    ensures { IfOk result (IsKept instance.now (piece.done + piece.keep)) }
+{
+    let shown = next_shown(alloc, instance, &kept, patterns, piece, text)?;
+    let stitched = stitch(alloc, instance, &kept, &shown, piece.keep);
+    drop(shown);
+    drop(kept);
+    Ok(stitched?)
 }
 
 // The dispatch of the next window's part of the commitment; what the window is left is told.

@@ -1,8 +1,8 @@
 //! The uplifts of dispatches.
 
-ghost use Rattle.std.specs.Prelude.{◌≡◌, IfOk, IfSome, All};
+ghost use Rattle.std.specs.Prelude.{◌≡◌, IfOk, IfSome, All, length};
 ghost use Rattle.uc_model.specs.Prelude.{IsLawfulInstance, HasShapeOf, printed_denominator, printed_schedule, Obeys, thermal_count};
-ghost use Rattle.dual_model.specs.Prelude.{IsCell, AreRising, HasLawfulSigns, HasSizeOf, IsRowPriced, IsRowSigned, IsRowWithin, IsWithinLimits};
+ghost use Rattle.dual_model.specs.Prelude.{IsCell, AreRising, HasLawfulSigns, HasSizeOf, IsPrice, IsRowPriced, IsRowSigned, IsRowWithin, IsWithinLimits};
 ghost use Rattle.schedule_check.specs.PlainNumbers.{HasPlainNumbers};
 
 use crate::Answer;
@@ -107,11 +107,36 @@ pub(crate) fn table_with(
     ensures signs { IfOk result HasLawfulSigns }
     ensures limits { IfOk result IsWithinLimits }
 {
-    let periods = instance.periods as usize;
-    let demand = vec![in alloc; i64::from(demand); periods]?;
-    let reserve = vec![in alloc; i64::from(reserve); periods]?;
+    let demand = vec![in alloc; i64::from(demand); instance.periods as usize]?;
+    let table = table_at(alloc, instance, &demand, reserve, rows);
+    drop(demand);
+    table
+}
+
+// The table of prices of demand, of one of reserve for all periods, and of ramp rows.
+fn table_at(
+    alloc: Global,
+    instance: &Instance,
+    demand: &[i64],
+    reserve: u32,
+    rows: &[RampRow],
+) -> Result<Table, NoMemory>
+    requires lawful { IsLawfulInstance instance.now }
+    requires demand { length demand.now ≡ instance.now.periods }
+    requires priced { All IsPrice demand.now }
+    requires within { All (IsRowWithin (thermal_count instance.now) instance.now.periods) rows.now }
+    requires rising { AreRising rows.now }
+    requires signed { All IsRowSigned rows.now }
+    requires rows_priced { All IsRowPriced rows.now }
+    ensures size { IfOk result (HasSizeOf instance.now) }
+    ensures signs { IfOk result HasLawfulSigns }
+    ensures limits { IfOk result IsWithinLimits }
+{
+    let reserve = vec![in alloc; i64::from(reserve); instance.periods as usize]?;
     let units = instance.thermal.as_slice().len() as u32;
-    Table::new(alloc, units, 1_000_000, &demand, &reserve, rows)
+    let table = Table::new(alloc, units, 1_000_000, demand, &reserve, rows);
+    drop(reserve);
+    table
 }
 
 // The ramp row that `UNIT:PERIOD:UP:DOWN` says of a cell of the instance.

@@ -16,6 +16,6 @@ child-requires-clause-parent c = record {
   period = c.args.fixing.now.t;
   on = c.args.fixing.now.on;
   is = c.in_ok-node.ensures;
-  value = c.in_ok-known.ensures.value;
-  sizes = c.in_ok-known.ensures.sizes;
+  value = c.requires.value;
+  sizes = c.requires.sizes;
 }

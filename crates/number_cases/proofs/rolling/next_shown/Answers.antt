@@ -3,9 +3,11 @@ use Rattle.std.proofs.Common.{◌≡◌, ◌+◌, ◌-◌, List, IfOk, Result, O
 use Rattle.uc_model.specs.Prelude.{HasShapeOf}
 use Rattle.uc_model.specs.declared.pattern.Pattern.{Pattern}
 use Rattle.schedule_check.specs.PlainNumbers.{HasPlainNumbers}
-use Rattle.roll.specs.Prelude.{IsCarried, IsWindow, PrintedObeys, IsContinuation}
-use Rattle.roll.specs.Left.{Instance, Printed}
-use Rattle.dispatch_repair.specs.Prelude.{IsDispatchOf}
+use Rattle.roll.specs.Left.{Instance, Printed, IsCarried}
+use Rattle.roll.specs.NextWindow.{IsWindow}
+use Rattle.roll.specs.Kept.{PrintedObeys}
+use Rattle.roll.specs.Stitched.{IsContinuation}
+use Rattle.dispatch_repair.specs.Stuck.{IsDispatchOf}
 use Rattle.dispatch_repair.specs.declared.schedule.DispatchFault.{DispatchFault}
 use Rattle.number_cases.proofs.rolling.next_shown.Goals as goal
 

@@ -1,6 +1,6 @@
 -- What is kept is a schedule of the periods that are done.
 use Rattle.std.proofs.Common.{◌-◌, ◌≤◌}
-use Rattle.roll.specs.Prelude.{IsKept}
+use Rattle.roll.specs.Kept.{IsKept}
 use Rattle.number_cases.proofs.rolling.rolled.Given as goal
 
 abbrev pub invariant-loop-done : goal.invariant-loop-done
