@@ -15,16 +15,16 @@ child='' work='' told='' crates=() uses=() began=() took=() proved=0
 . "$top/launch/record.sh"
 
 # What the proof of each crate took when it was measured, in seconds of one processor.
-weights='uc_model 60 dual_model 48 outside 54 outside_system 72 decimal_json 90 instance 126 table_list 54 cert_text 246
-  report 84 cost_curves 48 start_costs 18 period_term 36 ramp_duals 18 system_value 24 interval_graph 18
-  step_functions 60 pivot_run 102 fractions 12 dispatch_program 6 dispatch_rules 18 dispatch_prices 42
-  dispatch_table 114 dispatch_schedule 60 pivot_dispatch 30 found_schedule 12 hull_function 24 unit_path 48
-  unit_runs 12 unit_exact 60 dispatch_repair 156 dual_value 60 quick_value 144 opening_tables 36 decided_nodes 30
-  uplift 90 bundle 96 prices 174 repair_state 162 schedule_repair 150 roll 78 branch_tree 42 incumbent 24
-  steal_pool 42 search_machine 24 pivot_closing 12 claims 24 book 78 decommitment 162 opening 72 search_desk 84
-  node_visits 72 closing_pass 84 tree_search 270 search_answers 60 workers 90 schedule_check 66 state_walk 78
-  leaf_values 66 cert_check 84 demo_gen 30 command_line 114 command_runs 36 uc_check 42 uc_uplift 36 uc_cli 66
-  uc 144'
+weights='uc_model 96 dual_model 78 outside 72 outside_system 108 decimal_json 162 instance 216 table_list 78 cert_text 390
+  report 150 cost_curves 96 start_costs 36 period_term 60 ramp_duals 36 system_value 30 interval_graph 30
+  step_functions 102 pivot_run 156 fractions 18 dispatch_program 12 dispatch_rules 30 dispatch_prices 66
+  dispatch_table 198 dispatch_schedule 84 pivot_dispatch 66 found_schedule 18 hull_function 42 unit_path 78
+  unit_runs 24 unit_exact 120 dispatch_repair 240 dual_value 102 quick_value 246 opening_tables 54 decided_nodes 54
+  uplift 150 bundle 168 prices 324 repair_state 264 schedule_repair 276 roll 96 branch_tree 90 incumbent 30
+  steal_pool 66 search_machine 36 pivot_closing 12 claims 30 book 156 decommitment 282 opening 138 search_desk 96
+  node_visits 177 closing_pass 144 tree_search 492 search_answers 102 workers 144 schedule_check 114 state_walk 90
+  leaf_values 108 cert_check 138 demo_gen 48 command_line 186 command_runs 66 uc_check 90 uc_uplift 66 uc_cli 144
+  uc 258'
 
 say() { printf 'uc: %s\n' "$*" >&2; }
 
