@@ -1,6 +1,6 @@
 -- The numbers of a schedule that obeys can be told in a certificate: an off cell has none, a category is one of its unit's, and no more is missing
 -- than the need.
-use Rattle.std.proofs.Common.{◌≡◌, ℕ, ◌*◌, ◌<◌, ◌≤◌, ⊎_elim, List, [], length, get_or, sym, subst, ◌∙◌, refl, arith, Bool, true, false, not, ◌&&◌, ◌==◌, ℤ, pos, ◌*ℤ◌, ◌≤ℤ◌}
+use Rattle.std.proofs.Common.{◌≡◌, ℕ, ◌<◌, ◌≤◌, ⊎_elim, List, [], length, get_or, sym, subst, ◌∙◌, refl, arith, Bool, true, false, not, ◌&&◌, ◌==◌, ℤ, pos, ◌*ℤ◌, ◌≤ℤ◌}
 use Rattle.std.specs.Int.{int_max}
 use Rattle.std.proofs.lemmas.Bool.{cases_lt, cond-false, eqb-true}
 use Rattle.std.proofs.lemmas.Int.{ints}

@@ -1,6 +1,6 @@
 -- Numbers that are made column by column.
 -- Cite by `use Rattle.pivot_run.proofs.CombinedEntries.{combined_more}`.
-use Rattle.std.proofs.Common.{◌≡◌, ◌≢◌, ◌⊎◌, ⊎_elim, ℕ, ◌+◌, ◌-◌, ◌*◌, ◌^◌, ◌<◌, ◌≤◌, ◌++◌, below_more, true, false, refl, sym, ap, subst, ◌∙◌, arith, lit<, zero-mul, mul-zero, List, [], ◌∷◌, length, slice_index_or, ℤ, pos, ◌-ℤ◌, ◌*ℤ◌, unsigned_abs}
+use Rattle.std.proofs.Common.{◌≡◌, ◌≢◌, ⊎_elim, ℕ, ◌+◌, ◌*◌, ◌^◌, ◌<◌, ◌≤◌, ◌++◌, below_more, true, false, refl, sym, ap, subst, ◌∙◌, arith, lit<, zero-mul, mul-zero, List, [], ◌∷◌, length, slice_index_or, ℤ, pos, ◌-ℤ◌, ◌*ℤ◌, unsigned_abs}
 use Rattle.std.proofs.lemmas.Bool.{cases_Bool, cases_lt, cond-true, cond-false}
 use Rattle.std.proofs.lemmas.Int.{ints}
 use Rattle.std.specs.Ordering.{int_eq}

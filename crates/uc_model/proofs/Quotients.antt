@@ -1,6 +1,6 @@
 -- Laws of floor and ceiling, `IsFloor a b n` and `IsCeiling a b n`, for a positive b.
 -- Cite from a crate above by `use Rattle.uc_model.proofs.Quotients.{IsFloor-greatest}`.
-use Rattle.std.proofs.Common.{◌≡◌, ◌≢◌, ◌-◌, arith, ℤ, pos, negsuc, ◌+ℤ◌, ◌*ℤ◌, neg_ℤ, ◌≤ℤ◌, ◌<ℤ◌}
+use Rattle.std.proofs.Common.{◌≡◌, ◌≢◌, arith, ℤ, pos, negsuc, ◌+ℤ◌, ◌*ℤ◌, neg_ℤ, ◌≤ℤ◌, ◌<ℤ◌}
 use Rattle.std.specs.Int.{int_div_euclid, int_rem_euclid}
 use Rattle.std.proofs.lemmas.Int.{ints, by_lt_z}
 use Rattle.uc_model.specs.Prelude.{IsFloor, IsCeiling, quotient_up}

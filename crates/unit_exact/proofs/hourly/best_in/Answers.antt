@@ -1,5 +1,5 @@
 -- The output lies on the hull and within the cap.
-use Rattle.std.proofs.Common.{◌≡◌, ◌≤◌, sym, ap, subst, ◌∙◌, arith, ℤ, pos, ◌+ℤ◌, ◌≤ℤ◌, false, true, to_z, of_z}
+use Rattle.std.proofs.Common.{◌≡◌, sym, ap, subst, ◌∙◌, arith, ℤ, pos, ◌+ℤ◌, ◌≤ℤ◌, false, true, to_z, of_z}
 use mir.Val.{SFits}
 use Rattle.std.specs.Int.{w64, w128, int_min}
 use Rattle.std.specs.Int.Signed.{lt_z, le_z}

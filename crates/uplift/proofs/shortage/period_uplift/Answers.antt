@@ -1,5 +1,5 @@
 -- The numbers of the period are what their bits say.
-use Rattle.std.proofs.Common.{◌≡◌, ◌*◌, ◌^◌, ◌<◌, arith, lit<, to_z, slice_index_or}
+use Rattle.std.proofs.Common.{◌≡◌, ◌*◌, ◌^◌, arith, lit<, slice_index_or}
 use Rattle.std.proofs.lemmas.Int.{to_z-of_z}
 use Rattle.uc_model.specs.Prelude.{shed_at, short_at, most_shed, most_short}
 use Rattle.uc_model.proofs.Common.{sum-fits, sum-is}
