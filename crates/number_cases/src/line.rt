@@ -25,26 +25,39 @@ pub(crate) fn follow<R: Print + Files + AllocGlobal>(
     system: &mut String,
     line: &str,
 ) -> io::Result<()> {
-    let alloc = rt.alloc();
     let (word, rest) = first(line);
-    let text = match word {
-        "" | "#" | "case" => return Ok(()),
-        "system" => Some(fs::read_to_string(rt, rest)?),
-        "line" => line_of(rt, rest)?,
-        "change" => changed(alloc, system.as_str(), rest)?,
-        "unit" => unit_changed(alloc, system.as_str(), rest)?,
-        _ => {
-            return match answer(alloc, system.as_str(), word, rest) {
-                Ok(text) => rt.print(text.as_str()),
-                Err(NoMemory) => rt.println("no memory"),
-            };
+    match word {
+        "" | "#" | "case" => Ok(()),
+        "system" | "line" | "change" | "unit" => {
+            match text_of(rt, system.as_str(), word, rest)? {
+                Some(text) => {
+                    *system = text;
+                    Ok(())
+                }
+                None => rt.println("no such text"),
+            }
         }
-    };
-    match text {
-        Some(text) => *system = text,
-        None => rt.println("no such text")?,
+        _ => match answer(rt.alloc(), system.as_str(), word, rest) {
+            Ok(text) => rt.print(text.as_str()),
+            Err(NoMemory) => rt.println("no memory"),
+        },
     }
-    Ok(())
+}
+
+// The text of a system that a line begins or changes.
+fn text_of<R: Files + AllocGlobal>(
+    rt: &R,
+    system: &str,
+    word: &str,
+    rest: &str,
+) -> io::Result<Option<String>> {
+    let text = match word {
+        "system" => return Ok(Some(fs::read_to_string(rt, rest)?)),
+        "line" => return line_of(rt, rest),
+        "change" => changed(rt.alloc(), system, rest),
+        _ => unit_changed(rt.alloc(), system, rest),
+    };
+    Ok(text?)
 }
 
 // The text of a line of a file, as `FILE NUMBER` says; nothing where there is no such line.

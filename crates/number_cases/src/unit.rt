@@ -6,7 +6,7 @@ ghost use Rattle.uc_model.specs.Prelude.{IsLawfulInstance, IsLawfulThermal};
 use crate::Answer;
 use crate::commitment::pattern;
 use crate::text::{first, large_line, put_line, told, whole};
-use cost_curves::Curve;
+use cost_curves::{Curve, Slope};
 use period_term::term;
 use start_costs::{least_allowed, sigma};
 use std::alloc::{AllocError, Global};
@@ -80,12 +80,15 @@ fn put_output(text: &mut String, curve: &Curve, p: i64) -> Result<(), AllocError
     )?;
     write!(text, " to {}:{}", right.mw, right.cost)?;
     if 0 < p && p < width {
-        let left = curve.left_slope(p);
-        let right = curve.right_slope(p);
-        write!(text, " slopes {}/{}", left.rise, left.run)?;
-        write!(text, " {}/{}", right.rise, right.run)?;
+        put_slope(text, " slopes", curve.left_slope(p))?;
+        put_slope(text, "", curve.right_slope(p))?;
     }
     text.push_str("\n")
+}
+
+// A slope behind a word.
+fn put_slope(text: &mut String, word: &str, slope: Slope) -> Result<(), AllocError> {
+    write!(text, "{word} {}/{}", slope.rise, slope.run)
 }
 
 // The term of a cell, of the scale, the prices of output and of reserve and the cap.

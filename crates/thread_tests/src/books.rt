@@ -126,6 +126,23 @@ fn outcome(
     }
 }
 
+// A table, and what the evaluation of a node at it comes to.
+fn evaluated(
+    alloc: Global,
+    instance: &Instance,
+    node: &Node,
+    more: u16,
+) -> Result<(Table, Outcome), NoMemory>
+    requires lawful { IsLawfulInstance instance.now }
+    requires node { IsNodeOf instance.now node.now }
+    ensures table { IfOk result (λ entry. IsLawfulTable instance.now entry.0) }
+    ensures outcome { IfOk result (λ entry. IsTrueOutcome false instance.now node.now entry.0 entry.1) }
+{
+    let table = table(alloc, instance, more)?;
+    let outcome = outcome(alloc, instance, node, &table)?;
+    Ok((table, outcome))
+}
+
 // The root's bound at the table.
 fn bound(alloc: Global, instance: &Instance, table: &Table) -> Result<i128, Fail>
     requires lawful { IsLawfulInstance instance.now }
@@ -152,22 +169,25 @@ fn make_commit<C: Case>(
     instance: &Instance,
     node: &Node,
     commit: &Commit,
-) -> Result<bool, NoMemory>
+) -> Result<bool, Fail>
     requires lawful { IsLawfulInstance instance.now }
     requires same { instance.now ≡ C.opening.instance }
-    requires node { IsNodeOf instance.now node.now }
 {
-    let table = table(alloc, instance, commit.more)?;
-    let outcome = outcome(alloc, instance, node, &table)?;
-    Ok(book.commit(
-        commit.worker,
-        commit.unit,
-        node,
-        table,
-        false,
-        outcome,
-        commit.action,
-    ))
+    if !is_node_of(instance, node) {
+        return Err("no node")?;
+    }
+    match evaluated(alloc, instance, node, commit.more) {
+        Ok((table, outcome)) => Ok(book.commit(
+            commit.worker,
+            commit.unit,
+            node,
+            table,
+            false,
+            outcome,
+            commit.action,
+        )),
+        Err(NoMemory) => Err("no memory")?,
+    }
 }
 
 // Claims a node, and compares the answer.
@@ -188,11 +208,9 @@ fn ask_commit<C: Case>(
 {
     let alloc = rt.alloc();
     let node = node(alloc, call.first).map_err(|_| "no memory")?;
-    if !is_node_of(instance, &node) {
-        return Err("no node")?;
-    }
-    let is_taken = make_commit(alloc, book, instance, &node, call).map_err(|_| "no memory")?;
-    assert_eq!(rt; is_taken, want);
+    let is_taken = make_commit(alloc, book, instance, &node, call);
+    drop(node);
+    assert_eq!(rt; is_taken?, want);
     Ok(())
 }
 
@@ -333,15 +351,19 @@ fn demo(alloc: Global) -> Result<Instance, Fail>
     }
 }
 
-// The table that the root stores at first.
-fn first_table(alloc: Global, instance: &Instance) -> Result<Table, Fail>
+// The table that the root stores at first, and the root's bound at it.
+fn opening(alloc: Global, instance: &Instance) -> Result<(Table, i128), Fail>
     requires { IsLawfulInstance instance.now }
-    ensures lawful { IfOk result (IsLawfulTable instance.now) }
-    ensures scale { IfOk result (λ table. pos 0 <ℤ table.k) }
+    ensures lawful { IfOk result (λ first. IsLawfulTable instance.now first.0) }
+    ensures scale { IfOk result (λ first. pos 0 <ℤ first.0.k) }
+    ensures bound { IfOk result (λ first. IsTableBound false instance.now root first.0 first.1) }
 {
     match table(alloc, instance, 0) {
-        Ok(table) => Ok(table),
-        Err(_) => Err("no memory")?,
+        Ok(table) => {
+            let value = bound(alloc, instance, &table)?;
+            Ok((table, value))
+        }
+        Err(NoMemory) => Err("no memory")?,
     }
 }
 
@@ -349,8 +371,7 @@ fn first_table(alloc: Global, instance: &Instance) -> Result<Table, Fail>
 fn tell(rt: &(impl Abort + AllocGlobal), budget: u16, calls: &[Call]) -> Result<(), Fail> {
     let alloc = rt.alloc();
     let instance = demo(alloc)?;
-    let table = first_table(alloc, &instance)?;
-    let value = bound(alloc, &instance, &table)?;
+    let (table, value) = opening(alloc, &instance)?;
     ask_all::<Brand>(rt, &instance, u32::from(budget), table, value, calls)
 }
 
@@ -438,8 +459,8 @@ fn work<C: Case>(
         match claimed {
             Claimed::Mine { unit, .. } => {
                 let root = Node::root(alloc);
-                let table = table(alloc, instance, u16::try_from(unit).unwrap_or(0))?;
-                let outcome = outcome(alloc, instance, &root, &table)?;
+                let more = u16::try_from(unit).unwrap_or(0);
+                let (table, outcome) = evaluated(alloc, instance, &root, more)?;
                 desk.lock(rt)
                     .commit(worker, unit, &root, table, false, outcome, Move::Again);
             }
@@ -487,8 +508,7 @@ fn shared<R: Threads + Wait + Sync>(
 ) -> Result<(i128, (Tree, List<Table>, List<Entry>)), Fail>
     requires { IsLawfulInstance instance.now }
 {
-    let table = first_table(alloc, instance)?;
-    let value = bound(alloc, instance, &table)?;
+    let (table, value) = opening(alloc, instance)?;
     match work_together::<Brand, R>(rt, alloc, instance, table, value) {
         Ok(left) => Ok((value, left)),
         Err(NoMemory) => Err("no memory")?,

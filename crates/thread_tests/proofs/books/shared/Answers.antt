@@ -10,11 +10,11 @@ pub work_together-requires-clause-opening : goal.work_together-requires-clause-o
 work_together-requires-clause-opening g c _ _ =
     let instance = c.args.instance.now in
     let table = c.in_ok-table.table in
-    let value = c.in_ok-value.value in
+    let value = c.in_ok-table.value in
     let lawful : IsLawfulInstance instance = c.requires in
     let lawful_table : IsLawfulTable instance table = c.in_ok-table.ensures.lawful in
     let scale : pos 0 <ℤ table.k = c.in_ok-table.ensures.scale in
-    let bound : IsTableBound false instance root table value = c.in_ok-value.ensures in
+    let bound : IsTableBound false instance root table value = c.in_ok-table.ensures.bound in
     let fits : FitsSigned w128 value = search rules in
     record {
       instance = lawful;

@@ -10,11 +10,11 @@ pub ask_all-requires-clause-opening : goal.ask_all-requires-clause-opening
 ask_all-requires-clause-opening g c =
     let instance = c.in_ok-instance.instance in
     let table = c.in_ok-table.table in
-    let value = c.in_ok-value.value in
+    let value = c.in_ok-table.value in
     let lawful : IsLawfulInstance instance = c.in_ok-instance.ensures in
     let lawful_table : IsLawfulTable instance table = c.in_ok-table.ensures.lawful in
     let scale : pos 0 <ℤ table.k = c.in_ok-table.ensures.scale in
-    let bound : IsTableBound false instance root table value = c.in_ok-value.ensures in
+    let bound : IsTableBound false instance root table value = c.in_ok-table.ensures.bound in
     let fits : FitsSigned w128 value = search rules in
     let small : c.from.result ≤ 65535 = omega (arith, c.from.ensures, c.ranges.budget.fits) in
     record {
