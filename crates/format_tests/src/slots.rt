@@ -10,6 +10,7 @@ use outside::{
 };
 use outside_memory::{FaultyFile, Pace};
 use outside_system::{StreamSink, system_files};
+use std::alloc::{AllocError, Global};
 use std::fs;
 use std::test::Fail;
 
@@ -37,18 +38,26 @@ pub(crate) fn is_saved(rt: &HostRuntime, name: &str, bytes: &[u8]) -> bool {
     save(&mut files, name, bytes).is_ok()
 }
 
+// What is read of an instance of these bytes, up to eight.
+fn slurped(
+    alloc: Global,
+    input: &[u8],
+    pace: Pace,
+) -> Result<Result<Vec<u8>, SlurpFault>, AllocError> {
+    let mut files = Devices::new(
+        FaultyFile::new(alloc, "in.json", input, &[], pace)?,
+        FaultyFile::new(alloc, "old.cert", b"", &[], pace)?,
+        FaultyFile::new(alloc, "new.cert", b"", &[], pace)?,
+    );
+    Ok(slurp(alloc, &mut files, Slot::Instance, "in.json", 8))
+}
+
 #[test]
 fn slurps_up_to_the_limit(rt: HostRuntime) -> Result<(), Fail> {
-    let alloc = rt.alloc();
     for pace in [Pace::Full, Pace::ByteByByte] {
         for (length, want) in [(8, true), (9, false), (0, true)] {
             let input = &b"123456789"[..length];
-            let mut files = Devices::new(
-                FaultyFile::new(alloc, "in.json", input, &[], pace)?,
-                FaultyFile::new(alloc, "old.cert", b"", &[], pace)?,
-                FaultyFile::new(alloc, "new.cert", b"", &[], pace)?,
-            );
-            match slurp(alloc, &mut files, Slot::Instance, "in.json", 8) {
+            match slurped(rt.alloc(), input, pace)? {
                 Ok(read) => {
                     assert!(rt; want);
                     assert_eq!(rt; read.as_slice(), input);

@@ -20,17 +20,20 @@ pub(crate) struct Cell {
 }
 
 impl Cell {
+    // The output of a point above the first one's.
+    fn output(&self, point: &Point) -> i128 {
+        i128::from(point.mw) - i128::from(self.first)
+    }
+
     // How far a point lies left of the cap.
     fn room(&self, point: &Point) -> i128 {
-        let output = i128::from(point.mw) - i128::from(self.first);
-        i128::from(self.cap) - output
+        i128::from(self.cap).saturating_sub(self.output(point))
     }
 
     // The reduced cost of a point without reserve.
     fn cost(&self, point: &Point) -> i128 {
-        let output = i128::from(point.mw) - i128::from(self.first);
         let scaled = i128::from(self.k) * i128::from(point.cost);
-        scaled.saturating_add(self.a.saturating_mul(output))
+        scaled.saturating_add(self.a.saturating_mul(self.output(point)))
     }
 
     // The least cost of a point at or left of the cap, with all the reserve that is left or with none.

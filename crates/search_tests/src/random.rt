@@ -263,12 +263,22 @@ fn begun(alloc: Global) -> Result<Recount, AllocError> {
     })
 }
 
+// Whether all random events are taken, and recounted.
+fn runs_as_recounted(alloc: Global, state: &mut State, recount: &mut Recount) -> Result<bool, Fail>
+    requires { length state.old.desks ≡ 3 }
+{
+    let taken = run(alloc, state, recount)?;
+    Ok(taken == EVENTS && is_recounted(alloc, state, recount)?)
+}
+
 #[test]
 fn a_random_run_is_as_recounted(rt: HostRuntime) -> Result<(), Fail> {
     let alloc = rt.alloc();
     let mut recount = begun(alloc)?;
     let mut state = start(alloc, 12, 3, 4_000)?;
-    let taken = run(alloc, &mut state, &mut recount)?;
-    assert!(rt; taken == EVENTS && is_recounted(alloc, &state, &recount)?);
+    let is_recounted = runs_as_recounted(alloc, &mut state, &mut recount);
+    drop(state);
+    drop(recount);
+    assert!(rt; is_recounted?);
     Ok(())
 }

@@ -136,7 +136,7 @@ fn are_as_told(alloc: Global, state: &mut State, acts: &[(Act, bool)]) -> Result
     Ok(true)
 }
 
-// Ninety-nine entries of the root.
+// Whether a hundred entries of the root, and those of a child, are as told.
 fn again(alloc: Global, state: &mut State) -> Result<bool, Fail> {
     for unit in 1..100u32 {
         let commit = Act::Commit(0, unit, unit, FIVE, Move::Again);
@@ -144,7 +144,7 @@ fn again(alloc: Global, state: &mut State) -> Result<bool, Fail> {
             return Ok(false);
         }
     }
-    Ok(true)
+    are_as_told(alloc, state, &HUNDREDTH)
 }
 
 // The hundredth entry of the root, and the first ones of a child.
@@ -162,9 +162,9 @@ const HUNDREDTH: [(Act, bool); 6] = [
 #[test]
 fn the_hundredth_entry_is_no_again(rt: HostRuntime) -> Result<(), Fail> {
     let mut state = start(rt.alloc(), 2, 1, 200)?;
-    let is_refused = again(rt.alloc(), &mut state)?
-        && are_as_told(rt.alloc(), &mut state, &HUNDREDTH)?;
-    assert!(rt; is_refused);
+    let is_refused = again(rt.alloc(), &mut state);
+    drop(state);
+    assert!(rt; is_refused?);
     Ok(())
 }
 
@@ -184,20 +184,29 @@ fn is_root(state: &State, leaf: Leaf) -> bool {
     state.count() > 0 && state.tree().node(0) == Spot::Leaf(leaf)
 }
 
-// An equal table of the other kind is fresh, and a node keeps the kind of what it stores.
-#[test]
-fn kinds_are_told_apart(rt: HostRuntime) -> Result<(), Fail> {
-    let mut state = start(rt.alloc(), 1, 1, 3)?;
-    assert!(rt; are_as_told(rt.alloc(), &mut state, &KINDS)?);
+// Whether the root keeps the kind of what it stores.
+fn keeps_its_kind(alloc: Global, state: &mut State) -> Result<bool, Fail> {
     let bound = Leaf::Live {
         table: 2,
         value: 7,
         exact: true,
     };
-    assert!(rt; is_root(&state, bound));
     let ray = Act::Exact(0, 3, 0, FIVE, Move::Ray);
-    assert!(rt; is_taken(rt.alloc(), &mut state, ray)?);
-    assert!(rt; is_root(&state, Leaf::ExactRay { table: 3 }));
+    Ok(
+        are_as_told(alloc, state, &KINDS)?
+            && is_root(state, bound)
+            && is_taken(alloc, state, ray)?
+            && is_root(state, Leaf::ExactRay { table: 3 }),
+    )
+}
+
+// An equal table of the other kind is fresh, and a node keeps the kind of what it stores.
+#[test]
+fn kinds_are_told_apart(rt: HostRuntime) -> Result<(), Fail> {
+    let mut state = start(rt.alloc(), 1, 1, 3)?;
+    let is_kept = keeps_its_kind(rt.alloc(), &mut state);
+    drop(state);
+    assert!(rt; is_kept?);
     Ok(())
 }
 
@@ -220,6 +229,8 @@ fn is_claimed_once(alloc: Global, state: &mut State) -> Result<bool, Fail>
 #[test]
 fn the_root_is_claimed_once(rt: HostRuntime) -> Result<(), Fail> {
     let mut state = start(rt.alloc(), 1, 1, 1)?;
-    assert!(rt; is_claimed_once(rt.alloc(), &mut state)?);
+    let is_claimed = is_claimed_once(rt.alloc(), &mut state);
+    drop(state);
+    assert!(rt; is_claimed?);
     Ok(())
 }
