@@ -15,16 +15,16 @@ child='' work='' told='' crates=() uses=() began=() took=() proved=0
 . "$top/launch/record.sh"
 
 # What the proof of each crate took when it was measured, in seconds of one processor.
-weights='uc_model 96 dual_model 78 outside 72 outside_system 108 decimal_json 162 instance 216 table_list 78 cert_text 390
-  report 150 cost_curves 96 start_costs 36 period_term 60 ramp_duals 36 system_value 30 interval_graph 30
-  step_functions 102 pivot_run 156 fractions 18 dispatch_program 12 dispatch_rules 30 dispatch_prices 66
-  dispatch_table 198 dispatch_schedule 84 pivot_dispatch 66 found_schedule 18 hull_function 42 unit_path 78
-  unit_runs 24 unit_exact 120 dispatch_repair 240 dual_value 102 quick_value 246 opening_tables 54 decided_nodes 54
-  uplift 150 bundle 168 prices 324 repair_state 264 schedule_repair 276 roll 96 branch_tree 90 incumbent 30
-  steal_pool 66 search_machine 36 pivot_closing 12 claims 30 book 156 decommitment 282 opening 138 search_desk 96
-  node_visits 177 closing_pass 144 tree_search 492 search_answers 102 workers 144 schedule_check 114 state_walk 90
-  leaf_values 108 cert_check 138 demo_gen 48 command_line 186 command_runs 66 uc_check 90 uc_uplift 66 uc_cli 144
-  uc 258'
+weights='uc_model 96 dual_model 66 outside 78 outside_system 96 decimal_json 144 instance 216 table_list 90 cert_text 510
+  report 144 cost_curves 78 start_costs 30 period_term 66 ramp_duals 42 system_value 30 interval_graph 36
+  step_functions 102 pivot_run 150 fractions 18 dispatch_program 18 dispatch_rules 36 dispatch_prices 72
+  dispatch_table 216 dispatch_schedule 96 pivot_dispatch 84 found_schedule 24 hull_function 54 unit_path 90
+  unit_runs 30 unit_exact 138 dispatch_repair 276 dual_value 126 quick_value 282 opening_tables 72 decided_nodes 66
+  uplift 126 bundle 162 prices 390 repair_state 258 schedule_repair 342 roll 132 branch_tree 90 incumbent 42
+  steal_pool 84 search_machine 42 pivot_closing 18 claims 48 book 192 decommitment 294 opening 168 search_desk 138
+  node_visits 132 closing_pass 150 tree_search 390 search_answers 78 workers 150 schedule_check 138 state_walk 132
+  leaf_values 126 cert_check 120 demo_gen 36 command_line 168 command_runs 54 uc_check 60 uc_uplift 48 uc_cli 162
+  uc 180'
 
 say() { printf 'uc: %s\n' "$*" >&2; }
 
