@@ -29,13 +29,11 @@ pub(crate) fn follow<R: Print + Files + AllocGlobal>(
     match word {
         "" | "#" | "case" => Ok(()),
         "system" | "line" | "change" | "unit" => {
-            match text_of(rt, system.as_str(), word, rest)? {
-                Some(text) => {
-                    *system = text;
-                    Ok(())
-                }
-                None => rt.println("no such text"),
-            }
+            let Some(text) = text_of(rt, system.as_str(), line)? else {
+                return rt.println("no such text");
+            };
+            *system = text;
+            Ok(())
         }
         _ => match answer(rt.alloc(), system.as_str(), word, rest) {
             Ok(text) => rt.print(text.as_str()),
@@ -45,12 +43,8 @@ pub(crate) fn follow<R: Print + Files + AllocGlobal>(
 }
 
 // The text of a system that a line begins or changes.
-fn text_of<R: Files + AllocGlobal>(
-    rt: &R,
-    system: &str,
-    word: &str,
-    rest: &str,
-) -> io::Result<Option<String>> {
+fn text_of<R: Files + AllocGlobal>(rt: &R, system: &str, line: &str) -> io::Result<Option<String>> {
+    let (word, rest) = first(line);
     let text = match word {
         "system" => return Ok(Some(fs::read_to_string(rt, rest)?)),
         "line" => return line_of(rt, rest),

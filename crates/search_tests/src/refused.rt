@@ -136,6 +136,16 @@ fn are_as_told(alloc: Global, state: &mut State, acts: &[(Act, bool)]) -> Result
     Ok(true)
 }
 
+// The hundredth entry of the root, and the first ones of a child.
+const HUNDREDTH: [(Act, bool); 6] = [
+    (Act::Claim(0, 0), true),
+    (Act::Commit(0, 100, 100, FIVE, Move::Again), false),
+    (Act::Commit(0, 100, 100, FIVE, CELL), true),
+    (Act::Claim(0, 2), true),
+    (Act::Commit(0, 101, 2, FIVE, Move::Again), false),
+    (Act::Commit(0, 101, 1, FIVE, Move::Again), true),
+];
+
 // Whether a hundred entries of the root, and those of a child, are as told.
 fn again(alloc: Global, state: &mut State) -> Result<bool, Fail> {
     for unit in 1..100u32 {
@@ -147,24 +157,17 @@ fn again(alloc: Global, state: &mut State) -> Result<bool, Fail> {
     are_as_told(alloc, state, &HUNDREDTH)
 }
 
-// The hundredth entry of the root, and the first ones of a child.
-const HUNDREDTH: [(Act, bool); 6] = [
-    (Act::Claim(0, 0), true),
-    (Act::Commit(0, 100, 100, FIVE, Move::Again), false),
-    (Act::Commit(0, 100, 100, FIVE, CELL), true),
-    (Act::Claim(0, 2), true),
-    (Act::Commit(0, 101, 2, FIVE, Move::Again), false),
-    (Act::Commit(0, 101, 1, FIVE, Move::Again), true),
-];
+// The same on a new tree.
+fn again_on_a_new_tree(alloc: Global) -> Result<bool, Fail> {
+    let mut state = start(alloc, 2, 1, 200)?;
+    again(alloc, &mut state)
+}
 
 // A node may have a hundred entries, and no claim ends there in Again, while a cell is undecided; and a child's first
 // table is the one that it stores.
 #[test]
 fn the_hundredth_entry_is_no_again(rt: HostRuntime) -> Result<(), Fail> {
-    let mut state = start(rt.alloc(), 2, 1, 200)?;
-    let is_refused = again(rt.alloc(), &mut state);
-    drop(state);
-    assert!(rt; is_refused?);
+    assert!(rt; again_on_a_new_tree(rt.alloc())?);
     Ok(())
 }
 
@@ -229,8 +232,6 @@ fn is_claimed_once(alloc: Global, state: &mut State) -> Result<bool, Fail>
 #[test]
 fn the_root_is_claimed_once(rt: HostRuntime) -> Result<(), Fail> {
     let mut state = start(rt.alloc(), 1, 1, 1)?;
-    let is_claimed = is_claimed_once(rt.alloc(), &mut state);
-    drop(state);
-    assert!(rt; is_claimed?);
+    assert!(rt; is_claimed_once(rt.alloc(), &mut state)?);
     Ok(())
 }
