@@ -10,7 +10,7 @@ use outside::{
 };
 use outside_memory::{FaultyFile, Pace};
 use outside_system::{StreamSink, system_files};
-use std::alloc::{AllocError, Global};
+use std::alloc::Global;
 use std::fs;
 use std::test::Fail;
 
@@ -39,17 +39,13 @@ pub(crate) fn is_saved(rt: &HostRuntime, name: &str, bytes: &[u8]) -> bool {
 }
 
 // What is read of an instance of these bytes, up to eight.
-fn slurped(
-    alloc: Global,
-    input: &[u8],
-    pace: Pace,
-) -> Result<Result<Vec<u8>, SlurpFault>, AllocError> {
+fn slurped(alloc: Global, input: &[u8], pace: Pace) -> Result<Vec<u8>, SlurpFault> {
     let mut files = Devices::new(
         FaultyFile::new(alloc, "in.json", input, &[], pace)?,
         FaultyFile::new(alloc, "old.cert", b"", &[], pace)?,
         FaultyFile::new(alloc, "new.cert", b"", &[], pace)?,
     );
-    Ok(slurp(alloc, &mut files, Slot::Instance, "in.json", 8))
+    slurp(alloc, &mut files, Slot::Instance, "in.json", 8)
 }
 
 #[test]
@@ -57,7 +53,7 @@ fn slurps_up_to_the_limit(rt: HostRuntime) -> Result<(), Fail> {
     for pace in [Pace::Full, Pace::ByteByByte] {
         for (length, want) in [(8, true), (9, false), (0, true)] {
             let input = &b"123456789"[..length];
-            match slurped(rt.alloc(), input, pace)? {
+            match slurped(rt.alloc(), input, pace) {
                 Ok(read) => {
                     assert!(rt; want);
                     assert_eq!(rt; read.as_slice(), input);

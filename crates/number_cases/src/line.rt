@@ -25,33 +25,30 @@ pub(crate) fn follow<R: Print + Files + AllocGlobal>(
     system: &mut String,
     line: &str,
 ) -> io::Result<()> {
+    let alloc = rt.alloc();
     let (word, rest) = first(line);
     match word {
         "" | "#" | "case" => Ok(()),
-        "system" | "line" | "change" | "unit" => {
-            let Some(text) = text_of(rt, system.as_str(), line)? else {
-                return rt.println("no such text");
-            };
-            *system = text;
-            Ok(())
-        }
-        _ => match answer(rt.alloc(), system.as_str(), word, rest) {
+        "system" => put(rt, Some(fs::read_to_string(rt, rest)?), system),
+        "line" => put(rt, line_of(rt, rest)?, system),
+        "change" => put(rt, changed(alloc, system.as_str(), rest)?, system),
+        "unit" => put(rt, unit_changed(alloc, system.as_str(), rest)?, system),
+        _ => match answer(alloc, system.as_str(), word, rest) {
             Ok(text) => rt.print(text.as_str()),
             Err(NoMemory) => rt.println("no memory"),
         },
     }
 }
 
-// The text of a system that a line begins or changes.
-fn text_of<R: Files + AllocGlobal>(rt: &R, system: &str, line: &str) -> io::Result<Option<String>> {
-    let (word, rest) = first(line);
-    let text = match word {
-        "system" => return Ok(Some(fs::read_to_string(rt, rest)?)),
-        "line" => return line_of(rt, rest),
-        "change" => changed(rt.alloc(), system, rest),
-        _ => unit_changed(rt.alloc(), system, rest),
-    };
-    Ok(text?)
+// Puts a text, if there is one, in the place of a system's.
+fn put(rt: &impl Print, text: Option<String>, system: &mut String) -> io::Result<()> {
+    match text {
+        Some(text) => {
+            *system = text;
+            Ok(())
+        }
+        None => rt.println("no such text"),
+    }
 }
 
 // The text of a line of a file, as `FILE NUMBER` says; nothing where there is no such line.

@@ -263,7 +263,7 @@ fn begun(alloc: Global) -> Result<Recount, AllocError> {
     })
 }
 
-// Whether all random events are taken, and recounted.
+// Takes random events, and tells whether as many were legal as are wanted, and the state is as recounted.
 fn runs_as_recounted(alloc: Global, state: &mut State, recount: &mut Recount) -> Result<bool, Fail>
     requires { length state.old.desks ≡ 3 }
 {

@@ -162,7 +162,7 @@ fn bound(alloc: Global, instance: &Instance, table: &Table) -> Result<i128, Fail
     }
 }
 
-// Evaluates a node, and makes the commit of it.
+// Evaluates a node whose decisions are on cells of the instance, and makes the commit of it.
 fn make_commit<C: Case>(
     alloc: Global,
     book: &mut Book<C>,
